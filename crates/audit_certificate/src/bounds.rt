@@ -64,7 +64,7 @@ fn price_in_text(text: &[u8]) -> u64
     }
 }
 
-/// The price that a line 2 has behind `bound,`; of any other line some price.
+/// The price that a line 2 has after `bound,`; of any other line some price.
 fn named_price(line: &[u8]) -> u64
     ensures same { result ≡ bound.named_price line.now }
     ensures in_range { result ≤ 10 ^ 18 }
@@ -147,7 +147,7 @@ pub fn least_price(
     orders: &OrderList<'_>,
     traded: &[u128],
 ) -> Result<u64, NoMemory>
-    requires few { length orders.now < 2 ^ 32 }
+    requires fits_places { length orders.now < 2 ^ 32 }
     requires count { length traded.now ≡ length orders.now }
     ensures price { IfOk result (bound.IsCertificatePrice rule orders.now traded.now) }
     ensures in_range { IfOk result (λ price. price ≤ 10 ^ 18) }

@@ -11,7 +11,7 @@ pub struct GivenVerdict;
 impl GivenByLogs for GivenVerdict {
     ghost use Rattle.std.specs.Prelude.{◌≡◌};
     ghost use Rattle.audit_report.specs.declared.verdicts.Verdict.TheVariants.{Malformed};
-    ghost use Rattle.record_verdict.specs.Judgements.{IsRecordVerdict};
+    ghost use Rattle.record_verdict.specs.RecordVerdicts.{IsRecordVerdict};
 
     type Given = (Question, Verdict);
 

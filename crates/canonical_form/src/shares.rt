@@ -27,7 +27,7 @@ fn share_of_part(part: DealPart) -> Share
     }
 }
 
-/// Puts a share behind the others.
+/// Adds a share after the others.
 fn push_share(shares: &mut Vec<Share>, share: Share) -> Result<(), NoMemory>
     ensures { OnOk result (shares.new.items ≡ shares.old.items ++ share ∷ []) }
 {
@@ -36,7 +36,7 @@ fn push_share(shares: &mut Vec<Share>, share: Share) -> Result<(), NoMemory>
 }
 
 /// The share that is made after a part: the one so far, if the part is of its pair, or else the
-/// next one. The one so far is then put behind the finished ones.
+/// next one. The one so far is then added to the finished ones.
 fn merge_part(shares: &mut Vec<Share>, share: Share, part: DealPart) -> Result<Share, NoMemory>
     requires fits { share.quantity + part.quantity < 2 ^ 128 }
     ensures next { IfOk result (λ next. next ≡ next_share share part) }
@@ -55,7 +55,7 @@ fn merge_part(shares: &mut Vec<Share>, share: Share, part: DealPart) -> Result<S
 
 /// One share for all parts of a pair.
 fn merge_parts(alloc: Global, parts: &[DealPart]) -> Result<Vec<Share>, NoMemory>
-    requires few { length parts.now < 2 ^ 32 }
+    requires fits_places { length parts.now < 2 ^ 32 }
     requires each { All IsPartOfDeal parts.now }
     requires sorted { IsSorted part_cmp parts.now }
     ensures { IfOk result (λ shares. AreMergedShares parts.now shares.items) }
@@ -76,7 +76,7 @@ fn merge_parts(alloc: Global, parts: &[DealPart]) -> Result<Vec<Share>, NoMemory
 /// in order of the bid, then of the ask. Two lists of deals that trade the same with each pair
 /// give the same shares.
 pub fn canonical(alloc: Global, deals: &[Deal]) -> Result<Vec<Share>, NoMemory>
-    requires few { length deals.now < 2 ^ 32 }
+    requires fits_places { length deals.now < 2 ^ 32 }
     ensures { IfOk result (λ shares. AreShares deals.now shares.items) }
 {
     let parts = sort_parts(alloc, deals)?;

@@ -10,9 +10,9 @@ use Rattle.command_run.specs.Commands.{Command, log_read_at, next_of_both_logs}
 use Rattle.command_run.specs.VerdictAnswers.{IsAnswerWith}
 use Rattle.day_logs.specs.declared.answers.DayAnswer.{DayAnswer}
 use Rattle.day_logs.specs.declared.answers.DayQuestion.{DayQuestion}
-use Rattle.day_logs.specs.DayAnswers.{DayMeaning, IsAnswerToLogs, JudgesTrades}
+use Rattle.day_logs.specs.DayAnswers.{DayMeaning, IsAnswerToLogs, AreVerdictsOfDay}
 use Rattle.day_logs.specs.DayAnswerTexts.{day_answer_status, day_answer_text}
-use Rattle.day_sessions.specs.JudgedSessions.{JudgesDaySessions}
+use Rattle.day_sessions.specs.JudgedSessions.{AreSessionsOfDay}
 use Rattle.day_symbols.specs.Shares.{DayShare, whole_day}
 use Rattle.desk_words.specs.declared.requests.DayLogs.{DayLogs}
 use Rattle.desk_words.specs.declared.requests.DeskRequest.{DeskRequest}
@@ -44,10 +44,10 @@ next_log Version bytes = None
 
 -- The answer is that to a day of two logs: its text, with what the symbols were judged by in its
 -- first line, and its status.
-pub record IsDayAnswer (judges : DayMeaning) (judged_by : List ℕ) (orders trades : Log)
+pub record IsDayAnswer (meaning : DayMeaning) (judged_by : List ℕ) (orders trades : Log)
     (status : Status) (text : List ℕ) : Type 0 where
   pub day : DayAnswer
-  pub is : IsAnswerToLogs judges orders trades day
+  pub is : IsAnswerToLogs meaning orders trades day
   pub answer : IsAnswerWith (day_answer_status day) (day_answer_text judged_by day) status text
 
 -- what a command answers to the logs that it has read, its status and its text: to `audit` and
@@ -55,11 +55,11 @@ pub record IsDayAnswer (judges : DayMeaning) (judged_by : List ℕ) (orders trad
 -- `--version` a text of their own
 abbrev pub IsAnswerTo : DeskRequest → List (List ℕ) → Status → List ℕ → Type 0
 IsAnswerTo (Audit rule logs table share) bytes status text =
-    IsDayAnswer (JudgesTrades (day_question rule table share)) (rule_word rule)
+    IsDayAnswer (AreVerdictsOfDay (day_question rule table share)) (rule_word rule)
     (log_in logs.orders_form (log_read_at bytes 0))
     (log_in logs.trades_form (log_read_at bytes 1)) status text
 IsAnswerTo (Session phases logs table share) bytes status text =
-    IsDayAnswer (JudgesDaySessions phases table (share_or_whole share)) (phases_text phases)
+    IsDayAnswer (AreSessionsOfDay phases table (share_or_whole share)) (phases_text phases)
     (log_in logs.orders_form (log_read_at bytes 0))
     (log_in logs.trades_form (log_read_at bytes 1)) status text
 IsAnswerTo (Help about) bytes status text = IsAnswerWith Accepted (help_text about) status text

@@ -10,12 +10,12 @@ pub struct GivenVerdicts;
 impl GivenByLogs for GivenVerdicts {
     ghost use Rattle.std.specs.Prelude.{◌≡◌};
     ghost use Rattle.day_logs.specs.declared.answers.DayAnswer.TheVariants.{Malformed};
-    ghost use Rattle.day_logs.specs.DayAnswers.{IsAnswerToRecords, JudgesTrades};
+    ghost use Rattle.day_logs.specs.DayAnswers.{IsAnswerToRecords, AreVerdictsOfDay};
 
     type Given = (DayQuestion, DayAnswer);
 
     ghost of_records = { λ given entries paired.
-        IsAnswerToRecords (JudgesTrades given.0) entries paired given.1 };
+        IsAnswerToRecords (AreVerdictsOfDay given.0) entries paired given.1 };
 
     ghost of_bad = { λ given log bad. given.1 ≡ Malformed log bad };
 }
@@ -27,12 +27,12 @@ impl GivenByLogs for GivenSessions {
     ghost use Rattle.std.specs.Prelude.{◌≡◌};
     ghost use Rattle.day_logs.specs.declared.answers.DayAnswer.TheVariants.{Malformed};
     ghost use Rattle.day_logs.specs.DayAnswers.{IsAnswerToRecords};
-    ghost use Rattle.day_sessions.specs.JudgedSessions.{JudgesDaySessions};
+    ghost use Rattle.day_sessions.specs.JudgedSessions.{AreSessionsOfDay};
 
     type Given = (PhaseList, bool, Share, DayAnswer);
 
     ghost of_records = { λ given entries paired. IsAnswerToRecords
-        (JudgesDaySessions given.0 given.1 given.2) entries paired given.3 };
+        (AreSessionsOfDay given.0 given.1 given.2) entries paired given.3 };
 
     ghost of_bad = { λ given log bad. given.3 ≡ Malformed log bad };
 }

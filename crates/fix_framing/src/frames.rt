@@ -122,7 +122,7 @@ fn length_field(text: &[u8]) -> Result<usize, FrameFault>
 fn is_length_of(text: &[u8], digits: usize) -> bool
     requires header { 12 ≤ length text.now }
     requires some { 0 < digits }
-    requires few { digits ≤ 9 }
+    requires bounded { digits ≤ 9 }
     ensures { IsTrue result → IsLengthField (drop 12 text.now) digits }
 {
     let rest = &text[12..];

@@ -21,7 +21,7 @@ fn entries_of<R: FixRecord>(alloc: Global, bytes: &[u8]) -> Result<Vec<R>, LogFa
     requires { length bytes.now ≤ longest_read }
     ensures reads { AnswersMessageRecords (read_fix_log R.meaning bytes.now) result }
     ensures sound { IfOk result (λ entries. All R.sound entries.items) }
-    ensures few { IfOk result (λ entries. vec_len entries < 2 ^ 32 - 1) }
+    ensures fits_places { IfOk result (λ entries. vec_len entries < 2 ^ 32 - 1) }
     ensures nine { IfOk result (λ entries. HasNineBytesEach entries.items bytes.now) }
     ensures unique { IsOnlyFixReading R.meaning bytes.now (read_fix_log R.meaning bytes.now) }
 {
@@ -35,7 +35,7 @@ fn entries_of<R: FixRecord>(alloc: Global, bytes: &[u8]) -> Result<Vec<R>, LogFa
 ///
 /// The answer is `Bad` exactly where the log is bad: its place is one more than the number of
 /// records before the first bad message, over all symbols; its offset is that of the message's
-/// first byte, behind CR and LF bytes; its reason is the first test that the message fails: the
+/// first byte, after CR and LF bytes; its reason is the first test that the message fails: the
 /// tests of its frame, of its fields, and of the table of its type. Each log is good with one
 /// list or bad at one place, and never both. A market order has the market price of its side. The
 /// answer is `Memory` where there was too little. Each record has at least nine bytes of the log,
@@ -44,7 +44,7 @@ pub fn fix_orders_of(alloc: Global, bytes: &[u8]) -> Result<Vec<OrderRecord>, Lo
     requires { length bytes.now ≤ longest_read }
     ensures reads { AnswersMessageRecords (fix_order_records bytes.now) result }
     ensures priced { IfOk result (λ entries. All HasMarketPrice entries.items) }
-    ensures few { IfOk result (λ entries. vec_len entries < 2 ^ 32 - 1) }
+    ensures fits_places { IfOk result (λ entries. vec_len entries < 2 ^ 32 - 1) }
     ensures nine { IfOk result (λ entries. HasNineBytesEach entries.items bytes.now) }
     ensures unique { IsOnlyFixReading order_of_message bytes.now (fix_order_records bytes.now) }
 {
@@ -58,7 +58,7 @@ pub fn fix_orders_of(alloc: Global, bytes: &[u8]) -> Result<Vec<OrderRecord>, Lo
 pub fn fix_reports_of(alloc: Global, bytes: &[u8]) -> Result<Vec<Report>, LogFault>
     requires { length bytes.now ≤ longest_read }
     ensures reads { AnswersMessageRecords (fix_report_records bytes.now) result }
-    ensures few { IfOk result (λ reports. vec_len reports < 2 ^ 32 - 1) }
+    ensures fits_places { IfOk result (λ reports. vec_len reports < 2 ^ 32 - 1) }
     ensures nine { IfOk result (λ reports. HasNineBytesEach reports.items bytes.now) }
     ensures unique { IsOnlyFixReading report_of_message bytes.now (fix_report_records bytes.now) }
 {

@@ -41,7 +41,7 @@ fn drafted<S: AuditedSymbol, R: AllocGlobal + Abort>(
     passes: bool,
 ) -> (u32, Result<History, Finding>)
     requires symbol { symbol ≡ S.symbol }
-    requires few { length lines.now < 100 }
+    requires bounded { length lines.now < 100 }
 {
     let mut draft = HistoryDraft::<S>::new(rt.alloc(), HashSeed::of(7, 11), symbol);
     for line in lines {
@@ -74,7 +74,7 @@ const DRAFTED: [Row; 5] = [
     ),
     // Of another symbol nothing is asked.
     (&["N A b1 - 5 Y B", "N A b1 - 4 Y B"], &[], None),
-    // The first finding stays, whatever comes behind it.
+    // The first finding stays, whatever comes after it.
     (
         &["N A b1 - 5 Z B", "N A b2 - 4 Z B", "N A b1 - 3 Z B"],
         &[],

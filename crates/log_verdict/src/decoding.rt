@@ -14,14 +14,14 @@ use fix_messages::pairing::{Paired, TradeList, pair_reports};
 use std::alloc::Global;
 
 /// The records of an order log of at most 67,108,864 bytes, in order. `Bad` comes exactly where the
-/// log is bad, with its first bad place. There are as few records as `judge` asks for, also of a
-/// trade log.
+/// log is bad, with its first bad place. There are fewer records than 2^32 - 1, as `judge` asks
+/// for, also of a trade log.
 pub fn decode_orders(alloc: Global, form: Form, bytes: &[u8]) -> Result<Vec<OrderRecord>, LogFault>
     requires within { length bytes.now ≤ longest_log }
     ensures says { MatchResult result
         (λ entries. records_of_order_log form bytes.now ≡ Ok entries.items)
         (IsDecodeFault (records_of_order_log form bytes.now)) }
-    ensures few { IfOk result (λ entries. vec_len entries < 2 ^ 32 - 1) }
+    ensures fits_places { IfOk result (λ entries. vec_len entries < 2 ^ 32 - 1) }
 {
     match form {
         Form::Csv => csv_orders_of(alloc, bytes),
@@ -36,7 +36,7 @@ pub fn decode_trades(alloc: Global, form: Form, bytes: &[u8]) -> Result<Paired, 
     ensures says { MatchResult result
         (λ paired. trades_of_trade_log form bytes.now ≡ Ok (result_of_paired paired))
         (IsDecodeFault (trades_of_trade_log form bytes.now)) }
-    ensures few { IfOk result
+    ensures fits_places { IfOk result
         (λ paired. length (paired_trades (result_of_paired paired)) < 2 ^ 32 - 1) }
 {
     match form {

@@ -21,7 +21,7 @@ use Rattle.matching_core.specs.declared.outcomes.CheckFault.TheVariants as fault
 use Rattle.matching_core.specs.declared.outcomes.Reached.{Reached}
 use Rattle.record_verdict.specs.declared.questions.Question.{Question}
 use Rattle.canonical_form.specs.declared.shares.Share.{Share}
-use Rattle.record_verdict.specs.Judgements.{AreOnlyQuantities, IsReportedBound, table_lines}
+use Rattle.record_verdict.specs.RecordVerdicts.{AreOnlyQuantities, IsReportedBound, table_lines}
 
 -- the line of an order with what it traded
 abbrev pub line_of_order : Order → ℕ → Line
@@ -48,7 +48,7 @@ pub record IsShareOf (orders : List Order) (s : Share) : Type 0 where
   pub bid_inside : s.bid < length orders
   pub ask_inside : s.ask < length orders
 
--- the verdict that deals are accepted, with what they reached
+-- the verdict that deals are accepted, with the volume and the bound
 abbrev pub accepted_verdict : Question → List Order → List Deal → Reached → Verdict
 accepted_verdict q orders deals conforming = verdict.Accepted (record {
   rule = q.rule;

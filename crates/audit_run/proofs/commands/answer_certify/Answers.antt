@@ -1,6 +1,6 @@
 use Rattle.std.proofs.Common.{refl, false}
 use Rattle.log_verdict.specs.Steps.{reading_by}
-use Rattle.record_verdict.specs.Judgements.{question}
+use Rattle.record_verdict.specs.RecordVerdicts.{question}
 use Rattle.record_verdict.specs.Scopes.{scope_of}
 use Rattle.audit_run.specs.Deciding.{request_to_certify}
 use Rattle.audit_run.proofs.AnswerLemmas.{certify-status}
