@@ -5,12 +5,13 @@
 #![tactic(auto)]
 
 ghost use Rattle.std.specs.Prelude.{◌≡◌};
-ghost use Rattle.std.specs.Process.{exit_status};
-ghost use Rattle.audit_program.specs.Answers.{AuditorAnswersWords, AuditorBegins, AuditorBeginsUnknown};
+ghost use Rattle.audit_program.specs.Answers.{AuditorAnswersWords};
 ghost use Rattle.audit_report.specs.Statuses.{status_number};
 ghost use Rattle.audit_report.specs.declared.statuses.Status.TheVariants as status;
+ghost use Rattle.run_notes.specs.FreshEnds.{BeginsOver, BeginsOverUnknown};
 ghost use Rattle.run_notes.specs.ProgramAnswers.{AnswersCommandLine, AnswersFrom, AnswersUnknownWords, EndsAsAnswer};
 
+use audit_base::sizes::LONGEST_LOG;
 use audit_report::statuses::Status;
 use audit_run::running::run_seeded;
 use command_words::arguments::seed_of;
@@ -21,10 +22,10 @@ use log_source::shelf::Shelf;
 use log_source::sink::Sink;
 use log_source::std_sink::StdSink;
 use run_notes::command_line::CommandLine;
-use run_notes::log_notes::print_log_fault;
+use run_notes::log_notes::print_end;
 use run_notes::noted_shelf::NotedShelf;
 use run_notes::noted_sink::NotedSink;
-use run_notes::program_ends::{noted_files, noted_output};
+use run_notes::program_ends::{Ran, exit_code, noted_files, noted_output};
 use run_notes::usage_notes::print_auditor_usage;
 use std::io;
 use std::process::ExitCode;
@@ -46,15 +47,6 @@ fn answer_words<R: CommandLine + AllocGlobal + RandomSource, F: Shelf, K: Sink>(
     }
 }
 
-/// What a run leaves: its status, the files that it read and the output that it wrote, with
-/// what was noted of both.
-#[derive(Drop)]
-struct Ran<S: FileSystem, W> {
-    status: Status,
-    shelf: NotedShelf<FileShelf<S>>,
-    out: NotedSink<StdSink<W>>,
-}
-
 /// Runs the command that the words of the command line ask for over these files and this output.
 fn run_over<R: CommandLine + AllocGlobal + RandomSource, S: FileSystem + Drop, W: Output + Drop>(
     rt: &R,
@@ -64,7 +56,7 @@ fn run_over<R: CommandLine + AllocGlobal + RandomSource, S: FileSystem + Drop, W
     ensures { let shelf = ⟦<NotedShelf<FileShelf<S>> as Shelf>⟧ in
         let state = ⟦<NotedSink<StdSink<W>> as Sink>⟧.state in
         AnswersFrom (AuditorAnswersWords shelf) status.Memory (R.told rt.now)
-        (AuditorBegins shelf (S.tells files) (S.file_at files) (W.contents output))
+        (BeginsOver shelf (S.tells files) (S.file_at files) (W.contents output))
         (record { shelf = result.shelf; sink = state result.out }) result.status }
 {
     let mut shelf = noted_files(rt.alloc(), files);
@@ -75,29 +67,19 @@ fn run_over<R: CommandLine + AllocGlobal + RandomSource, S: FileSystem + Drop, W
 
 /// Says on standard error why a run ended above 1.
 fn tell<F: Shelf>(rt: &HostRuntime, status: Status, shelf: &NotedShelf<F>, last: &[u8]) {
-    match status {
-        Status::Usage => {
-            if let Ok(words) = rt.words() {
-                print_auditor_usage(rt, &words);
-            }
+    if status == Status::Usage {
+        if let Ok(words) = rt.words() {
+            print_auditor_usage(rt, &words);
         }
-        Status::Memory => {
-            let _told = eprintln!(rt; "auditor: memory ran out");
-        }
-        Status::WriteFault => {
-            let _told = eprintln!(rt; "auditor: standard output could not be written");
-        }
-        Status::Malformed | Status::ReadFault | Status::TooLong => {
-            print_log_fault(rt, "auditor", shelf, last);
-        }
-        Status::Accepted | Status::Rejected => {}
+        return;
     }
+    print_end(rt, "auditor", LONGEST_LOG as u64, status, shelf, last);
 }
 
 /// Runs the command over files and standard output.
 fn answer(rt: HostRuntime) -> Status
     ensures { let shelf = ⟦<NotedShelf<FileShelf<HostRuntime>> as Shelf>⟧ in
-        AnswersUnknownWords (AuditorAnswersWords shelf) status.Memory (AuditorBeginsUnknown shelf) result }
+        AnswersUnknownWords (AuditorAnswersWords shelf) status.Memory (BeginsOverUnknown shelf) result }
 {
     let Ok(files) = rt.clone() else {
         return Status::Memory;
@@ -107,18 +89,11 @@ fn answer(rt: HostRuntime) -> Status
     status
 }
 
-/// The exit code of a status: its number.
-fn exit_code(status: Status) -> ExitCode
-    ensures { exit_status result ≡ status_number status }
-{
-    ExitCode::from(status.number())
-}
-
 /// Runs the program, and gives the exit code of its process.
 pub fn run_auditor(rt: HostRuntime) -> ExitCode
     ensures { let shelf = ⟦<NotedShelf<FileShelf<HostRuntime>> as Shelf>⟧ in
         EndsAsAnswer (AuditorAnswersWords shelf) status.Memory status_number
-        (AuditorBeginsUnknown shelf) result }
+        (BeginsOverUnknown shelf) result }
 {
     exit_code(answer(rt))
 }

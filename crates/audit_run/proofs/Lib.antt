@@ -9,5 +9,4 @@ mod HeadlineLemmas
 mod ExpectLemmas
 mod AcceptLemmas
 mod GenerateLemmas
-mod MemoryLemmas
 mod OneAnswerLemmas

@@ -12,7 +12,7 @@ ghost use Rattle.command_words.specs.Words.{request_of};
 use super::commands::answer_request;
 use super::program::Auditor;
 use audit_report::statuses::Status;
-use command_run::laws::held_logs_are_answered;
+use command_run::laws::{held_logs_are_answered, memory_is_answered};
 use command_run::writing::{write_answer, write_usage};
 use command_words::requests::{Request, WordsFault, read_words};
 use log_source::shelf::Shelf;
@@ -74,6 +74,7 @@ pub fn run_seeded<F: Shelf, K: Sink>(
     // Laws that the answer rests on. They compute nothing.
     one_verdict();
     held_logs_are_answered::<Auditor>();
+    memory_is_answered::<Auditor>();
     match read_words(alloc, words) {
         Ok(request) => run_request(alloc, seed, shelf, out, &request),
         Err(WordsFault::Usage) => write_usage::<Auditor, K>(out),

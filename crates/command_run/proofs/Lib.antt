@@ -6,3 +6,4 @@ mod MemoryLemmas
 mod OneLogLemmas
 mod BothLogsLemmas
 mod AgreeLemmas
+mod NoMemoryLemmas

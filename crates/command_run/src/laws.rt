@@ -1,11 +1,16 @@
 //! What holds of every command, whichever it is. Each law is the contract of a call that does
 //! nothing, for the requests of one program.
+ghost use Rattle.std.specs.Prelude.{◌≢◌, Option};
 ghost use Rattle.command_run.specs.Laws.{BothLogsDecide, BothLogsStop, CallsAgree};
 ghost use Rattle.command_run.specs.Laws.{HeldLogsAreAnswered, HeldLogsAreRead};
 ghost use Rattle.command_run.specs.Laws.{NoLogDecides, OneLogDecides, ReadLogsDecide};
+ghost use Rattle.command_run.specs.Runs.{AnswersHeldLogs, AnswersWithCause};
+ghost use Rattle.log_source.specs.Sinks.{SinkState};
+ghost use Rattle.log_verdict.specs.Steps.{Reading};
 
 use super::given_logs::GivenByLogs;
 use super::programs::Program;
+use audit_report::statuses::Status;
 
 /// Where the shelf holds all the logs that a command needs, each within the limit, and nothing
 /// fails, whatever was answered with its cause is the command's answer to these logs, written
@@ -43,4 +48,13 @@ pub fn both_logs_decide<P: Program, G: GivenByLogs>()
     ensures answers { (request : P.Request)
         → BothLogsDecide G.of_records G.of_bad (P.command request) }
     ensures stops { (request : P.Request) → BothLogsStop (P.command request) }
+{}
+
+/// Where memory ran out for well-formed words, and nothing was done to the sink, that is an answer
+/// with its cause, whatever the shelf holds.
+pub fn memory_is_answered<P: Program>()
+    ensures causes { (asked : Option P.Request) (r : Reading) (old : SinkState) → asked ≢ None
+        → AnswersWithCause P.command P.usage asked r old old Status.Memory }
+    ensures held { (asked : Option P.Request) (r : Reading) (old : SinkState)
+        → AnswersHeldLogs P.command asked r old old Status.Memory }
 {}

@@ -12,7 +12,7 @@ ghost use Rattle.log_verdict.specs.Steps.{FaultsNeverFall, KeepsShelfLogs};
 use super::commands::answer_request;
 use super::program::Desk;
 use audit_report::statuses::Status;
-use command_run::laws::held_logs_are_answered;
+use command_run::laws::{held_logs_are_answered, memory_is_answered};
 use command_run::writing::{write_answer, write_usage};
 use command_words::requests::WordsFault;
 use desk_words::requests::{DeskRequest, read_desk_words};
@@ -77,8 +77,9 @@ pub fn run_desk_seeded<F: Shelf, K: Sink>(
     ensures { DeskAnswers F.Shelf (desk_request_of (map string_bytes words.now))
         shelf.old shelf.new (K.state out.old) (K.state out.new) result }
 {
-    // A law that the answer rests on. It computes nothing.
+    // Laws that the answer rests on. They compute nothing.
     held_logs_are_answered::<Desk>();
+    memory_is_answered::<Desk>();
     match read_desk_words(alloc, words) {
         Ok(request) => run_request(alloc, seed, shelf, out, &request),
         Err(WordsFault::Usage) => write_usage::<Desk, K>(out),

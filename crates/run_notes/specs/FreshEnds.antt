@@ -1,5 +1,5 @@
 -- The shelf over files and the sink over an output that a program begins with.
-use Rattle.std.specs.Prelude.{◌≡◌, ℕ, Bool, List, Option, None}
+use Rattle.std.specs.Prelude.{◌≡◌, ℕ, Bool, false, List, Option, None}
 use Rattle.audit_base.specs.declared.terms.Which.{Which}
 use Rattle.log_source.specs.Sinks.{SinkState}
 use Rattle.log_source.specs.Sources.{fresh_slot}
@@ -17,3 +17,20 @@ pub record IsFreshOver {S : Type 0} (shelf : Shelf S) (told : Bool)
 -- and no fault is counted
 abbrev pub fresh_sink : Option (List ℕ) → SinkState
 fresh_sink held = record { wrote = held; faults = 0; sure = 0 }
+
+-- What a run of a program reads and writes: a shelf, and what is known of a sink.
+pub record RunEnds (S : Type 0) : Type 0 where
+  pub shelf : S
+  pub sink : SinkState
+
+-- a shelf that has the file under each path, with nothing started, and a sink that holds what
+-- the output holds
+abbrev pub BeginsOver : {S : Type 0} → Shelf S → Bool → (List ℕ → Option (List ℕ))
+    → Option (List ℕ) → RunEnds S → Type 0
+BeginsOver shelf told file_at held ends =
+    IsFreshOver shelf told file_at ends.shelf × (ends.sink ≡ fresh_sink held)
+
+-- such a shelf and such a sink over files and an output of which nothing is known, as those of
+-- the runtime
+abbrev pub BeginsOverUnknown : {S : Type 0} → Shelf S → RunEnds S → Type 0
+BeginsOverUnknown shelf = BeginsOver shelf false (λ path. None) None

@@ -1,6 +1,8 @@
 //! What is said of a log that could not be read, is too long or is malformed.
 use crate::noted_shelf::NotedShelf;
+use audit_base::sizes::LONGEST_LOG;
 use audit_base::terms::Which;
+use audit_report::statuses::Status;
 use log_source::shelf::Shelf;
 use std::io::{self, Read};
 use std::{fs, str};
@@ -44,6 +46,17 @@ pub fn print_log_fault<F: Shelf>(
     shelf: &NotedShelf<F>,
     line: &[u8],
 ) {
+    print_fault_within(rt, program, LONGEST_LOG as u64, shelf, line);
+}
+
+/// The same where a log may have as many bytes as `limit` says.
+fn print_fault_within<F: Shelf>(
+    rt: &HostRuntime,
+    program: &str,
+    limit: u64,
+    shelf: &NotedShelf<F>,
+    line: &[u8],
+) {
     let Ok(text) = str::from_utf8(line) else {
         return;
     };
@@ -57,11 +70,35 @@ pub fn print_log_fault<F: Shelf>(
     if kind == "readfault" {
         print_unread_log(rt, program, path.as_str());
     } else if kind == "toolong" {
-        let _told = eprintln!(rt; "{program}: {path}: it has more than 67108864 bytes");
+        let _told = eprintln!(rt; "{program}: {path}: it has more than {limit} bytes");
     } else if kind == "malformed" {
         let _place = parts.next();
         if let (Some(offset), Some(reason)) = (parts.next(), parts.next()) {
             let _told = eprintln!(rt; "{program}: {path}: malformed at byte {offset}: {reason}");
         }
+    }
+}
+
+/// Says why a run of these words ended above 1, where they are well-formed: which log is at fault,
+/// of those that may have as many bytes as `limit` says; or that memory or the output was.
+pub fn print_end<F: Shelf>(
+    rt: &HostRuntime,
+    program: &str,
+    limit: u64,
+    status: Status,
+    shelf: &NotedShelf<F>,
+    last: &[u8],
+) {
+    match status {
+        Status::Memory => {
+            let _told = eprintln!(rt; "{program}: memory ran out");
+        }
+        Status::WriteFault => {
+            let _told = eprintln!(rt; "{program}: standard output could not be written");
+        }
+        Status::Malformed | Status::ReadFault | Status::TooLong => {
+            print_fault_within(rt, program, limit, shelf, last);
+        }
+        Status::Accepted | Status::Rejected | Status::Usage => {}
     }
 }

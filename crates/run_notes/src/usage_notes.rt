@@ -16,6 +16,10 @@ const VERIFY: [Part; 4] = [Part::Symbol, Part::Path, Part::Path, Part::Path];
 
 const SESSION: [Part; 4] = [Part::Symbol, Part::Phases, Part::Path, Part::Path];
 
+const DAY_AUDIT: [Part; 3] = [Part::Rule, Part::Path, Part::Path];
+
+const DAY_SESSION: [Part; 3] = [Part::Phases, Part::Path, Part::Path];
+
 const FILE: [Part; 6] = [
     Part::Label,
     Part::Rule,
@@ -30,6 +34,8 @@ const LIST: [Part; 2] = [Part::Symbol, Part::Result];
 const SHOW: [Part; 1] = [Part::Label];
 
 const AUDITOR_COMMANDS: &str = "audit, expect, convert, generate, certify, verify, session";
+
+const DESK_COMMANDS: &str = "audit, session, help";
 
 const CASEBOOK_COMMANDS: &str = "file, list, show";
 
@@ -85,6 +91,31 @@ pub fn print_auditor_usage(rt: &HostRuntime, words: &[String]) {
         Some(parts) => print_parts(rt, "auditor", parts, rest),
         None => {
             let _told = eprintln!(rt; "auditor: no command '{command}': {AUDITOR_COMMANDS}");
+        }
+    }
+}
+
+/// The parts of a command of `desk` that judges a day, behind its word.
+fn desk_parts(command: &str) -> Option<&'static [Part]> {
+    if command == "audit" {
+        Some(&DAY_AUDIT)
+    } else if command == "session" {
+        Some(&DAY_SESSION)
+    } else {
+        None
+    }
+}
+
+/// Says what is wrong with words that are none of `desk`.
+pub fn print_desk_usage(rt: &HostRuntime, words: &[String]) {
+    let Some((command, rest)) = words.split_first() else {
+        let _told = eprintln!(rt; "desk: no command is given: {DESK_COMMANDS}");
+        return;
+    };
+    match desk_parts(command.as_str()) {
+        Some(parts) => print_parts(rt, "desk", parts, rest),
+        None => {
+            let _told = eprintln!(rt; "desk: no command '{command}': {DESK_COMMANDS}");
         }
     }
 }

@@ -7,7 +7,6 @@ use Rattle.log_verdict.specs.Steps.{reading}
 use Rattle.command_words.specs.Words.{request_of}
 use Rattle.audit_run.specs.Runs.{AnswersHeldLogs}
 use Rattle.audit_run.proofs.HeadlineLemmas.{answers_verdict}
-use Rattle.audit_run.proofs.MemoryLemmas.{memory_answers, memory_causes}
 use Rattle.audit_run.proofs.running.run_seeded.Goals as goal
 
 pub returns-in-Ok : goal.returns-in-Ok
@@ -45,11 +44,11 @@ pub returns-in-Err-Memory : goal.returns-in-Err-Memory
 returns-in-Err-Memory g c =
     let asked = request_of (map string_bytes c.args.words.now) in
     let r = reading g.F.Shelf c.args.shelf.now c.args.shelf.now in
-    let commands = memory_answers asked r (g.K.Sink.state c.args.out.now) in
+    let commands = c.memory_is_answered.ensures.held asked r (g.K.Sink.state c.args.out.now) in
     record {
       headline = answers_verdict c.one_verdict.ensures asked r _ _ _ commands;
       commands = commands;
-      causes = memory_causes asked r (g.K.Sink.state c.args.out.now)
+      causes = c.memory_is_answered.ensures.causes asked r (g.K.Sink.state c.args.out.now)
           (λ none. not_usage (rw (c.in-Err-Memory.is ∙ ap Err c.in-Err-Memory.field-0-is) at (c.read_words.ensures.decided none)));
       too_long = search rules;
       logs = search rules;

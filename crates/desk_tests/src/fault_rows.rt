@@ -1,0 +1,116 @@
+//! Days of which each call of the shelf and each write fails once.
+use crate::checks::faults::{ShelfRow, check_shelf_faults, check_sink_faults};
+use crate::checks::inputs::{ORDERS, TRADES};
+use crate::checks::rows::Row;
+use crate::day_rows::{TWO_SYMBOLS, TWO_TRADES};
+use std::test::Fail;
+
+/// The orders of one trade, in 125 bytes, and the trade, in 108.
+const ONE_TRADE_ORDERS: [&str; 2] = [
+    ORDERS,
+    "N,A,b1,20240102-09:00:00,Z,B,100,10,
+N,B,s1,20240102-09:00:00,Z,S,100,9,
+",
+];
+
+const ONE_TRADE: [&str; 2] = [TRADES, "T1,20240102-09:00:01,Z,A,b1,B,s1,100,9.5\n"];
+
+/// A day of a rule, one of phases, and one whose order log is out of its grammar, so that the
+/// trade log is not started.
+const SHELF_ROWS: [ShelfRow; 3] = [
+    ShelfRow {
+        row: Row {
+            name: "a day of a rule",
+            words: "audit matching orders trades",
+            orders: &ONE_TRADE_ORDERS,
+            trades: &ONE_TRADE,
+            status: 0,
+            report: "day,1,1,0,matching\nZ,accepted,matching,Z\nZ,totals,2,1,100\n",
+        },
+        order_calls: 7,
+        calls: 13,
+    },
+    ShelfRow {
+        row: Row {
+            name: "a day of phases",
+            words: "session continuous@1 orders trades",
+            orders: &ONE_TRADE_ORDERS,
+            trades: &ONE_TRADE,
+            status: 0,
+            report: "day,1,1,0,continuous@1\nZ,session,Z,continuous@1\nZ,totals,2,1,100\n",
+        },
+        order_calls: 7,
+        calls: 13,
+    },
+    ShelfRow {
+        row: Row {
+            name: "an order log that is out of its grammar",
+            words: "audit matching orders trades",
+            orders: &["no header\n"],
+            trades: &ONE_TRADE,
+            status: 3,
+            report: "malformed,orders,1,0,header\n",
+        },
+        order_calls: 2,
+        calls: 2,
+    },
+];
+
+/// A text of each status but that of a log that is too long.
+const SINK_ROWS: [Row; 5] = [
+    Row {
+        name: "a day of no symbol",
+        words: "audit matching orders trades",
+        orders: &[ORDERS],
+        trades: &[TRADES],
+        status: 0,
+        report: "day,0,0,0,matching\n",
+    },
+    Row {
+        name: "a day of two symbols",
+        words: "audit matching orders trades",
+        orders: &TWO_SYMBOLS,
+        trades: &TWO_TRADES,
+        status: 1,
+        report: "day,2,1,1,matching
+Y,accepted,matching,Y
+Y,totals,2,1,5
+Z,rejected,buy-quantity,trades,2
+Z,order,3,buy,A,b1,10,10,11
+",
+    },
+    Row {
+        name: "words that are not well-formed",
+        words: "audit best orders trades",
+        orders: &[ORDERS],
+        trades: &[TRADES],
+        status: 2,
+        report: "usage: audit RULE ORDERS TRADES | session PHASES ORDERS TRADES | help [COMMAND]\n",
+    },
+    Row {
+        name: "a log that is not there",
+        words: "audit matching order trades",
+        orders: &[ORDERS],
+        trades: &[TRADES],
+        status: 4,
+        report: "readfault,orders\n",
+    },
+    Row {
+        name: "the version",
+        words: "--version",
+        orders: &[ORDERS],
+        trades: &[TRADES],
+        status: 0,
+        report: "desk (Mekdrox) 1.0.0\nrattle-kit-13f logic dac8208d650f15bf\n",
+    },
+];
+
+#[test]
+fn each_call_of_the_shelf_fails(rt: HostRuntime) -> Result<(), Fail> {
+    Ok(check_shelf_faults(rt.alloc(), &SHELF_ROWS)?)
+}
+
+#[test]
+fn each_write_fails(rt: HostRuntime) -> Result<(), Fail> {
+    Ok(check_sink_faults(rt.alloc(), &SINK_ROWS)?)
+}

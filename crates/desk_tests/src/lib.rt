@@ -1,0 +1,15 @@
+//! Tests of `desk`: what a row of a whole call is and what checks it (`checks`), and the rows:
+//! days of several symbols and their shares, words that are not well-formed, help and version,
+//! every cut in every piece, and every call that fails.
+#![tactic(auto)]
+
+#[cfg(test)]
+mod checks;
+#[cfg(test)]
+mod cut_rows;
+#[cfg(test)]
+mod day_rows;
+#[cfg(test)]
+mod fault_rows;
+#[cfg(test)]
+mod word_rows;
