@@ -8,9 +8,9 @@ ghost use Rattle.command_run.specs.Deciding.{DecidesLog};
 ghost use Rattle.audit_run.specs.OtherTexts.{IsConvertAnswer};
 ghost use Rattle.log_verdict.specs.Steps.{reading_by, KeepsShelfLogs};
 
-use command_run::answers::{Answer, done_answer, finding_answer, unread_answer};
 use audit_base::records::{OrderRecord, TradeRecord};
 use audit_base::terms::Which;
+use command_run::answers::{Answer, done_answer, finding_answer, unread_answer};
 use csv_logs::log_text::ConvertedLog;
 use log_source::shelf::Shelf;
 use log_verdict::reading::{Collected, collect_orders, collect_trades};

@@ -20,7 +20,6 @@ ghost use Rattle.command_run.specs.Deciding.{DecidesLog};
 ghost use Rattle.audit_run.specs.OtherTexts.{ExpectsRecords, IsExpectAnswer};
 ghost use Rattle.log_verdict.specs.Steps.{reading_by, KeepsShelfLogs};
 
-use command_run::answers::{Answer, done_answer, finding_answer, unread_answer};
 use audit_base::faults::NoMemory;
 use audit_base::names::Name;
 use audit_base::orders::Deal;
@@ -30,6 +29,7 @@ use call_laws::existence::extremes_exist;
 use call_laws::laws::only_quantities;
 use call_laws::optimum::maximum_trades_are_expected;
 use canonical_form::trades::{trades_give_their_deals_back, trades_of_deals};
+use command_run::answers::{Answer, done_answer, finding_answer, unread_answer};
 use continuous_audit::expecting::continuous_matching;
 use continuous_laws::laws::continuous_uniqueness;
 use csv_logs::writers::write_trades;

@@ -10,7 +10,6 @@ ghost use Rattle.audit_run.specs.OneLog.{AddsLine};
 ghost use Rattle.audit_run.specs.OtherTexts.{IsCallLine, IsContinuousLine, IsGeneratedSummary, IsSummaryOfOrders};
 ghost use Rattle.command_run.specs.VerdictAnswers.{IsDone};
 
-use command_run::answers::{Answer, done_answer};
 use audit_base::faults::NoMemory;
 use audit_base::orders::Deal;
 use audit_base::terms::Rule;
@@ -19,6 +18,7 @@ use call_laws::optimum::{
     greatest_matching_reaches_the_least_cut, maximum_trades_are_expected, uniform_optimum,
     uniform_trades_are_expected,
 };
+use command_run::answers::{Answer, done_answer};
 use continuous_audit::expecting::continuous_matching;
 use instruction_history::faults::HistoryFault;
 use instruction_history::history::History;

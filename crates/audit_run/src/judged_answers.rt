@@ -8,10 +8,10 @@ ghost use Rattle.audit_report.specs.Texts.{IsVerdictInRange};
 ghost use Rattle.record_verdict.specs.Stages.{VerdictFollowsDeals};
 ghost use Rattle.record_verdict.specs.BeforeRule.{AreResolvedTradesInRange, IsJudgeable};
 
-use command_run::answers::{Answer, done_answer, verdict_answer};
 use audit_base::faults::NoMemory;
 use audit_certificate::certifying::certify;
 use audit_report::verdicts::Verdict;
+use command_run::answers::{Answer, done_answer, verdict_answer};
 use matching_core::deals_draft::ResolvedTrades;
 use record_verdict::before_rule::BeforeRule;
 use record_verdict::questions::Question;

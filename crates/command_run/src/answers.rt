@@ -42,11 +42,7 @@ pub fn finding_answer(alloc: Global, finding: Finding) -> Result<Answer, NoMemor
 }
 
 /// The answer of the verdict that a log is malformed at this place.
-pub fn malformed_answer(
-    alloc: Global,
-    log: Which,
-    bad: &BadPlace,
-) -> Result<Answer, NoMemory>
+pub fn malformed_answer(alloc: Global, log: Which, bad: &BadPlace) -> Result<Answer, NoMemory>
     ensures { IfOk result (IsAnswerOfKind (IsVerdictAnswer (verdict.Malformed log bad.now))) }
 {
     verdict_answer(alloc, &Verdict::Malformed { log, bad: *bad })

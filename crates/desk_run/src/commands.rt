@@ -84,7 +84,15 @@ pub(crate) fn answer_request<F: Shelf>(
             let share = share_asked(*share);
             let orders = day_source(&logs.orders, logs.orders_form, seed);
             let trades = day_source(&logs.trades, logs.trades_form, seed);
-            answer_session(alloc, shelf, phases.as_slice(), *table, share, &orders, &trades)
+            answer_session(
+                alloc,
+                shelf,
+                phases.as_slice(),
+                *table,
+                share,
+                &orders,
+                &trades,
+            )
         }
         DeskRequest::Help(about) => Ok(answer_help(alloc, *about)?),
         DeskRequest::Version => Ok(answer_version(alloc)?),

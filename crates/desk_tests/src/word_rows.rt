@@ -1,7 +1,7 @@
 //! Words that are not well-formed, help and version: none needs a log.
 use crate::checks::answers::{RowFault, answer_of};
-use desk_words::texts::{append_help, desk_usage_text, version_text};
 use desk_words::commands::DeskCommand;
+use desk_words::texts::{append_help, desk_usage_text, version_text};
 use log_source::endless_shelf::EndlessShelf;
 use std::alloc::Global;
 use std::test::Fail;
