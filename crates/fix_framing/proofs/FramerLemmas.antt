@@ -12,9 +12,12 @@ use Rattle.fix_framing.specs.declared.framer.Framer.{Framer}
 use Rattle.fix_framing.specs.declared.frames.Frame.{Frame}
 use Rattle.fix_framing.specs.declared.frames.FrameFault.TheVariants.{Truncated}
 use Rattle.fix_framing.specs.Breaks.{is_line_end_byte, after_breaks}
-use Rattle.fix_framing.specs.Frames.{header, IsFrame, IsFrameAt, frame_fault}
-use Rattle.fix_framing.specs.Framing.{bytes_held, count_framed, bytes_unframed, next_text, IsFramed, IsFramerOf, IsNextOffset, GivesFrame, Waits, IsUnfinished}
+use Rattle.fix_framing.specs.Headers.{AreHeaders}
+use Rattle.fix_framing.specs.Frames.{IsFrameWith, IsFrameAt, frame_fault_with}
+use Rattle.fix_framing.specs.Framing.{bytes_held, count_framed, bytes_unframed, next_text, IsFramedWith, IsFramerWith, IsNextOffset, GivesFrame, Waits, IsUnfinished}
+use Rattle.fix_framing.proofs.HeaderLemmas.{nothing-begins, nothing-ends}
 use Rattle.fix_framing.proofs.StayLemmas.{Truncated-bound}
+use Rattle.fix_framing.proofs.TestLemmas.{some-from_FaultCase, second}
 
 -- CR and LF alone are passed over whole, and what is behind them stays
 pub breaks-none : (r : List ℕ) → list_all is_line_end_byte r ≡ true → after_breaks r ≡ []
@@ -31,38 +34,37 @@ after_breaks-again [] = refl
 after_breaks-again (x ∷ xs) = again-step x xs (is_line_end_byte x) refl (after_breaks-again xs)
 
 -- no bytes are less than a message
-nothing-cut : frame_fault [] ≡ Some Truncated
-unfolding frame_fault header
-nothing-cut = refl
+nothing-cut : (hs : List (List ℕ)) → AreHeaders hs → frame_fault_with hs [] ≡ Some Truncated
+nothing-cut hs are = some-from_FaultCase hs [] Truncated (second (nothing-begins hs are) (nothing-ends hs are) refl)
 
-pub breaks-cut : (r : List ℕ) → list_all is_line_end_byte r ≡ true → frame_fault (after_breaks r) ≡ Some Truncated
-breaks-cut r h = rw (breaks-none r h) nothing-cut
+pub breaks-cut : (hs : List (List ℕ)) (r : List ℕ) → AreHeaders hs → list_all is_line_end_byte r ≡ true → frame_fault_with hs (after_breaks r) ≡ Some Truncated
+breaks-cut hs r are h = rw (breaks-none r h) (nothing-cut hs are)
 
 -- one frame more, or CR and LF more
-pub IsFramed-breaks : (text gap : List ℕ) (frames : List (List ℕ)) → IsFramed text frames → list_all is_line_end_byte gap ≡ true → IsFramed (text ++ gap) frames
-IsFramed-breaks text gap [] framed breaks = rw (list_all-append is_line_end_byte text gap) (and_from (list_all is_line_end_byte text) (list_all is_line_end_byte gap) framed breaks)
-IsFramed-breaks text gap (f ∷ fs) framed breaks = (
+pub IsFramed-breaks : (hs : List (List ℕ)) (text gap : List ℕ) (frames : List (List ℕ)) → IsFramedWith hs text frames → list_all is_line_end_byte gap ≡ true → IsFramedWith hs (text ++ gap) frames
+IsFramed-breaks hs text gap [] framed breaks = rw (list_all-append is_line_end_byte text gap) (and_from (list_all is_line_end_byte text) (list_all is_line_end_byte gap) framed breaks)
+IsFramed-breaks hs text gap (f ∷ fs) framed breaks = (
   framed.0,
   framed.1,
   framed.2 ++ gap,
   framed.3,
   framed.4,
   rw framed.5 (simp append_assoc),
-  IsFramed-breaks framed.2 gap fs framed.6 breaks,
+  IsFramed-breaks hs framed.2 gap fs framed.6 breaks,
 )
 
-pub IsFramed-frame : (text gap f b : List ℕ) (frames : List (List ℕ)) → IsFramed text frames → list_all is_line_end_byte gap ≡ true → IsFrame f b → IsFramed (text ++ (gap ++ f)) (frames ++ f ∷ [])
-IsFramed-frame text gap f b [] framed breaks frame =
+pub IsFramed-frame : (hs : List (List ℕ)) (text gap f b : List ℕ) (frames : List (List ℕ)) → IsFramedWith hs text frames → list_all is_line_end_byte gap ≡ true → IsFrameWith hs f b → IsFramedWith hs (text ++ (gap ++ f)) (frames ++ f ∷ [])
+IsFramed-frame hs text gap f b [] framed breaks frame =
     let both : list_all is_line_end_byte (text ++ gap) ≡ true = rw (list_all-append is_line_end_byte text gap) (and_from (list_all is_line_end_byte text) (list_all is_line_end_byte gap) framed breaks) in
     (text ++ gap, b, [], both, frame, simp (append_assoc, append-nil), refl)
-IsFramed-frame text gap f b (g ∷ gs) framed breaks frame = (
+IsFramed-frame hs text gap f b (g ∷ gs) framed breaks frame = (
   framed.0,
   framed.1,
   framed.2 ++ (gap ++ f),
   framed.3,
   framed.4,
   rw framed.5 (simp append_assoc),
-  IsFramed-frame framed.2 gap f b gs framed.6 breaks frame,
+  IsFramed-frame hs framed.2 gap f b gs framed.6 breaks frame,
 )
 
 -- a list from one place on, cut at another
@@ -89,11 +91,11 @@ fed-range before items fed base i k dropped whole =
     ap (λ (m : ℕ). take k (drop (m + i) fed)) (sym dropped) ∙ (ap (λ xs. take k (drop (length before + i) xs)) whole ∙ ap (λ xs. take k xs) (drop-append-add before items i))
 
 -- what stands for the bytes up to a place behind CR and LF
-framed-to : (framer : Framer) (fed : List ℕ) (frames : List (List ℕ)) (stands : IsFramerOf framer fed frames) (at : ℕ) → framer.next ≤ at → list_all is_line_end_byte (slice_range (bytes_held framer) framer.next at) ≡ true → IsFramed (stands.before ++ take at (bytes_held framer)) frames
-framed-to framer fed frames stands at low breaks =
+framed-to : {H : Type 0} (hs : List (List ℕ)) (framer : Framer H) (fed : List ℕ) (frames : List (List ℕ)) (stands : IsFramerWith hs framer fed frames) (at : ℕ) → framer.next ≤ at → list_all is_line_end_byte (slice_range (bytes_held framer) framer.next at) ≡ true → IsFramedWith hs (stands.before ++ take at (bytes_held framer)) frames
+framed-to hs framer fed frames stands at low breaks =
     let front = fed-front stands.before (bytes_held framer) fed framer.base framer.next stands.dropped stands.whole in
     let framed = rw front at stands.framed in
-    let more = IsFramed-breaks (stands.before ++ take framer.next (bytes_held framer)) (slice_range (bytes_held framer) framer.next at) frames framed breaks in
+    let more = IsFramed-breaks hs (stands.before ++ take framer.next (bytes_held framer)) (slice_range (bytes_held framer) framer.next at) frames framed breaks in
     rw (take-to (bytes_held framer) framer.next at low, ← append_assoc) more
 
 -- the last byte of a list is that of its end
@@ -106,8 +108,8 @@ slice_get-end xs ys some =
     sym (slice_get-get_or ys (length ys - 1) 0 (omega arith)))
 
 -- Wait
-pub waits-so : (old new : Framer) (at : ℕ) → old.next ≤ at → at ≤ length (bytes_held old) → list_all is_line_end_byte (slice_range (bytes_held old) old.next at) ≡ true → drop at (bytes_held old) ≡ next_text old → frame_fault (drop at (bytes_held old)) ≡ Some Truncated → bytes_held new ≡ drop at (bytes_held old) → new.base ≡ old.base + at → new.next ≡ 0 → Waits old new
-waits-so old new at low high breaks rest cut items base next =
+pub waits-so : {H : Type 0} (hs : List (List ℕ)) (old new : Framer H) (at : ℕ) → old.next ≤ at → at ≤ length (bytes_held old) → list_all is_line_end_byte (slice_range (bytes_held old) old.next at) ≡ true → drop at (bytes_held old) ≡ next_text old → frame_fault_with hs (drop at (bytes_held old)) ≡ Some Truncated → bytes_held new ≡ drop at (bytes_held old) → new.base ≡ old.base + at → new.next ≡ 0 → Waits hs old new
+waits-so hs old new at low high breaks rest cut items base next =
     let none : bytes_unframed new ≡ bytes_held new = ap (λ (k : ℕ). drop k (bytes_held new)) next in
     let gone = length-drop at (bytes_held old) in
     record {
@@ -125,9 +127,9 @@ waits-so old new at low high breaks rest cut items base next =
             dropped = omega arith;
             whole = moved;
             within = omega arith;
-            framed = rw (same, fed-front stands.before (bytes_held old) fed old.base at stands.dropped stands.whole) (framed-to old fed frames stands at low breaks);
+            framed = rw (same, fed-front stands.before (bytes_held old) fed old.base at stands.dropped stands.whole) (framed-to hs old fed frames stands at low breaks);
           };
-      bound = rw items (Truncated-bound (drop at (bytes_held old)) cut);
+      bound = rw items (Truncated-bound hs (drop at (bytes_held old)) cut);
       text = ap after_breaks (none ∙ (items ∙ rest)) ∙ after_breaks-again (bytes_unframed old);
       last = λ fed frames stands others.
           let moved : fed ≡ (stands.before ++ take at (bytes_held old)) ++ bytes_held new =
@@ -140,8 +142,8 @@ waits-so old new at low high breaks rest cut items base next =
     }
 
 -- Whole
-pub gives-so : (old new : Framer) (at : ℕ) (f : Frame) → old.next ≤ at → at ≤ length (bytes_held old) → list_all is_line_end_byte (slice_range (bytes_held old) old.next at) ≡ true → IsFrameAt (bytes_held old) at f → bytes_held new ≡ bytes_held old → new.base ≡ old.base → new.next ≡ f.end → GivesFrame old new (old.base + f.start) f.body (f.end - 7)
-gives-so old new at f low high breaks found items base next =
+pub gives-so : {H : Type 0} (hs : List (List ℕ)) (old new : Framer H) (at : ℕ) (f : Frame) → old.next ≤ at → at ≤ length (bytes_held old) → list_all is_line_end_byte (slice_range (bytes_held old) old.next at) ≡ true → IsFrameAt hs (bytes_held old) at f → bytes_held new ≡ bytes_held old → new.base ≡ old.base → new.next ≡ f.end → GivesFrame hs old new (old.base + f.start) f.body (f.end - 7)
+gives-so hs old new at f low high breaks found items base next =
     let start = found.begins in
     let within = found.within in
     let behind = found.behind in
@@ -174,7 +176,7 @@ gives-so old new at f low high breaks found items base next =
           let dropped = stands.dropped in
           let same : count_framed new ≡ old.base + f.end = omega arith in
           let framed = rw (fed-front stands.before (bytes_held old) fed old.base old.next stands.dropped stands.whole) at stands.framed in
-          let more = IsFramed-frame (stands.before ++ take old.next (bytes_held old)) (slice_range (bytes_held old) old.next at) (slice_range (bytes_held old) f.start f.end) (slice_range (bytes_held old) f.body (f.end - 7)) frames framed breaks found.message in
+          let more = IsFramed-frame hs (stands.before ++ take old.next (bytes_held old)) (slice_range (bytes_held old) old.next at) (slice_range (bytes_held old) f.start f.end) (slice_range (bytes_held old) f.body (f.end - 7)) frames framed breaks found.message in
           let text : take (count_framed new) fed ≡ (stands.before ++ take old.next (bytes_held old)) ++ (slice_range (bytes_held old) old.next at ++ slice_range (bytes_held old) f.start f.end) =
           ap (λ (k : ℕ). take k fed) same ∙ (fed-front stands.before (bytes_held old) fed old.base f.end stands.dropped stands.whole ∙ (ap (λ xs. stands.before ++ xs) front ∙ simp append_assoc)) in
           let count : old.base + f.start + length (slice_range (bytes_held old) f.start f.end) - (old.base + f.start) ≡ f.end - f.start = omega arith in (
@@ -189,9 +191,9 @@ gives-so old new at f low high breaks found items base next =
           );
     }
 
-pub unfinished-cut : (framer : Framer) → IsUnfinished framer → frame_fault (next_text framer) ≡ Some Truncated
-unfinished-cut framer (inl breaks) = breaks-cut (bytes_unframed framer) breaks
-unfinished-cut framer (inr cut) = cut
+pub unfinished-cut : {H : Type 0} (hs : List (List ℕ)) (framer : Framer H) → AreHeaders hs → IsUnfinished hs framer → frame_fault_with hs (next_text framer) ≡ Some Truncated
+unfinished-cut hs framer are (inl breaks) = breaks-cut hs (bytes_unframed framer) are breaks
+unfinished-cut hs framer are (inr cut) = cut
 
 -- a byte behind CR and LF is left where a text isn't these alone
 pub others-left : (xs : List ℕ) (i at : ℕ) → i ≤ at → at < length xs → is_line_end_byte (get_or xs at 0) ≡ false → list_all is_line_end_byte (drop i xs) ≡ true → ⊥
@@ -202,8 +204,8 @@ others-left xs i at low inside other breaks =
     false≢true (sym other ∙ (ap is_line_end_byte (sym here) ∙ pass))
 
 -- the offset of the next text
-pub next-offset-so : (framer : Framer) (at : ℕ) → at ≤ length (bytes_held framer) → drop at (bytes_held framer) ≡ next_text framer → IsNextOffset framer (framer.base + at)
-next-offset-so framer at high rest =
+pub next-offset-so : {H : Type 0} (hs : List (List ℕ)) (framer : Framer H) (at : ℕ) → at ≤ length (bytes_held framer) → drop at (bytes_held framer) ≡ next_text framer → IsNextOffset hs framer (framer.base + at)
+next-offset-so hs framer at high rest =
     let left = ap length rest in
     let gone = length-drop at (bytes_held framer) in
     record {

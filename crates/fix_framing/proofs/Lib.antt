@@ -1,6 +1,7 @@
 pub mod BreakLemmas
 pub mod FrameLemmas
 pub mod FramerLemmas
+pub mod HeaderLemmas
 pub mod LengthLemmas
 pub mod MessageLemmas
 pub mod RoomLemmas

@@ -9,29 +9,29 @@ use Rattle.fix_framing.specs.Breaks.{is_line_end_byte}
 use Rattle.fix_framing.specs.Framing.{bytes_held, count_framed, FramerHasRoom, FeedsPiece, KeepsFraming, StepSays}
 
 -- room for a text is room for its front
-pub room-front : (framer : Framer) (piece rest : List ℕ) → FramerHasRoom framer (piece ++ rest) → FramerHasRoom framer piece
-room-front framer piece rest room =
+pub room-front : {H : Type 0} (hs : List (List ℕ)) (framer : Framer H) (piece rest : List ℕ) → FramerHasRoom hs framer (piece ++ rest) → FramerHasRoom hs framer piece
+room-front hs framer piece rest room =
     let both = length-append piece rest in
     let most = room.most in
     record { fed = room.fed; frames = room.frames; stands = room.stands; most = omega arith }
 
 -- once the front is fed there is room for what follows
-pub room-fed : (old new : Framer) (piece rest : List ℕ) → FramerHasRoom old (piece ++ rest) → FeedsPiece old new piece → FramerHasRoom new rest
-room-fed old new piece rest room feeds =
+pub room-fed : {H : Type 0} (hs : List (List ℕ)) (old new : Framer H) (piece rest : List ℕ) → FramerHasRoom hs old (piece ++ rest) → FeedsPiece hs old new piece → FramerHasRoom hs new rest
+room-fed hs old new piece rest room feeds =
     let both = length-append piece rest in
     let all = length-append room.fed piece in
     let most = room.most in
     record { fed = room.fed ++ piece; frames = room.frames; stands = feeds room.fed room.frames room.stands; most = omega arith }
 
-pub room-kept : (old new : Framer) (piece : List ℕ) → FramerHasRoom old piece → KeepsFraming old new → FramerHasRoom new piece
-room-kept old new piece room keeps = record { fed = room.fed; frames = room.frames; stands = keeps room.fed room.frames room.stands; most = room.most }
+pub room-kept : {H : Type 0} (hs : List (List ℕ)) (old new : Framer H) (piece : List ℕ) → FramerHasRoom hs old piece → KeepsFraming hs old new → FramerHasRoom hs new piece
+room-kept hs old new piece room keeps = record { fed = room.fed; frames = room.frames; stands = keeps room.fed room.frames room.stands; most = room.most }
 
 -- no answer takes room
-pub room-answered : (old new : Framer) (step : Step) (piece : List ℕ) → FramerHasRoom old piece → StepSays old new step → FramerHasRoom new piece
-room-answered old new (Whole start body to) piece room answer =
+pub room-answered : {H : Type 0} (hs : List (List ℕ)) (old new : Framer H) (step : Step) (piece : List ℕ) → FramerHasRoom hs old piece → StepSays hs old new step → FramerHasRoom hs new piece
+room-answered hs old new (Whole start body to) piece room answer =
     record { fed = room.fed; frames = room.frames ++ answer.frame ∷ []; stands = (answer.appends room.fed room.frames room.stands).0; most = room.most }
-room-answered old new Wait piece room answer = room-kept old new piece room answer.keeps
-room-answered old new (Fault at fault) piece room answer = rw answer.again room
+room-answered hs old new Wait piece room answer = room-kept hs old new piece room answer.keeps
+room-answered hs old new (Fault at fault) piece room answer = rw answer.again room
 
 -- a Framer that has framed none of what it holds has room, whatever was fed before
 abbrev line_ends : ℕ → List ℕ
@@ -44,8 +44,8 @@ are-breaks (suc n) = are-breaks n
 length-line_ends : (n : ℕ) → length (line_ends n) ≡ n
 length-line_ends n = length-replicate n 10
 
-pub room-anew : (framer : Framer) (piece : List ℕ) → framer.next ≡ 0 → framer.base + length (bytes_held framer) + length piece < 2 ^ 64 → FramerHasRoom framer piece
-room-anew framer piece next most =
+pub room-anew : {H : Type 0} (hs : List (List ℕ)) (framer : Framer H) (piece : List ℕ) → framer.next ≡ 0 → framer.base + length (bytes_held framer) + length piece < 2 ^ 64 → FramerHasRoom hs framer piece
+room-anew hs framer piece next most =
     let count = length-line_ends framer.base in
     let all = length-append (line_ends framer.base) (bytes_held framer) in
     let place : count_framed framer ≡ framer.base = omega arith in

@@ -30,37 +30,37 @@ choose-none false true c h k l = absurd (cc)
 choose-none false false true h k l = absurd (cc)
 
 -- the message ends before its checksum field does
-pub fault-cut : (r : List ℕ) (t : ℕ) → t ≡ trailer_place r → length r < t + 7 → first_failing (trailer_tests r) ≡ Some Truncated
-fault-cut r t place short =
-    let rest = length-drop (body_place r) r in
-    choose-cut (ends_in_body r) (has_bad_trailer r) (has_bad_sum r) (lt-ltb (length (drop (body_place r) r)) (body_size r + 7) (omega arith))
+pub fault-cut : (n : ℕ) (r : List ℕ) (t : ℕ) → t ≡ trailer_place n r → length r < t + 7 → first_failing (trailer_tests n r) ≡ Some Truncated
+fault-cut n r t place short =
+    let rest = length-drop (body_place n r) r in
+    choose-cut (ends_in_body n r) (has_bad_trailer n r) (has_bad_sum n r) (lt-ltb (length (drop (body_place n r) r)) (body_size n r + 7) (omega arith))
 
-body-whole : (r : List ℕ) (t : ℕ) → t ≡ trailer_place r → t + 7 ≤ length r → ends_in_body r ≡ false
-body-whole r t place long =
-    let rest = length-drop (body_place r) r in
-    le-ltb (length (drop (body_place r) r)) (body_size r + 7) (omega arith)
+body-whole : (n : ℕ) (r : List ℕ) (t : ℕ) → t ≡ trailer_place n r → t + 7 ≤ length r → ends_in_body n r ≡ false
+body-whole n r t place long =
+    let rest = length-drop (body_place n r) r in
+    le-ltb (length (drop (body_place n r) r)) (body_size n r + 7) (omega arith)
 
 -- the seven bytes from t on
-pub trailer-at : (r : List ℕ) (t : ℕ) → t ≡ trailer_place r → take (t + 7 - t) (drop t r) ≡ trailer_of r
-trailer-at r t place =
+pub trailer-at : (n : ℕ) (r : List ℕ) (t : ℕ) → t ≡ trailer_place n r → take (t + 7 - t) (drop t r) ≡ trailer_of n r
+trailer-at n r t place =
     let seven : t + 7 - t ≡ 7 = omega arith in rw (seven, place) refl
 
 -- they are no checksum field
-pub fault-trailer : (r : List ℕ) (t : ℕ) → t ≡ trailer_place r → t + 7 ≤ length r → is_trailer (take (t + 7 - t) (drop t r)) ≡ false → first_failing (trailer_tests r) ≡ Some Trailer
-fault-trailer r t place long bad =
-    let other = rw (trailer-at r t place) at bad in
-    choose-trailer (ends_in_body r) (has_bad_trailer r) (has_bad_sum r) (body-whole r t place long) (not_from_false (is_trailer (trailer_of r)) other)
+pub fault-trailer : (n : ℕ) (r : List ℕ) (t : ℕ) → t ≡ trailer_place n r → t + 7 ≤ length r → is_trailer (take (t + 7 - t) (drop t r)) ≡ false → first_failing (trailer_tests n r) ≡ Some Trailer
+fault-trailer n r t place long bad =
+    let other = rw (trailer-at n r t place) at bad in
+    choose-trailer (ends_in_body n r) (has_bad_trailer n r) (has_bad_sum n r) (body-whole n r t place long) (not_from_false (is_trailer (trailer_of n r)) other)
 
 -- they are one, and write another sum
-pub fault-sum : (r : List ℕ) (t : ℕ) → t ≡ trailer_place r → t + 7 ≤ length r → is_trailer (take (t + 7 - t) (drop t r)) ≡ true → digits_value 10 (slice_range (take (t + 7 - t) (drop t r)) 3 6) ≢ sum (take t r) % 256 → first_failing (trailer_tests r) ≡ Some Checksum
-fault-sum r t place long good other =
-    let field = rw (trailer-at r t place) at good in
-    let apart = rw (trailer-at r t place, place) at other in
-    choose-sum (ends_in_body r) (has_bad_trailer r) (has_bad_sum r) (body-whole r t place long) (not_from_true (is_trailer (trailer_of r)) field) (not_from_false _ (ne_eqb (digits_value 10 (slice_range (trailer_of r) 3 6)) (sum (take (trailer_place r) r) % 256) apart))
+pub fault-sum : (n : ℕ) (r : List ℕ) (t : ℕ) → t ≡ trailer_place n r → t + 7 ≤ length r → is_trailer (take (t + 7 - t) (drop t r)) ≡ true → digits_value 10 (slice_range (take (t + 7 - t) (drop t r)) 3 6) ≢ sum (take t r) % 256 → first_failing (trailer_tests n r) ≡ Some Checksum
+fault-sum n r t place long good other =
+    let field = rw (trailer-at n r t place) at good in
+    let apart = rw (trailer-at n r t place, place) at other in
+    choose-sum (ends_in_body n r) (has_bad_trailer n r) (has_bad_sum n r) (body-whole n r t place long) (not_from_true (is_trailer (trailer_of n r)) field) (not_from_false _ (ne_eqb (digits_value 10 (slice_range (trailer_of n r) 3 6)) (sum (take (trailer_place n r) r) % 256) apart))
 
 -- they are one, and write the sum
-pub no-fault : (r : List ℕ) (t : ℕ) → t ≡ trailer_place r → t + 7 ≤ length r → is_trailer (take (t + 7 - t) (drop t r)) ≡ true → digits_value 10 (slice_range (take (t + 7 - t) (drop t r)) 3 6) ≡ sum (take t r) % 256 → first_failing (trailer_tests r) ≡ None
-no-fault r t place long good same =
-    let field = rw (trailer-at r t place) at good in
-    let equal = rw (trailer-at r t place, place) at same in
-    choose-none (ends_in_body r) (has_bad_trailer r) (has_bad_sum r) (body-whole r t place long) (not_from_true (is_trailer (trailer_of r)) field) (not_from_true _ (eq-eqb (digits_value 10 (slice_range (trailer_of r) 3 6)) (sum (take (trailer_place r) r) % 256) equal))
+pub no-fault : (n : ℕ) (r : List ℕ) (t : ℕ) → t ≡ trailer_place n r → t + 7 ≤ length r → is_trailer (take (t + 7 - t) (drop t r)) ≡ true → digits_value 10 (slice_range (take (t + 7 - t) (drop t r)) 3 6) ≡ sum (take t r) % 256 → first_failing (trailer_tests n r) ≡ None
+no-fault n r t place long good same =
+    let field = rw (trailer-at n r t place) at good in
+    let equal = rw (trailer-at n r t place, place) at same in
+    choose-none (ends_in_body n r) (has_bad_trailer n r) (has_bad_sum n r) (body-whole n r t place long) (not_from_true (is_trailer (trailer_of n r)) field) (not_from_true _ (eq-eqb (digits_value 10 (slice_range (trailer_of n r) 3 6)) (sum (take (trailer_place n r) r) % 256) equal))

@@ -6,7 +6,9 @@ use Rattle.std.specs.Char.{is_ascii_digit, digit_value}
 use Rattle.std.specs.Str.Parse.{digits_value, AllDigits}
 use Rattle.std.proofs.lemmas.Bool.{and_from, le-leb}
 use Rattle.std.proofs.lemmas.Bool.Decides.{nat_tests}
+use Rattle.audit_base.proofs.SumLemmas.{Contains-front}
 use Rattle.std.proofs.lemmas.Fmt.{decimal_is_IsNumeral, length-decimal-le}
+use Rattle.fix_framing.specs.Headers.{header}
 use Rattle.fix_framing.specs.Frames.{before_checksum, IsFrame, three_digits, frame_text}
 
 -- a digit's value, and that it is one
@@ -36,17 +38,19 @@ three-value n small =
 
 pub frame_text_is_frame : (body : List ℕ) → length body ≤ 1048576 → IsFrame (frame_text body) body
 frame_text_is_frame body most =
-    let before = before_checksum (decimal (length body)) body in
+    let before = before_checksum header (decimal (length body)) body in
     let numeral = decimal_is_IsNumeral (length body) (omega arith) in
     let short : length (decimal (length body)) ≤ 9 = length-decimal-le 9 (length body) (omega arith) (omega arith) (omega arith) in
-    let small : sum (before_checksum (decimal (length body)) body) % 256 < 256 = omega arith in
+    let small : sum (before_checksum header (decimal (length body)) body) % 256 < 256 = omega arith in
     record {
+      head = header;
+      known = Contains-front header [];
       length_digits = decimal (length body);
-      sum_digits = three_digits (sum (before_checksum (decimal (length body)) body) % 256);
+      sum_digits = three_digits (sum (before_checksum header (decimal (length body)) body) % 256);
       whole = refl;
       few = and_from _ _ (and_from _ _ (le-leb 1 (length (decimal (length body))) numeral.0.0) (le-leb (length (decimal (length body))) 9 short)) (list_all-from_AllDigits (decimal (length body)) numeral.0.1);
       counted = numeral.1;
       bounded = most;
-      three = and_from _ _ refl (three-each (sum (before_checksum (decimal (length body)) body) % 256) small);
-      summed = three-value (sum (before_checksum (decimal (length body)) body) % 256) small;
+      three = and_from _ _ refl (three-each (sum (before_checksum header (decimal (length body)) body) % 256) small);
+      summed = three-value (sum (before_checksum header (decimal (length body)) body) % 256) small;
     }

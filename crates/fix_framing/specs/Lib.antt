@@ -1,5 +1,6 @@
 -- Part 1. What a reader must believe: the public contracts and laws cite these.
--- the messages of a log, and the bytes between them
+-- what messages begin with, the messages of a log, and the bytes between them
+pub mod Headers
 pub mod Frames
 pub mod Breaks
 -- the messages of a log that comes in pieces

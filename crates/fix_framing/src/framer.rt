@@ -10,8 +10,10 @@ ghost use Rattle.fix_framing.specs.Breaks.{is_line_end_byte};
 
 use crate::breaks::skip_breaks;
 use crate::frames::{FrameFault, TRAILER, frame_at};
+use crate::headers::Headers;
 use audit_base::faults::NoMemory;
 use std::alloc::Global;
+use std::marker::PhantomData;
 
 /// What a Framer says about the bytes fed that it has not yet framed.
 #[derive(Clone, Copy, Debug, PartialEq, Eq)]
@@ -26,15 +28,16 @@ pub enum Step {
     Fault { at: u64, fault: FrameFault },
 }
 
-/// Bytes that come in pieces, of which some are framed.
+/// Bytes that come in pieces, of which some are framed. `H` says what their messages begin with.
 #[derive(Drop)]
-pub struct Framer {
+pub struct Framer<H> {
     /// The bytes that are held: the last ones of all bytes fed.
     bytes: Vec<u8>,
     /// How many bytes were dropped before them.
     base: u64,
     /// How many of the bytes held are framed.
     next: usize,
+    headers: PhantomData<H>,
     ghost within: { next ≤ vec_len bytes },
     ghost countable: { base + vec_len bytes < 2 ^ 64 },
 }
@@ -51,30 +54,31 @@ fn drop_front(bytes: &mut Vec<u8>, count: usize)
     }
 }
 
-impl Framer {
-    ghost use Rattle.fix_framing.specs.Framing.{bytes_held, bytes_unframed, next_text, next_offset, IsFramerOf, IsNextOffset, FramerHasRoom, FeedsPiece, AppendsUnframed, KeepsFraming, IsUnfinished, IsWholeFrame, StepSays};
-    ghost use Rattle.fix_framing.specs.Frames.{frame_fault};
+impl<H: Headers> Framer<H> {
+    ghost use Rattle.fix_framing.specs.Framing.{bytes_held, bytes_unframed, next_text, next_offset, IsFramerWith, IsNextOffset, FramerHasRoom, FeedsPiece, AppendsUnframed, KeepsFraming, IsUnfinished, IsWholeFrame, StepSays};
+    ghost use Rattle.fix_framing.specs.Frames.{frame_fault_with};
     ghost use Rattle.fix_framing.specs.declared.frames.FrameFault.{FrameFault};
 
     /// A Framer that was fed nothing.
-    pub fn new(alloc: Global) -> Framer
-        ensures stands { IsFramerOf result [] [] }
+    pub fn new(alloc: Global) -> Self
+        ensures stands { IsFramerWith H.headers result [] [] }
         ensures empty { bytes_held result ≡ [] }
     {
         Framer {
             bytes: Vec::new(alloc),
             base: 0,
             next: 0,
+            headers: PhantomData,
         }
     }
 
     /// Takes the next piece of the bytes, which are fewer than 2^64 in
     /// all. Out of memory, nothing changes.
     pub fn feed(&mut self, piece: &[u8]) -> Result<(), NoMemory>
-        requires { FramerHasRoom self.old piece.now }
-        ensures ok { OnOk result (FeedsPiece self.old self.new piece.now) }
+        requires { FramerHasRoom H.headers self.old piece.now }
+        ensures ok { OnOk result (FeedsPiece H.headers self.old self.new piece.now) }
         ensures appended { OnOk result (AppendsUnframed self.old self.new piece.now) }
-        ensures err { OnErr result (KeepsFraming self.old self.new) }
+        ensures err { OnErr result (KeepsFraming H.headers self.old self.new) }
     {
         self.bytes.extend_from_slice(piece)?;
         Ok(())
@@ -83,16 +87,17 @@ impl Framer {
     /// The next message of the bytes fed, or why there is none. It takes no memory. After
     /// `Step::Fault` it says the same again, whatever is fed.
     pub fn next_frame(&mut self) -> Step
-        ensures answers { StepSays self.old self.new result }
+        ensures answers { StepSays H.headers self.old self.new result }
         // Each answer comes exactly where the bytes say so.
-        ensures whole { IsWholeFrame result ↔ (frame_fault (next_text self.old) ≡ None) }
-        ensures waits { (result ≡ Step.Wait) ↔ IsUnfinished self.old }
+        ensures whole { IsWholeFrame result ↔ (frame_fault_with H.headers (next_text self.old) ≡ None) }
+        ensures waits { (result ≡ Step.Wait) ↔ IsUnfinished H.headers self.old }
         ensures refuses { (at : ℕ) (fault : FrameFault) → (result ≡ Step.Fault at fault)
-            ↔ ((frame_fault (next_text self.old) ≡ Some fault) × (fault ≢ FrameFault.Truncated)
+            ↔ ((frame_fault_with H.headers (next_text self.old) ≡ Some fault) × (fault ≢ FrameFault.Truncated)
             × (at ≡ next_offset self.old)) }
     {
+        H::are_headers();
         let at = skip_breaks(&self.bytes, self.next);
-        match frame_at(&self.bytes, at) {
+        match frame_at::<H>(&self.bytes, at) {
             Ok(frame) => {
                 self.next = frame.end;
                 Step::Whole {
@@ -119,7 +124,7 @@ impl Framer {
     /// of the unfinished message, behind these.
     pub fn finish(&self) -> Result<(), u64>
         ensures ok { IsOk result ↔ IsTrue (list_all is_line_end_byte (bytes_unframed self.now)) }
-        ensures err { IfErr result (IsNextOffset self.now) }
+        ensures err { IfErr result (IsNextOffset H.headers self.now) }
     {
         let at = skip_breaks(&self.bytes, self.next);
         if at < self.bytes.len() {

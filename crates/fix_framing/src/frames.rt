@@ -8,9 +8,11 @@ ghost use Rattle.std.specs.List.{slice_range, list_all};
 ghost use Rattle.std.specs.Char.{is_ascii_digit};
 ghost use Rattle.std.specs.Str.Parse.{digits_value};
 ghost use Rattle.std.specs.Result.{result_err};
-ghost use Rattle.fix_framing.specs.Frames.{may_begin, header_tests, length_tests, trailer_tests, first_failing, frame_fault, is_trailer, body_place, trailer_place, frame_size, IsFrame, IsFrameAt};
+ghost use Rattle.fix_framing.specs.Headers.{header_size};
+ghost use Rattle.fix_framing.specs.Frames.{length_tests, trailer_tests, first_failing, frame_fault_with, is_trailer, body_place, trailer_place, frame_size_with, IsFrameWith, IsFrameAt};
 ghost use Rattle.fix_framing.specs.LengthField.{IsLengthField};
 
+use crate::headers::Headers;
 use audit_base::digits::{are_digits, value_of};
 use audit_base::sizes::{LONGEST_BODY, SOH};
 use memchr::memchr;
@@ -19,7 +21,7 @@ use thiserror::Error;
 /// Where a message is: its frame runs from `start` to `end`, its body from `body` to `end - 7`.
 #[derive(Clone, Copy, Debug, PartialEq, Eq)]
 pub struct Frame {
-    /// The place of its first byte, the `8` of `8=FIX.4.4`.
+    /// The place of its first byte, the `8` of BeginString (8).
     pub start: usize,
     /// The place of the first byte of its body, behind the SOH that ends BodyLength.
     pub body: usize,
@@ -30,7 +32,7 @@ pub struct Frame {
 /// Why no message begins at a place: the first test that the bytes from there on fail.
 #[derive(Clone, Copy, Debug, PartialEq, Eq, Hash, Error)]
 pub enum FrameFault {
-    /// The bytes don't begin with `8=FIX.4.4`, SOH, `9=`.
+    /// The bytes don't begin with a header, as `8=FIX.4.4`, SOH, `9=`.
     #[error("no message begins here")]
     Begin,
     /// The body length isn't 1 to 9 digits and SOH, or exceeds 1,048,576.
@@ -47,9 +49,6 @@ pub enum FrameFault {
     Checksum,
 }
 
-/// What every message begins with.
-pub(crate) const HEADER: &[u8; 12] = b"8=FIX.4.4\x019=";
-
 /// The size of the checksum field, in bytes.
 pub(crate) const TRAILER: usize = 7;
 
@@ -64,28 +63,6 @@ pub(crate) fn checksum(bytes: &[u8]) -> u8
     total
 }
 
-/// Whether a message may begin so: the text begins with the header, or ends within it.
-#[tactic(auto, unfolding(crate::specs::Frames::header))]
-fn begins(text: &[u8]) -> bool
-    ensures { result ≡ may_begin text.now }
-{
-    text.starts_with(HEADER) || HEADER.starts_with(text)
-}
-
-/// Tests 1 and 2: the text begins as every message does.
-fn check_header(text: &[u8]) -> Result<(), FrameFault>
-    ensures tests { result_err result ≡ first_failing (header_tests text.now) }
-    ensures long { OnOk result (12 ≤ length text.now) }
-{
-    if !begins(text) {
-        return Err(FrameFault::Begin);
-    }
-    if text.len() < 12 {
-        return Err(FrameFault::Truncated);
-    }
-    Ok(())
-}
-
 /// Whether the seven bytes are `10=`, three digits and SOH.
 fn is_checksum_field(seven: &[u8]) -> bool
     requires { length seven.now ≡ 7 }
@@ -95,22 +72,22 @@ fn is_checksum_field(seven: &[u8]) -> bool
 }
 
 /// Where the length and the SOH after it have to be: up to ten bytes behind the header.
-fn length_window(text: &[u8]) -> &[u8]
-    requires { 12 ≤ length text.now }
-    ensures { result.now ≡ take 10 (drop 12 text.now) }
+fn length_window(text: &[u8], header: usize) -> &[u8]
+    requires { header ≤ length text.now }
+    ensures { result.now ≡ take 10 (drop header text.now) }
 {
-    let rest = &text[12..];
+    let rest = &text[header..];
     &rest[..rest.len().min(10)]
 }
 
 /// How many digits follow the header, before the SOH that ends
 /// them: tests 3 to 5 but for their value.
-fn length_field(text: &[u8]) -> Result<usize, FrameFault>
-    requires { 12 ≤ length text.now }
-    ensures ok { IfOk result (λ digits. IsLengthField (drop 12 text.now) digits) }
-    ensures err { IfErr result (λ fault. first_failing (length_tests text.now) ≡ Some fault) }
+fn length_field(text: &[u8], header: usize) -> Result<usize, FrameFault>
+    requires { header ≤ length text.now }
+    ensures ok { IfOk result (λ digits. IsLengthField (drop header text.now) digits) }
+    ensures err { IfErr result (λ fault. first_failing (length_tests header text.now) ≡ Some fault) }
 {
-    let window = length_window(text);
+    let window = length_window(text, header);
     match memchr(SOH, window) {
         Some(digits) if 0 < digits && are_digits(&window[..digits]) => Ok(digits),
         None if window.len() < 10 && are_digits(window) => Err(FrameFault::Truncated),
@@ -119,22 +96,23 @@ fn length_field(text: &[u8]) -> Result<usize, FrameFault>
 }
 
 /// Whether exactly this many digits follow the header, and SOH.
-fn is_length_of(text: &[u8], digits: usize) -> bool
-    requires header { 12 ≤ length text.now }
+fn is_length_of(text: &[u8], header: usize, digits: usize) -> bool
+    requires header { header ≤ length text.now }
     requires some { 0 < digits }
     requires few { digits ≤ 9 }
-    ensures { IsTrue result → IsLengthField (drop 12 text.now) digits }
+    ensures { IsTrue result → IsLengthField (drop header text.now) digits }
 {
-    let rest = &text[12..];
+    let rest = &text[header..];
     digits < rest.len() && rest[digits] == SOH && are_digits(&rest[..digits])
 }
 
 /// The number that these digits behind the header write.
-fn size_of(text: &[u8], digits: usize) -> usize
-    requires { IsLengthField (drop 12 text.now) digits }
-    ensures { result ≡ digits_value 10 (take digits (drop 12 text.now)) }
+fn size_of(text: &[u8], header: usize, digits: usize) -> usize
+    requires inside { header ≤ length text.now }
+    requires field { IsLengthField (drop header text.now) digits }
+    ensures { result ≡ digits_value 10 (take digits (drop header text.now)) }
 {
-    let rest = &text[12..];
+    let rest = &text[header..];
     value_of(&rest[..digits]) as usize
 }
 
@@ -147,18 +125,18 @@ struct BodyLength {
 
 /// Tests 3 to 5 but for the greatest value. Most lengths have three digits, so this number of
 /// them is tried before SOH is sought.
-fn body_length(text: &[u8]) -> Result<BodyLength, FrameFault>
-    requires { 12 ≤ length text.now }
-    ensures ok { IfOk result (λ l. IsLengthField (drop 12 text.now) l.digits
-        × (l.size ≡ digits_value 10 (take l.digits (drop 12 text.now)))) }
-    ensures err { IfErr result (λ fault. first_failing (length_tests text.now) ≡ Some fault) }
+fn body_length(text: &[u8], header: usize) -> Result<BodyLength, FrameFault>
+    requires { header ≤ length text.now }
+    ensures ok { IfOk result (λ l. IsLengthField (drop header text.now) l.digits
+        × (l.size ≡ digits_value 10 (take l.digits (drop header text.now)))) }
+    ensures err { IfErr result (λ fault. first_failing (length_tests header text.now) ≡ Some fault) }
 {
-    if is_length_of(text, 3) {
-        let size = size_of(text, 3);
+    if is_length_of(text, header, 3) {
+        let size = size_of(text, header, 3);
         return Ok(BodyLength { digits: 3, size });
     }
-    let digits = length_field(text)?;
-    let size = size_of(text, digits);
+    let digits = length_field(text, header)?;
+    let size = size_of(text, header, digits);
     Ok(BodyLength { digits, size })
 }
 
@@ -170,18 +148,19 @@ struct Places {
 }
 
 /// Tests 3 to 5: the body's length is behind the header.
-fn find_places(text: &[u8]) -> Result<Places, FrameFault>
-    requires { 12 ≤ length text.now }
-    ensures ok { IfOk result (λ p. (first_failing (length_tests text.now) ≡ None)
-        × (p.body ≡ body_place text.now) × (p.trailer ≡ trailer_place text.now)) }
-    ensures most { IfOk result (λ p. p.trailer ≤ 1048598) }
-    ensures err { IfErr result (λ fault. first_failing (length_tests text.now) ≡ Some fault) }
+fn find_places(text: &[u8], header: usize) -> Result<Places, FrameFault>
+    requires inside { header ≤ length text.now }
+    requires few { header ≤ 13 }
+    ensures ok { IfOk result (λ p. (first_failing (length_tests header text.now) ≡ None)
+        × (p.body ≡ body_place header text.now) × (p.trailer ≡ trailer_place header text.now)) }
+    ensures most { IfOk result (λ p. p.trailer ≤ 1048599) }
+    ensures err { IfErr result (λ fault. first_failing (length_tests header text.now) ≡ Some fault) }
 {
-    let length = body_length(text)?;
+    let length = body_length(text, header)?;
     if length.size > LONGEST_BODY {
         return Err(FrameFault::Length);
     }
-    let body = 12 + length.digits + 1;
+    let body = header + length.digits + 1;
     Ok(Places {
         body,
         trailer: body + length.size,
@@ -190,10 +169,11 @@ fn find_places(text: &[u8]) -> Result<Places, FrameFault>
 
 /// Tests 6 to 8: the checksum field is behind the body, and writes the sum.
 fn check_trailer(text: &[u8], trailer: usize) -> Result<(), FrameFault>
-    requires place { trailer ≡ trailer_place text.now }
-    requires room { trailer < 2 ^ 63 }
+    requires { trailer < 2 ^ 63 }
     ensures inside { OnOk result (trailer + 7 ≤ length text.now) }
-    ensures tests { result_err result ≡ first_failing (trailer_tests text.now) }
+    // Whatever the size of the header, if this is the place of the checksum field behind it.
+    ensures tests { (header : ℕ) → trailer ≡ trailer_place header text.now
+        → result_err result ≡ first_failing (trailer_tests header text.now) }
 {
     if text.len() < trailer + TRAILER {
         return Err(FrameFault::Truncated);
@@ -209,35 +189,39 @@ fn check_trailer(text: &[u8], trailer: usize) -> Result<(), FrameFault>
 }
 
 /// The places of the message that the text begins with.
-fn message_places(text: &[u8]) -> Result<Places, FrameFault>
-    ensures ok { IfOk result (λ p. (frame_fault text.now ≡ None)
-        × (p.body ≡ body_place text.now) × (p.trailer ≡ trailer_place text.now)) }
+fn message_places<H: Headers>(text: &[u8]) -> Result<Places, FrameFault>
+    ensures ok { IfOk result (λ p. (frame_fault_with H.headers text.now ≡ None)
+        × (p.body ≡ body_place (header_size H.headers text.now) text.now)
+        × (p.trailer ≡ trailer_place (header_size H.headers text.now) text.now)) }
     ensures inside { IfOk result (λ p. p.trailer + 7 ≤ length text.now) }
-    ensures err { IfErr result (λ fault. frame_fault text.now ≡ Some fault) }
+    ensures err { IfErr result (λ fault. frame_fault_with H.headers text.now ≡ Some fault) }
 {
-    check_header(text)?;
-    let places = find_places(text)?;
+    H::are_headers();
+    let header = H::header_size(text)?;
+    let places = find_places(text, header)?;
     check_trailer(text, places.trailer)?;
     Ok(places)
 }
 
 /// The message that begins at `at`, or the first test that the bytes from there on fail. The sum is
 /// taken once, after all other tests, and no memory is taken.
-pub fn frame_at(bytes: &[u8], at: usize) -> Result<Frame, FrameFault>
+pub fn frame_at<H: Headers>(bytes: &[u8], at: usize) -> Result<Frame, FrameFault>
     requires { at ≤ length bytes.now }
     // What is found is a message with its body, and begins at `at`.
-    ensures found { IfOk result (λ f. IsFrameAt bytes.now at f) }
+    ensures found { IfOk result (λ f. IsFrameAt H.headers bytes.now at f) }
     // A message that begins at `at` is found.
     ensures only { (text body more : List ℕ)
-        → IsFrame text body → drop at bytes.now ≡ text ++ more
+        → IsFrameWith H.headers text body → drop at bytes.now ≡ text ++ more
         → IsOkAnd result (λ f. (f.end ≡ at + length text) × (f.end ≡ f.body + length body + 7)) }
     // A fault is that of the first test that fails.
-    ensures fault { result_err result ≡ frame_fault (drop at bytes.now) }
+    ensures fault { result_err result ≡ frame_fault_with H.headers (drop at bytes.now) }
     // The places, counted from the bytes.
-    ensures places { IfOk result (λ f. (f.body ≡ at + body_place (drop at bytes.now))
-        × (f.end ≡ at + frame_size (drop at bytes.now))) }
+    ensures places { let rest = drop at bytes.now in
+        IfOk result (λ f. (f.body ≡ at + body_place (header_size H.headers rest) rest)
+        × (f.end ≡ at + frame_size_with H.headers rest)) }
 {
-    let places = message_places(&bytes[at..])?;
+    H::are_headers();
+    let places = message_places::<H>(&bytes[at..])?;
     Ok(Frame {
         start: at,
         body: at + places.body,

@@ -9,6 +9,7 @@
 pub mod breaks;
 pub mod framer;
 pub mod frames;
+pub mod headers;
 pub mod laws;
 #[cfg(test)]
 mod vectors;

@@ -3,7 +3,8 @@ ghost use Rattle.std.specs.Prelude.{◌≡◌, ◌≤◌, ◌<◌, ◌++◌, len
 ghost use Rattle.audit_base.specs.Sizes.{longest_body};
 ghost use Rattle.fix_framing.specs.Frames.{IsFrame, frame_text, three_digits};
 
-use crate::frames::{HEADER, checksum};
+use crate::frames::checksum;
+use crate::headers::HEADER;
 use audit_base::faults::NoMemory;
 use audit_base::sizes::SOH;
 use itoa::Buffer;
@@ -17,7 +18,7 @@ fn digits_of(sum: u8) -> [u8; 3]
 }
 
 /// The frame of a body.
-#[tactic(auto, unfolding(crate::specs::Frames::header))]
+#[tactic(auto, unfolding(crate::specs::Headers::header))]
 fn frame_of(alloc: Global, body: &[u8]) -> Result<Vec<u8>, AllocError>
     ensures { IfOk result (λ text. text.items ≡ frame_text body.now) }
 {

@@ -5,7 +5,7 @@ use Rattle.fix_framing.proofs.laws.frames_are_judged_once.Goals as goal
 
 pub returns : goal.returns
 returns c = record {
-  cut = λ front more body. prefix-cut front more body;
-  message = λ frame body more. IsFrame-no_fault frame body more;
-  stays = λ text more fault. fault-stays text more fault;
+  cut = λ headers front more body. prefix-cut headers front more body;
+  message = λ headers frame body more. IsFrame-no_fault headers frame body more;
+  stays = λ headers text more fault. fault-stays headers text more fault;
 }

@@ -3,6 +3,6 @@ use Rattle.fix_framing.proofs.laws.frames_have_one_reading.Goals as goal
 
 pub returns : goal.returns
 returns c = record {
-  prefix = λ frame more body other. no-proper-prefix frame more body other;
-  one = λ frame other body its more rest. frames-unique frame other body its more rest;
+  prefix = λ headers frame more body other. no-proper-prefix headers frame more body other;
+  one = λ headers frame other body its more rest. frames-unique headers frame other body its more rest;
 }
