@@ -76,8 +76,8 @@ Reads-body_of r h ds b tail reads =
 before-rest : (h ds b : List ℕ) → before_checksum h ds b ≡ h ++ (ds ++ (1 ∷ b))
 before-rest h ds b = append_assoc h ds (1 ∷ b)
 
-pub IsFrame-reads : (headers : List (List ℕ)) (f b more : List ℕ) (frame : IsFrameWith headers f b) → Reads (f ++ more) frame.head frame.length_digits b (checksum_field frame.sum_digits ++ more)
-IsFrame-reads headers f b more frame =
+pub IsFrameWith-reads : (headers : List (List ℕ)) (f b more : List ℕ) (frame : IsFrameWith headers f b) → Reads (f ++ more) frame.head frame.length_digits b (checksum_field frame.sum_digits ++ more)
+IsFrameWith-reads headers f b more frame =
     let few = and_parts _ _ frame.few in
     record {
       whole = rw frame.whole (append_assoc (before_checksum frame.head frame.length_digits b) (checksum_field frame.sum_digits) more);

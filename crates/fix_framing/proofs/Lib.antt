@@ -1,9 +1,12 @@
 pub mod BreakLemmas
+pub mod Fix44Lemmas
 pub mod FrameLemmas
 pub mod FramerLemmas
 pub mod HeaderLemmas
+pub mod HeaderTestLemmas
 pub mod LengthLemmas
 pub mod MessageLemmas
+pub mod PrefixLemmas
 pub mod RoomLemmas
 pub mod StayLemmas
 pub mod TestLemmas

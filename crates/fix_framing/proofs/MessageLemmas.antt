@@ -1,12 +1,12 @@
 -- A message is what no test fails on: in one direction and in the other.
-use Rattle.std.proofs.Common.{◌≡◌, ℕ, suc, ◌+◌, ◌-◌, ◌<◌, ◌≤◌, ◌%◌, Bool, true, false, cond, not, ◌||◌, ◌==◌, inl, inr, None, List, [], ◌∷◌, ◌++◌, length, take, drop, sum, refl, sym, ap, ◌∙◌, append_assoc, arith}
+use Rattle.std.proofs.Common.{◌≡◌, ℕ, suc, ◌+◌, ◌-◌, ◌<◌, ◌≤◌, ◌%◌, Bool, true, false, cond, not, ◌||◌, ◌==◌, None, List, [], ◌∷◌, ◌++◌, length, take, drop, sum, refl, sym, ap, ◌∙◌, append_assoc, arith}
 use Rattle.std.specs.Prelude.{Contains, slice_index, nat_lt, nat_eq, codes}
 use Rattle.std.specs.List.{list_all, prefix_len, starts_with, slice_range}
 use Rattle.std.proofs.lemmas.List.Sums.{prefix_len-le-length}
 use Rattle.std.specs.Char.{is_ascii_digit}
 use Rattle.std.specs.Str.Parse.{digits_value}
-use Rattle.std.proofs.lemmas.List.{length-take-le, length-drop, length-append, get_or-drop, get_or_at, take-append-drop, take_at, drop_more, drop-drop, drop_all, append-nil}
-use Rattle.std.proofs.lemmas.Bool.{and_parts, and_from, or_parts, or_cases, or_from, or_left, not_from_true, not-false, le-ltb, ltb-false, leb-true, leb-false, eq-eqb, ne_eqb, eqb-true, eqb-false, le-leb, lt-leb}
+use Rattle.std.proofs.lemmas.List.{length-take-le, length-drop, length-append, get_or-drop, get_or_at, take-append-drop, take_at, drop_more, drop-drop, drop_all}
+use Rattle.std.proofs.lemmas.Bool.{and_parts, and_from, or_parts, or_from, not_from_true, not-false, le-ltb, ltb-false, leb-true, leb-false, eq-eqb, ne_eqb, eqb-true, eqb-false, le-leb, lt-leb}
 use Rattle.std.proofs.lemmas.Bool.Decides.{Decides-eqb}
 use Rattle.std.proofs.lemmas.Slice.Eq.{starts_is}
 use Rattle.fix_framing.specs.Headers.{AreHeaders, header_of, header_size}
@@ -14,7 +14,7 @@ use Rattle.fix_framing.specs.Frames.{before_checksum, checksum_field, IsFrameWit
 use Rattle.fix_framing.proofs.LengthLemmas.{count_of, length-length_digits}
 use Rattle.fix_framing.proofs.TestLemmas.{NoFault, none-from_NoFault, NoFault-from_none}
 use Rattle.fix_framing.proofs.HeaderLemmas.{begins-with, header-whole, header_size-is, begins-header, header-inside}
-use Rattle.fix_framing.proofs.FrameLemmas.{Reads, Reads-rest, Reads-digits, Reads-size, Reads-body, Reads-trailer, Reads-before, Reads-tail, Reads-body_of, length-before, IsFrame-reads}
+use Rattle.fix_framing.proofs.FrameLemmas.{Reads, Reads-rest, Reads-digits, Reads-size, Reads-body, Reads-trailer, Reads-before, Reads-tail, Reads-body_of, length-before, IsFrameWith-reads}
 
 -- a checksum field
 length-field : (cs : List ℕ) → length cs ≡ 3 → length (checksum_field cs) ≡ 7
@@ -67,44 +67,44 @@ Reads-NoFault hs r h ds b cs more are known reads some few bounded three each su
       bad_sum = rw head (not_from_true _ (eq-eqb (digits_value 10 (slice_range (trailer_of (length h) r) 3 6)) (sum (take (trailer_place (length h) r) r) % 256) value));
     }
 
-pub IsFrame-NoFault : (hs : List (List ℕ)) (f b more : List ℕ) → AreHeaders hs → IsFrameWith hs f b → NoFault hs (f ++ more)
-IsFrame-NoFault hs f b more are frame =
+pub IsFrameWith-NoFault : (hs : List (List ℕ)) (f b more : List ℕ) → AreHeaders hs → IsFrameWith hs f b → NoFault hs (f ++ more)
+IsFrameWith-NoFault hs f b more are frame =
     let few = and_parts _ _ frame.few in
     let fewer = and_parts _ _ few.0 in
     let three = and_parts _ _ frame.three in
     let third = and_parts _ _ three.0 in
     let least = leb-true 3 (length frame.sum_digits) third.0 in
     let most = leb-true (length frame.sum_digits) 3 third.1 in
-    Reads-NoFault hs (f ++ more) frame.head frame.length_digits b frame.sum_digits more are frame.known (IsFrame-reads hs f b more frame)
+    Reads-NoFault hs (f ++ more) frame.head frame.length_digits b frame.sum_digits more are frame.known (IsFrameWith-reads hs f b more frame)
     (leb-true 1 (length frame.length_digits) fewer.0) (leb-true (length frame.length_digits) 9 fewer.1) frame.bounded (omega arith) three.1 frame.summed
 
 -- where a message begins, nothing fails, and its size and body are those found
-pub IsFrame-no_fault : (hs : List (List ℕ)) (f b more : List ℕ) → AreHeaders hs → IsFrameWith hs f b → frame_fault_with hs (f ++ more) ≡ None
-IsFrame-no_fault hs f b more are frame = none-from_NoFault hs (f ++ more) (IsFrame-NoFault hs f b more are frame)
+pub IsFrameWith-no_fault : (hs : List (List ℕ)) (f b more : List ℕ) → AreHeaders hs → IsFrameWith hs f b → frame_fault_with hs (f ++ more) ≡ None
+IsFrameWith-no_fault hs f b more are frame = none-from_NoFault hs (f ++ more) (IsFrameWith-NoFault hs f b more are frame)
 
-IsFrame-head : (hs : List (List ℕ)) (f b more : List ℕ) → AreHeaders hs → (frame : IsFrameWith hs f b) → header_size hs (f ++ more) ≡ length frame.head
-IsFrame-head hs f b more are frame =
+IsFrameWith-head : (hs : List (List ℕ)) (f b more : List ℕ) → AreHeaders hs → (frame : IsFrameWith hs f b) → header_size hs (f ++ more) ≡ length frame.head
+IsFrameWith-head hs f b more are frame =
     let tail = checksum_field frame.sum_digits ++ more in
-    let reads = IsFrame-reads hs f b more frame in
+    let reads = IsFrameWith-reads hs f b more frame in
     let regrouped : before_checksum frame.head frame.length_digits b ++ tail ≡ frame.head ++ (frame.length_digits ++ (1 ∷ (b ++ tail))) = simp append_assoc in
     header_size-is hs frame.head (f ++ more) (frame.length_digits ++ (1 ∷ (b ++ tail))) are frame.known (reads.whole ∙ regrouped)
 
-pub IsFrame-body_of : (hs : List (List ℕ)) (f b more : List ℕ) → AreHeaders hs → IsFrameWith hs f b → body_of_with hs (f ++ more) ≡ b
-IsFrame-body_of hs f b more are frame =
-    rw (IsFrame-head hs f b more are frame) (Reads-body_of (f ++ more) frame.head frame.length_digits b (checksum_field frame.sum_digits ++ more) (IsFrame-reads hs f b more frame))
+pub IsFrameWith-body_of : (hs : List (List ℕ)) (f b more : List ℕ) → AreHeaders hs → IsFrameWith hs f b → body_of_with hs (f ++ more) ≡ b
+IsFrameWith-body_of hs f b more are frame =
+    rw (IsFrameWith-head hs f b more are frame) (Reads-body_of (f ++ more) frame.head frame.length_digits b (checksum_field frame.sum_digits ++ more) (IsFrameWith-reads hs f b more frame))
 
-pub IsFrame-body_size : (hs : List (List ℕ)) (f b more : List ℕ) → AreHeaders hs → IsFrameWith hs f b → body_size (header_size hs (f ++ more)) (f ++ more) ≡ length b
-IsFrame-body_size hs f b more are frame =
-    rw (IsFrame-head hs f b more are frame) (Reads-size (f ++ more) frame.head frame.length_digits b (checksum_field frame.sum_digits ++ more) (IsFrame-reads hs f b more frame))
+pub IsFrameWith-body_size : (hs : List (List ℕ)) (f b more : List ℕ) → AreHeaders hs → IsFrameWith hs f b → body_size (header_size hs (f ++ more)) (f ++ more) ≡ length b
+IsFrameWith-body_size hs f b more are frame =
+    rw (IsFrameWith-head hs f b more are frame) (Reads-size (f ++ more) frame.head frame.length_digits b (checksum_field frame.sum_digits ++ more) (IsFrameWith-reads hs f b more frame))
 
-pub IsFrame-size : (hs : List (List ℕ)) (f b more : List ℕ) → AreHeaders hs → IsFrameWith hs f b → frame_size_with hs (f ++ more) ≡ length f
-IsFrame-size hs f b more are frame =
+pub IsFrameWith-size : (hs : List (List ℕ)) (f b more : List ℕ) → AreHeaders hs → IsFrameWith hs f b → frame_size_with hs (f ++ more) ≡ length f
+IsFrameWith-size hs f b more are frame =
     let three = and_parts _ _ frame.three in
     let third = and_parts _ _ three.0 in
     let least = leb-true 3 (length frame.sum_digits) third.0 in
     let most = leb-true (length frame.sum_digits) 3 third.1 in
-    let head = IsFrame-head hs f b more are frame in
-    let place = Reads-trailer (f ++ more) frame.head frame.length_digits b (checksum_field frame.sum_digits ++ more) (IsFrame-reads hs f b more frame) in
+    let head = IsFrameWith-head hs f b more are frame in
+    let place = Reads-trailer (f ++ more) frame.head frame.length_digits b (checksum_field frame.sum_digits ++ more) (IsFrameWith-reads hs f b more frame) in
     let field = length-field frame.sum_digits (omega arith) in
     let all = ap length frame.whole ∙ length-append (before_checksum frame.head frame.length_digits b) (checksum_field frame.sum_digits) in
     let size : trailer_place (length frame.head) (f ++ more) + 7 ≡ length f = omega arith in

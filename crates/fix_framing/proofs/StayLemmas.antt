@@ -9,7 +9,7 @@ use Rattle.std.proofs.lemmas.List.Sums.{prefix_len-le-length}
 use Rattle.std.proofs.lemmas.Bool.{or_parts, le-ltb, ltb-true, ltb-false, leb-true, leb-false, ne_eqb, eqb-true, eqb-false, le-leb}
 use Rattle.fix_framing.specs.declared.frames.FrameFault.{FrameFault}
 use Rattle.fix_framing.specs.declared.frames.FrameFault.TheVariants.{Truncated}
-use Rattle.fix_framing.specs.Headers.{AreHeaders, header_of, header_size, longest_header}
+use Rattle.fix_framing.specs.Headers.{AreHeaders, header_of, header_size}
 use Rattle.fix_framing.specs.Frames.{length_digits, body_size, body_place, trailer_place, trailer_of, has_bad_begin, ends_in_header, has_long_length, ends_in_length, has_bad_length, ends_in_body, is_trailer, has_bad_sum, frame_fault_with, longest_frame_with}
 use Rattle.fix_framing.proofs.LengthLemmas.{count_of, length-length_digits}
 use Rattle.fix_framing.proofs.TestLemmas.{FaultCase, FaultCase-from_some, some-from_FaultCase, first, second, third, fourth, fifth, sixth, seventh, eighth}

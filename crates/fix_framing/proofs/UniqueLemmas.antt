@@ -6,14 +6,14 @@ use Rattle.fix_framing.specs.declared.frames.FrameFault.TheVariants.{Begin, Leng
 use Rattle.fix_framing.specs.Headers.{AreHeaders}
 use Rattle.fix_framing.specs.Frames.{IsFrameWith, body_of_with, frame_size_with, frame_fault_with}
 use Rattle.fix_framing.proofs.TestLemmas.{NoFault-from_none}
-use Rattle.fix_framing.proofs.MessageLemmas.{IsFrame-no_fault, IsFrame-size, IsFrame-body_of, NoFault-IsFrame, NoFault-size}
+use Rattle.fix_framing.proofs.MessageLemmas.{IsFrameWith-no_fault, IsFrameWith-size, IsFrameWith-body_of, NoFault-IsFrame, NoFault-size}
 use Rattle.fix_framing.proofs.StayLemmas.{fault-stays}
 
 -- two messages that begin one text are one
 pub frames-unique : (hs : List (List ℕ)) (f g b c x y : List ℕ) → AreHeaders hs → IsFrameWith hs f b → IsFrameWith hs g c → f ++ x ≡ g ++ y → (f ≡ g) × (b ≡ c) × (x ≡ y)
 frames-unique hs f g b c x y are first second joined =
-    let sizes : length f ≡ length g = sym (IsFrame-size hs f b x are first) ∙ (ap (frame_size_with hs) joined ∙ IsFrame-size hs g c y are second) in
-    let bodies : b ≡ c = sym (IsFrame-body_of hs f b x are first) ∙ (ap (body_of_with hs) joined ∙ IsFrame-body_of hs g c y are second) in (
+    let sizes : length f ≡ length g = sym (IsFrameWith-size hs f b x are first) ∙ (ap (frame_size_with hs) joined ∙ IsFrameWith-size hs g c y are second) in
+    let bodies : b ≡ c = sym (IsFrameWith-body_of hs f b x are first) ∙ (ap (body_of_with hs) joined ∙ IsFrameWith-body_of hs g c y are second) in (
       sym (take_at f x (length f) refl) ∙ (ap (λ xs. take (length f) xs) joined ∙ take_at g y (length f) (sym sizes)),
       bodies,
       sym (drop_at f x (length f) refl) ∙ (ap (λ xs. drop (length f) xs) joined ∙ drop_at g y (length f) (sym sizes)),
@@ -27,7 +27,7 @@ no-proper-prefix hs f more b c are first second = (frames-unique hs f (f ++ more
 absurd-stays : (hs : List (List ℕ)) (p q b : List ℕ) (e : FrameFault) → AreHeaders hs → IsFrameWith hs (p ++ q) b → frame_fault_with hs p ≡ Some e → e ≢ Truncated → ⊥
 absurd-stays hs p q b e are frame fault not_cut =
     let stays = fault-stays hs p q e are fault not_cut in
-    let none = rw append-nil at (IsFrame-no_fault hs (p ++ q) b [] are frame) in
+    let none = rw append-nil at (IsFrameWith-no_fault hs (p ++ q) b [] are frame) in
     cc (sym stays ∙ none)
 
 prefix-by : (hs : List (List ℕ)) (p q b : List ℕ) (found : Option FrameFault) → AreHeaders hs → IsFrameWith hs (p ++ q) b → q ≢ [] → frame_fault_with hs p ≡ found → found ≡ Some Truncated

@@ -1,7 +1,7 @@
 -- Headers: what a message begins with, from `8=` to `9=`. Source: FIX 4.4, BeginString (8) and
 -- BodyLength (9); each version of FIX has a BeginString of its own.
-use Rattle.std.specs.Prelude.{ℕ, ◌<◌, Bool, not, ◌==◌, ◌&&◌, ◌||◌, nat_eq, nat_lt, nat_le, max, List, [], ◌∷◌, ◌++◌, length, map, codes, IsTrue, if◌then◌else◌}
-use Rattle.std.specs.List.{list_all, list_any, starts_with}
+use Rattle.std.specs.Prelude.{ℕ, ◌<◌, Bool, not, ◌==◌, ◌&&◌, ◌||◌, nat_eq, nat_lt, nat_le, max, List, [], ◌∷◌, ◌++◌, length, codes, IsTrue, if◌then◌else◌}
+use Rattle.std.specs.List.{list_all, starts_with}
 use Rattle.audit_base.specs.Sizes.{soh}
 
 -- `8=FIX.4.4`, SOH, `9=`: what every message of FIX 4.4 begins with

@@ -107,3 +107,6 @@ impl Headers for AnyVersion {
         size_among(&HEADERS, text)
     }
 }
+
+#[cfg(test)]
+mod tests;

@@ -1,4 +1,5 @@
-//! The messages of the tests: FIX 4.4 messages whose lengths and sums were worked out by hand.
+//! The messages of the tests, whose lengths and sums were worked out by hand: of FIX 4.4, and last a
+//! message and a day of other versions.
 
 /// A new order: buy 100 at 10.
 pub const M1: &[u8] =
@@ -38,3 +39,18 @@ pub const R2: &[u8] =
 /// `P`, `H`, `Q` and `M2` with CR and LF between them.
 pub const DAY: &[u8] =
     b"8=FIX.4.4\x019=142\x0135=D\x0134=2\x0149=A\x0152=20240102-09:00:00\x0156=X\x0111=1\x01453=2\x01448=P\x01447=D\x01452=1\x01448=Q\x01447=D\x01452=3\x0155=Z\x0154=1\x0138=100\x0140=2\x0144=10\x0159=0\x0160=20240102-09:00:00\x0110=045\x01\r\n8=FIX.4.4\x019=5\x0135=0\x0110=163\x01\r\n8=FIX.4.4\x019=69\x0135=D\x0143=Y\x0149=A\x0111=1\x0160=20240102-09:00:00\x0155=Z\x0154=1\x0138=100\x0140=2\x0144=10\x0110=148\x01\r\n8=FIX.4.4\x019=63\x0135=D\x0149=B\x0111=2\x0160=20240102-09:00:01\x0155=Z\x0154=2\x0138=100\x0140=2\x0144=9\x0110=108\x01";
+
+/// A heartbeat of each version, and where its body begins.
+pub const HEARTBEATS: [(&[u8], usize); 6] = [
+    (b"8=FIX.4.0\x019=5\x0135=0\x0110=159\x01", 14),
+    (b"8=FIX.4.1\x019=5\x0135=0\x0110=160\x01", 14),
+    (b"8=FIX.4.2\x019=5\x0135=0\x0110=161\x01", 14),
+    (b"8=FIX.4.3\x019=5\x0135=0\x0110=162\x01", 14),
+    (H, 14),
+    (b"8=FIXT.1.1\x019=5\x0135=0\x0110=241\x01", 15),
+];
+
+/// A heartbeat of FIX 4.2, a test request of FIXT 1.1, a heartbeat of FIX 4.4 and one of FIXT 1.1,
+/// with CR and LF between them.
+pub const MIXED_DAY: &[u8] =
+    b"8=FIX.4.2\x019=5\x0135=0\x0110=161\x01\r\n8=FIXT.1.1\x019=14\x0135=1\x01112=TEST\x0110=052\x01\r\n8=FIX.4.4\x019=5\x0135=0\x0110=163\x01\r\n8=FIXT.1.1\x019=5\x0135=0\x0110=241\x01";

@@ -18,11 +18,12 @@ use Rattle.fix_framing.specs.Breaks.{is_line_end_byte}
 use Rattle.fix_framing.specs.Frames.{frame_fault, body_of}
 use Rattle.fix_framing.specs.Framing as framing
 use Rattle.fix_framing.specs.Framing.{bytes_held, count_framed, bytes_unframed, next_text, next_offset, GivesFrame, IsNextOffset, RefusesFrame, Waits}
+use Rattle.fix_framing.specs.Headers.{fix44}
 use Rattle.fix_framing.specs.declared.framer.Framer.{Framer}
+use Rattle.fix_framing.specs.declared.headers.Fix44.{Fix44}
 use Rattle.fix_framing.specs.declared.frames.FrameFault.{FrameFault}
 use Rattle.fix_framing.specs.declared.frames.FrameFault.TheVariants.{Truncated}
-use Rattle.fix_framing.proofs.FramerLemmas.{breaks-cut, unfinished-cut}
-use Rattle.fix_framing.proofs.MessageLemmas.{IsFrame-body_of}
+use Rattle.fix_framing.proofs.Fix44Lemmas.{IsFrame-body_of, breaks-cut, unfinished-cut, longest-fix44}
 use Rattle.fix_messages.specs.declared.feeds.FixFeed.{FixFeed}
 use Rattle.fix_messages.specs.declared.meanings.MessageFault.{MessageFault}
 use Rattle.fix_messages.specs.Bodies.{body_says}
@@ -33,7 +34,7 @@ use Rattle.fix_messages.specs.Steps.{TakesNoMessage, TakesMessage, HasLog, IsBad
 use Rattle.fix_messages.proofs.LogLemmas.{framed-count, framed-reads, items-breaks, items-fault, items-frame, prepend, prepend-bad, prepend-ok, read_frames-count, read_frames-more}
 
 -- the bytes fed are those that are framed and those that aren't
-fed-cut : (framer : Framer) (log : List ℕ) (frames : List (List ℕ)) → framing.IsFramerOf framer log frames → log ≡ take (count_framed framer) log ++ bytes_unframed framer
+fed-cut : (framer : Framer Fix44) (log : List ℕ) (frames : List (List ℕ)) → framing.IsFramerOf framer log frames → log ≡ take (count_framed framer) log ++ bytes_unframed framer
 fed-cut framer log frames stands =
     let rest : drop (framer.base + framer.next) log ≡ bytes_unframed framer =
     sym (drop-drop framer.next framer.base log) ∙ ap (λ (t : List ℕ). drop framer.next (drop framer.base t)) stands.whole
@@ -46,7 +47,7 @@ place_after entries start why = record { place = length entries + 1; offset = st
 
 module _ {R : Type 0} (meaning : List TagValue → Result (Option R) MessageFault) where
   -- what a log says of which some messages were read
-  pub reads-on : (entries : List R) (framer : Framer) (log more : List ℕ) (frames : List (List ℕ)) → framing.IsFramerOf framer log frames → read_frames meaning frames ≡ Ok entries
+  pub reads-on : (entries : List R) (framer : Framer Fix44) (log more : List ℕ) (frames : List (List ℕ)) → framing.IsFramerOf framer log frames → read_frames meaning frames ≡ Ok entries
       → read_fix_log meaning (log ++ more) ≡ prepend entries (read_items (body_says meaning) (items_from 0 (count_framed framer) (bytes_unframed framer ++ more)))
   unfolding read_fix_log
   reads-on entries framer log more frames stands good =
@@ -60,7 +61,7 @@ module _ {R : Type 0} (meaning : List TagValue → Result (Option R) MessageFaul
       ∙ ap (λ (k : ℕ). prepend entries (read_items (body_says meaning) (items_from 0 k (bytes_unframed framer ++ more)))) size
 
   -- no record has fewer than nine bytes
-  pub few-records : (entries : List R) (framer : Framer) (log : List ℕ) (frames : List (List ℕ)) → framing.IsFramerOf framer log frames → read_frames meaning frames ≡ Ok entries → 9 * length entries ≤ length log
+  pub few-records : (entries : List R) (framer : Framer Fix44) (log : List ℕ) (frames : List (List ℕ)) → framing.IsFramerOf framer log frames → read_frames meaning frames ≡ Ok entries → 9 * length entries ≤ length log
   few-records entries framer log frames stands good =
       let a = read_frames-count meaning frames entries good in
       let b = framed-count (take (count_framed framer) log) frames stands.framed in
@@ -75,7 +76,7 @@ module _ {R : Type 0} (meaning : List TagValue → Result (Option R) MessageFaul
       record { entries = r.entries; has = r.has; few = omega (arith, few, is.within) }
 
   -- the next message was good
-  pub goes-message : (before after : List R → Type 0) (framer framer' : Framer) (start body to : ℕ) (new : Option R) → GivesFrame framer framer' start body to
+  pub goes-message : (before after : List R → Type 0) (framer framer' : Framer Fix44) (start body to : ℕ) (new : Option R) → GivesFrame fix44 framer framer' start body to
       → body_says meaning (slice_range (bytes_held framer') body to) ≡ Ok new → HandsOnMore before after (option_to_list new)
       → (log : List ℕ) → HasReadMessages before meaning framer log → HasReadMessages after meaning framer' log
   goes-message before after framer framer' start body to new gives says adds log r =
@@ -100,7 +101,7 @@ module _ {R : Type 0} (meaning : List TagValue → Result (Option R) MessageFaul
       ∙ prepend-bad entries (record { place = 1; offset = start; reason = why }) ∙ ap (λ (k : ℕ). Err (record { place = k; offset = start; reason = why })) place
 
   -- the next message is bad
-  pub bad-message : (entries : List R) (framer framer' : Framer) (start body to : ℕ) (why : Reason) → GivesFrame framer framer' start body to
+  pub bad-message : (entries : List R) (framer framer' : Framer Fix44) (start body to : ℕ) (why : Reason) → GivesFrame fix44 framer framer' start body to
       → body_says meaning (slice_range (bytes_held framer') body to) ≡ Err why → (log : List ℕ) (frames : List (List ℕ)) → framing.IsFramerOf framer log frames → read_frames meaning frames ≡ Ok entries
       → (more : List ℕ) → read_fix_log meaning (log ++ more) ≡ Err (place_after entries start why)
   bad-message entries framer framer' start body to why gives says log frames stands good more =
@@ -117,7 +118,7 @@ module _ {R : Type 0} (meaning : List TagValue → Result (Option R) MessageFaul
       ∙ ap (λ (k : ℕ). Err (place_after entries k why)) (sym gives.begins)
 
   -- no message begins at the next place
-  pub bad-frame : (entries : List R) (framer : Framer) (at : ℕ) (fault : FrameFault) (more : List ℕ) → list_all is_line_end_byte (bytes_unframed framer) ≡ false → IsNextOffset framer at
+  pub bad-frame : (entries : List R) (framer : Framer Fix44) (at : ℕ) (fault : FrameFault) (more : List ℕ) → list_all is_line_end_byte (bytes_unframed framer) ≡ false → IsNextOffset fix44 framer at
       → frame_fault (next_text framer ++ more) ≡ Some fault → (log : List ℕ) (frames : List (List ℕ)) → framing.IsFramerOf framer log frames → read_frames meaning frames ≡ Ok entries
       → read_fix_log meaning (log ++ more) ≡ Err (place_after entries at (frame_reason fault))
   bad-frame entries framer at fault more some place fails log frames stands good =
@@ -135,7 +136,7 @@ module _ {R : Type 0} (meaning : List TagValue → Result (Option R) MessageFaul
       ∙ ap (λ (k : ℕ). Err (place_after entries k (frame_reason fault))) same
 
 -- where a fault is none of a message that isn't all there, something is left but CR and LF
-pub some-left : (framer : Framer) (fault : FrameFault) → frame_fault (next_text framer) ≡ Some fault → fault ≢ Truncated → list_all is_line_end_byte (bytes_unframed framer) ≡ false
+pub some-left : (framer : Framer Fix44) (fault : FrameFault) → frame_fault (next_text framer) ≡ Some fault → fault ≢ Truncated → list_all is_line_end_byte (bytes_unframed framer) ≡ false
 some-left framer fault fails other = elim (cases_Bool (list_all is_line_end_byte (bytes_unframed framer))) [
   | inl all ↦
       let cut = breaks-cut (bytes_unframed framer) all in
@@ -144,13 +145,13 @@ some-left framer fault fails other = elim (cases_Bool (list_all is_line_end_byte
 ]
 
 module _ {K R : Type 0} (has_taken : K → List R → Type 0) (meaning : List TagValue → Result (Option R) MessageFault) where
-  pub ends-wait : (old new : FixFeed K) → old.bad ≡ None → new.bad ≡ old.bad → new.entries ≡ old.entries → Waits old.framer new.framer → TakesNoMessage has_taken meaning old new
+  pub ends-wait : (old new : FixFeed K) → old.bad ≡ None → new.bad ≡ old.bad → new.entries ≡ old.entries → Waits fix44 old.framer new.framer → TakesNoMessage has_taken meaning old new
   ends-wait old new good bad entries waits = record {
     stands = λ log r.
         let same : has_taken new.entries r.entries = subst (λ (k : K). has_taken k r.entries) (sym entries) r.has in
         let is_open : HasNoBadMessage (has_taken new.entries) meaning new.framer log = record {
           reads = record { entries = r.entries; has = same; frames = r.frames; stands = waits.keeps log r.frames r.stands; good = r.good };
-          short = waits.bound;
+          short = omega (arith, waits.bound, longest-fix44);
         } in subst (λ (b : Option BadPlace). AreFixFeedFields (has_taken new.entries) meaning new.framer b log) (sym (bad ∙ good)) is_open;
     cut = λ none. ap frame_fault waits.text ∙ unfinished-cut old.framer waits.unfinished;
   }
@@ -164,14 +165,14 @@ module _ {K R : Type 0} (has_taken : K → List R → Type 0) (meaning : List Ta
     cut = λ none. absurd (cc);
   }
 
-  pub ends-fault : (old new : FixFeed K) (framer : Framer) (at : ℕ) (fault : FrameFault) (why : Reason) (bad : BadPlace) → new.bad ≡ Some bad → bytes_held new.framer ≡ [] → RefusesFrame old.framer framer at fault
+  pub ends-fault : (old new : FixFeed K) (framer : Framer Fix44) (at : ℕ) (fault : FrameFault) (why : Reason) (bad : BadPlace) → new.bad ≡ Some bad → bytes_held new.framer ≡ [] → RefusesFrame fix44 old.framer framer at fault
       → why ≡ frame_reason fault → IsBadMessagePlace (has_taken old.entries) at why bad → TakesNoMessage has_taken meaning old new
   ends-fault old new framer at fault why bad is nothing refuses same place =
       shut-ends old new bad is nothing (λ log r more.
       bad-frame meaning r.entries old.framer at fault more (some-left old.framer fault refuses.failing refuses.bad) refuses.place (refuses.stays more) log r.frames r.stands r.good
       ∙ ap (λ (w : Reason). Err (place_after r.entries at w)) (sym same) ∙ ap Err (sym (place r.entries r.has)))
 
-  pub ends-message : (old new : FixFeed K) (framer : Framer) (start body to : ℕ) (why : Reason) (after : K) (bad : BadPlace) → new.bad ≡ Some bad → bytes_held new.framer ≡ [] → GivesFrame old.framer framer start body to
+  pub ends-message : (old new : FixFeed K) (framer : Framer Fix44) (start body to : ℕ) (why : Reason) (after : K) (bad : BadPlace) → new.bad ≡ Some bad → bytes_held new.framer ≡ [] → GivesFrame fix44 old.framer framer start body to
       → TakesSaid (body_says meaning (slice_range (bytes_held framer) body to)) (has_taken old.entries) (has_taken after) (Err why) → IsBadMessagePlace (has_taken after) start why bad → TakesNoMessage has_taken meaning old new
   ends-message old new framer start body to why after bad is nothing gives said place =
       shut-ends old new bad is nothing (λ log r more.
@@ -185,7 +186,7 @@ module _ {K R : Type 0} (has_taken : K → List R → Type 0) (meaning : List Ta
           let same : other ≡ why = cc said.1 in
           (ap Err same, λ entries has. subst after (append-nil entries) (said.0 entries has))
 
-  pub goes-said : (old new : FixFeed K) (start body to : ℕ) (answer : Result (Unit {0}) Reason) → old.bad ≡ None → new.bad ≡ old.bad → GivesFrame old.framer new.framer start body to
+  pub goes-said : (old new : FixFeed K) (start body to : ℕ) (answer : Result (Unit {0}) Reason) → old.bad ≡ None → new.bad ≡ old.bad → GivesFrame fix44 old.framer new.framer start body to
       → TakesSaid (body_says meaning (slice_range (bytes_held new.framer) body to)) (has_taken old.entries) (has_taken new.entries) answer → is_ok answer ≡ true → TakesMessage has_taken meaning old new
   goes-said old new start body to answer good bad gives said ok =
       let t = said-good (body_says meaning (slice_range (bytes_held new.framer) body to)) (has_taken old.entries) (has_taken new.entries) answer said ok in
@@ -263,7 +264,7 @@ module _ {K R : Type 0} (has_taken : K → List R → Type 0) (meaning : List Ta
         let few = few-records meaning r.entries new.framer within.log r.frames r.stands r.good in
         record { entries = r.entries; has = r.has; few = omega (arith, few, within.within) }
 
-    pub ends-cut : (at : ℕ) (bad : BadPlace) (log : List ℕ) → new.bad ≡ None → IsNextOffset new.framer at → ¬ IsTrue (list_all is_line_end_byte (bytes_unframed new.framer))
+    pub ends-cut : (at : ℕ) (bad : BadPlace) (log : List ℕ) → new.bad ≡ None → IsNextOffset fix44 new.framer at → ¬ IsTrue (list_all is_line_end_byte (bytes_unframed new.framer))
         → IsBadMessagePlace (has_taken new.entries) at reason.Truncated bad → IsFixFeedOf has_taken meaning old log → read_fix_log meaning log ≡ Err bad
     ends-cut at bad log good next some place stood =
         let r = ended log good stood in
@@ -276,7 +277,7 @@ module _ {K R : Type 0} (has_taken : K → List R → Type 0) (meaning : List Ta
         not-all false some = refl
 
   -- a piece was handed to the framer
-  pub fed-reads : (old new : FixFeed K) (piece log : List ℕ) → new.entries ≡ old.entries → framing.FeedsPiece old.framer new.framer piece
+  pub fed-reads : (old new : FixFeed K) (piece log : List ℕ) → new.entries ≡ old.entries → framing.FeedsPiece fix44 old.framer new.framer piece
       → HasReadMessages (has_taken old.entries) meaning old.framer log → HasReadMessages (has_taken new.entries) meaning new.framer (log ++ piece)
   fed-reads old new piece log same feeds r = record {
     entries = r.entries;
@@ -286,7 +287,7 @@ module _ {K R : Type 0} (has_taken : K → List R → Type 0) (meaning : List Ta
     good = r.good;
   }
 
-  pub fed-room : (old new : FixFeed K) (piece : List ℕ) → old.bad ≡ None → new.entries ≡ old.entries → framing.FeedsPiece old.framer new.framer piece
+  pub fed-room : (old new : FixFeed K) (piece : List ℕ) → old.bad ≡ None → new.entries ≡ old.entries → framing.FeedsPiece fix44 old.framer new.framer piece
       → HasRoom (IsFixFeedOf has_taken meaning) old piece → HasLog has_taken meaning new
   fed-room old new piece none same feeds room = record {
     log = room.bytes ++ piece;

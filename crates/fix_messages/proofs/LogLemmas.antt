@@ -8,11 +8,12 @@ use Rattle.audit_base.specs.declared.faults.Reason.{Reason}
 use Rattle.audit_base.specs.declared.faults.BadPlace.{BadPlace}
 use Rattle.fix_fields.specs.Grammar.{TagValue}
 use Rattle.fix_framing.specs.Breaks.{is_line_end_byte, after_breaks}
-use Rattle.fix_framing.specs.Frames.{before_checksum, checksum_field, header, IsFrame, frame_fault, frame_size, body_of}
+use Rattle.fix_framing.specs.Headers.{header}
+use Rattle.fix_framing.specs.Frames.{before_checksum, checksum_field, IsFrame, frame_fault, frame_size, body_of}
 use Rattle.fix_framing.specs.Framing.{IsFramed}
 use Rattle.fix_framing.specs.declared.frames.FrameFault.{FrameFault}
 use Rattle.fix_framing.proofs.FrameLemmas.{length-before}
-use Rattle.fix_framing.proofs.MessageLemmas.{IsFrame-no_fault, IsFrame-body_of, IsFrame-size}
+use Rattle.fix_framing.proofs.Fix44Lemmas.{IsFrame-whole, IsFrame-no_fault, IsFrame-body_of, IsFrame-size}
 use Rattle.fix_messages.specs.declared.meanings.MessageFault.{MessageFault}
 use Rattle.fix_messages.specs.Bodies.{body_says}
 use Rattle.fix_messages.specs.Feeds.{after_frame, read_frames}
@@ -44,7 +45,7 @@ items-other at byte rest other =
 -- a message begins with `8`
 pub frame-first : (frame body : List ℕ) → IsFrame frame body → (tail : List ℕ) × (frame ≡ 56 ∷ tail)
 unfolding header
-frame-first frame body is = (_, is.whole)
+frame-first frame body is = (_, IsFrame-whole frame body is)
 
 items-message : (at : ℕ) (tail rest body : List ℕ) → IsFrame (56 ∷ tail) body
     → items_from 0 at (56 ∷ (tail ++ rest)) ≡ record { start = at; body = Ok body } ∷ items_from 0 (at + length (56 ∷ tail)) rest
@@ -185,7 +186,7 @@ module _ {R : Type 0} (meaning : List TagValue → Result (Option R) MessageFaul
 -- a frame has the bytes of its header and its checksum field, and more
 pub frame-size : (frame body : List ℕ) → IsFrame frame body → 9 ≤ length frame
 frame-size frame body is =
-    omega (arith, ap length is.whole, length-append (before_checksum is.length_digits body) (checksum_field is.sum_digits), length-before is.length_digits body)
+    omega (arith, ap length is.whole, length-append (before_checksum is.head is.length_digits body) (checksum_field is.sum_digits), length-before is.head is.length_digits body)
 
 -- so frames have at least nine bytes each
 pub framed-count : (front : List ℕ) (frames : List (List ℕ)) → IsFramed front frames → 9 * length frames ≤ length front

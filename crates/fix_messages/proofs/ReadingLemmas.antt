@@ -10,8 +10,7 @@ use Rattle.audit_base.specs.declared.faults.BadPlace.{BadPlace}
 use Rattle.fix_fields.specs.Grammar.{TagValue}
 use Rattle.fix_framing.specs.Breaks.{is_line_end_byte, after_breaks}
 use Rattle.fix_framing.specs.Frames.{IsFrame, frame_fault, frame_size, body_of}
-use Rattle.fix_framing.proofs.TestLemmas.{NoFault-from_none}
-use Rattle.fix_framing.proofs.MessageLemmas.{NoFault-IsFrame}
+use Rattle.fix_framing.proofs.Fix44Lemmas.{IsFrame-from_none}
 use Rattle.fix_messages.specs.declared.meanings.MessageFault.{MessageFault}
 use Rattle.fix_messages.specs.Bodies.{body_says}
 use Rattle.fix_messages.specs.Logs.{AreMessages, HasBadBody, HasRecords, IsBadFixLog, IsGoodFixLog, IsOnlyFixReading, LacksFrame, after_item, begins_past_breaks, frame_reason, items_from, read_items, read_fix_log, with_record_of_message}
@@ -176,7 +175,7 @@ module _ {R : Type 0} (meaning : List TagValue → Result (Option R) MessageFaul
   outcome-message log gap left cut breaks begins none later =
       let frame = take (frame_size left) left in
       let rest = drop (frame_size left) left in
-      let message = NoFault-IsFrame left (NoFault-from_none left none) in
+      let message = IsFrame-from_none left none in
       let split : left ≡ frame ++ rest = sym (take-append-drop (frame_size left) left) in
       let first = frame-first frame (body_of left) message in
       let some : length frame ≡ suc (length first.0) = ap length first.1 in

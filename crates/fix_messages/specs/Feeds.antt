@@ -9,6 +9,7 @@ use Rattle.log_source.specs.Sources.{longest_read}
 use Rattle.fix_framing.specs.Frames.{body_of, longest_frame}
 use Rattle.fix_framing.specs.Framing as framing
 use Rattle.fix_framing.specs.declared.framer.Framer.{Framer}
+use Rattle.fix_framing.specs.declared.headers.Fix44.{Fix44}
 use Rattle.fix_messages.specs.declared.feeds.FixFeed.{FixFeed}
 use Rattle.fix_messages.specs.Bodies.{MessageMeaning, body_says}
 use Rattle.fix_messages.specs.Logs.{read_fix_log}
@@ -30,7 +31,7 @@ read_frames meaning (frame ∷ frames) =
 -- The framer stands for this log with some frames, each of them means a record or nothing, and
 -- their records have been handed on in order.
 pub record HasReadMessages {R : Type 0} (has_taken : List R → Type 0) (meaning : MessageMeaning R)
-    (framer : Framer) (log : List ℕ) : Type 0 where
+    (framer : Framer Fix44) (log : List ℕ) : Type 0 where
   pub entries : List R
   pub has : has_taken entries
   pub frames : List (List ℕ)
@@ -39,18 +40,18 @@ pub record HasReadMessages {R : Type 0} (has_taken : List R → Type 0) (meaning
 
 -- No bad message has come yet, and no more is held than a message that isn't all there.
 pub record HasNoBadMessage {R : Type 0} (has_taken : List R → Type 0) (meaning : MessageMeaning R)
-    (framer : Framer) (log : List ℕ) : Type 0 where
+    (framer : Framer Fix44) (log : List ℕ) : Type 0 where
   pub reads : HasReadMessages has_taken meaning framer log
   pub short : length (framing.bytes_held framer) < longest_frame
 
 -- The log and every longer log that begins with it are bad at this place, and no bytes are held.
-pub record StopsAtBadMessage {R : Type 0} (meaning : MessageMeaning R) (framer : Framer)
+pub record StopsAtBadMessage {R : Type 0} (meaning : MessageMeaning R) (framer : Framer Fix44)
     (bad : BadPlace) (log : List ℕ) : Type 0 where
   pub is_bad : (more : List ℕ) → read_fix_log meaning (log ++ more) ≡ Err bad
   pub nothing : framing.bytes_held framer ≡ []
 
 -- these fields of a feed stand for this log
-abbrev pub AreFixFeedFields : {R : Type 0} → (List R → Type 0) → MessageMeaning R → Framer
+abbrev pub AreFixFeedFields : {R : Type 0} → (List R → Type 0) → MessageMeaning R → Framer Fix44
     → Option BadPlace → List ℕ → Type 0
 AreFixFeedFields has_taken meaning framer None log = HasNoBadMessage has_taken meaning framer log
 AreFixFeedFields has_taken meaning framer (Some bad) log = StopsAtBadMessage meaning framer bad log

@@ -15,6 +15,7 @@ use audit_base::stamp_reader::StampReader;
 use fix_fields::notes::TagNotes;
 use fix_framing::framer::{Framer, Step};
 use fix_framing::frames::FrameFault;
+use fix_framing::headers::Fix44;
 use log_source::collector::Collector;
 use log_source::feed::Feed;
 use std::alloc::Global;
@@ -26,7 +27,7 @@ use std::alloc::Global;
 pub struct FixFeed<K> {
     pub alloc: Global,
     /// The bytes of the message that isn't all there.
-    pub framer: Framer,
+    pub framer: Framer<Fix44>,
     /// What has been handed the records of the messages before it, in order.
     pub entries: K,
     /// The first bad message.

@@ -2,29 +2,51 @@ ghost use Rattle.std.specs.Prelude.{ℕ, ◌<◌, ◌≤◌, List, length};
 ghost use Rattle.fix_framing.specs.Framing.{FramerHasRoom};
 
 use super::*;
-use crate::vectors::{DAY, M2};
+use crate::headers::{AnyVersion, Fix44};
+use crate::vectors::{DAY, M2, MIXED_DAY};
 use std::process::Abort;
 
-/// The messages of the day: where each begins, and from where to where its body runs.
-const MESSAGES: [(u64, usize, usize); 4] = [
-    (0, 16, 158),
-    (167, 181, 186),
-    (195, 210, 279),
-    (288, 303, 366),
-];
+/// A log of four messages: where each begins, and from where to where its body runs.
+struct Log<'a> {
+    text: &'a [u8],
+    messages: [(u64, usize, usize); 4],
+}
 
-/// Takes all messages that are whole, each one the next of the day, after `given` of them.
-fn take_messages(rt: &impl Abort, framer: &mut Framer, given: usize) -> usize
-    ensures { (piece : List ℕ) → FramerHasRoom framer.old piece → FramerHasRoom framer.new piece }
+/// The day of FIX 4.4.
+const ONE_VERSION: Log<'static> = Log {
+    text: DAY,
+    messages: [
+        (0, 16, 158),
+        (167, 181, 186),
+        (195, 210, 279),
+        (288, 303, 366),
+    ],
+};
+
+/// The day whose messages differ in version.
+const MIXED: Log<'static> = Log {
+    text: MIXED_DAY,
+    messages: [(0, 14, 19), (28, 44, 58), (67, 81, 86), (95, 110, 115)],
+};
+
+/// Takes all messages that are whole, each one the next of the log, after `given` of them.
+fn take_messages<H: Headers>(
+    rt: &impl Abort,
+    framer: &mut Framer<H>,
+    log: &Log<'_>,
+    given: usize,
+) -> usize
+    ensures { (piece : List ℕ) → FramerHasRoom H.headers framer.old piece
+        → FramerHasRoom H.headers framer.new piece }
 {
     let mut given = given;
     'messages: loop {
         match framer.next_frame() {
             Step::Whole { start, body, to } => {
                 assert!(rt; given < 4);
-                let (offset, from, end) = MESSAGES[given];
+                let (offset, from, end) = log.messages[given];
                 assert_eq!(rt; start, offset);
-                assert!(rt; DAY.get(from..end) == framer.held().get(body..to));
+                assert!(rt; log.text.get(from..end) == framer.held().get(body..to));
                 given += 1;
             }
             Step::Wait => return given,
@@ -33,21 +55,22 @@ fn take_messages(rt: &impl Abort, framer: &mut Framer, given: usize) -> usize
     }
 }
 
-/// Feeds the text in pieces of this size, and gives how many messages it has.
-fn feed_in_pieces(rt: &(impl AllocGlobal + Abort), text: &[u8], size: usize) -> usize
+/// Feeds the log in pieces of this size, and gives how many messages it has.
+fn feed_in_pieces<H: Headers>(rt: &(impl AllocGlobal + Abort), log: &Log<'_>, size: usize) -> usize
     requires some { 0 < size }
-    requires most { length text.now ≤ 67108864 }
+    requires most { length log.now.text.now ≤ 67108864 }
 {
-    let mut framer = Framer::new(rt.alloc());
+    let mut framer = Framer::<H>::new(rt.alloc());
     let mut given = 0;
     let mut from = 0;
+    let text = log.text;
     'pieces: while from < text.len() {
         let count = size.min(text.len() - from);
         let Ok(()) = framer.feed(&text[from..from + count]) else {
             panic!(rt; "out of memory");
         };
         from += count;
-        given = take_messages(rt, &mut framer, given);
+        given = take_messages(rt, &mut framer, log, given);
         // What is held is the message that isn't all there.
         assert!(rt; framer.held().len() < 165);
     }
@@ -58,7 +81,14 @@ fn feed_in_pieces(rt: &(impl AllocGlobal + Abort), text: &[u8], size: usize) -> 
 #[test]
 fn a_day_is_framed_in_pieces_of_every_size(rt: HostRuntime) {
     for size in 1..=DAY.len() {
-        assert_eq!(rt; feed_in_pieces(&rt, DAY, size), 4);
+        assert_eq!(rt; feed_in_pieces::<Fix44>(&rt, &ONE_VERSION, size), 4);
+    }
+}
+
+#[test]
+fn a_day_of_several_versions_is_framed(rt: HostRuntime) {
+    for size in 1..=MIXED_DAY.len() {
+        assert_eq!(rt; feed_in_pieces::<AnyVersion>(&rt, &MIXED, size), 4);
     }
 }
 
@@ -69,10 +99,11 @@ fn a_framer_is_its_fields(rt: HostRuntime) {
         assert!(rt; false, "memory");
         return;
     };
-    let mut framer = Framer {
+    let mut framer = Framer::<Fix44> {
         bytes,
         base: 86,
         next: 0,
+        headers: PhantomData,
     };
     assert_eq!(rt; framer.feed(&M2[5..]), Ok(()));
     assert_eq!(rt;

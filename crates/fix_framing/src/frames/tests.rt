@@ -1,4 +1,5 @@
 use super::*;
+use crate::headers::Fix44;
 use crate::vectors::{H, M1, M2, M3, M4, P, Q, R1, R2};
 use std::process::Abort;
 
@@ -42,7 +43,7 @@ fn messages_are_found_whole(rt: HostRuntime) {
             body,
             end,
         };
-        assert_eq!(rt; frame_at(text, 0), Ok(want), "{body} {end}");
+        assert_eq!(rt; frame_at::<Fix44>(text, 0), Ok(want), "{body} {end}");
     }
 }
 
@@ -110,14 +111,14 @@ const DAMAGED: [(&[u8], usize, FrameFault); 20] = [
 fn damaged_messages_give_the_first_failing_test(rt: HostRuntime) {
     for &(text, at, fault) in &DAMAGED {
         assert!(rt; at <= text.len());
-        assert_eq!(rt; frame_at(text, at), Err(fault));
+        assert_eq!(rt; frame_at::<Fix44>(text, at), Err(fault));
     }
 }
 
 /// Each proper prefix of the message is truncated.
 fn assert_prefixes_truncated(rt: &impl Abort, message: &[u8]) {
     for size in 0..message.len() {
-        assert!(rt; frame_at(&message[..size], 0) == Err(FrameFault::Truncated));
+        assert!(rt; frame_at::<Fix44>(&message[..size], 0) == Err(FrameFault::Truncated));
     }
 }
 
@@ -138,5 +139,5 @@ fn a_message_is_found_behind_others(rt: HostRuntime) {
     let mut log = [0u8; 171];
     log[..86].copy_from_slice(M1);
     log[86..].copy_from_slice(M2);
-    assert_eq!(rt; frame_at(&log, 86), Ok(want));
+    assert_eq!(rt; frame_at::<Fix44>(&log, 86), Ok(want));
 }

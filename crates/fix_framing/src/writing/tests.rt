@@ -1,5 +1,6 @@
 use super::*;
 use crate::frames::{Frame, frame_at};
+use crate::headers::Fix44;
 use crate::vectors::{H, M1, P, R1};
 
 #[test]
@@ -28,6 +29,6 @@ fn the_longest_body_is_written_and_found(rt: HostRuntime) {
         body: 20,
         end: 1_048_603,
     };
-    assert_eq!(rt; frame_at(&out, 0), Ok(want));
+    assert_eq!(rt; frame_at::<Fix44>(&out, 0), Ok(want));
     assert!(rt; out.ends_with(b"A10=007\x01"));
 }

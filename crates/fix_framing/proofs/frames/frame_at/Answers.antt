@@ -1,12 +1,12 @@
 use Rattle.std.proofs.Common.{arith}
 use Rattle.std.proofs.lemmas.List.{take_rest}
-use Rattle.fix_framing.proofs.MessageLemmas.{found-at, IsFrame-no_fault, IsFrame-size, IsFrame-body_size}
+use Rattle.fix_framing.proofs.MessageLemmas.{found-at, IsFrameWith-no_fault, IsFrameWith-size, IsFrameWith-body_size}
 use Rattle.fix_framing.proofs.frames.frame_at.Goals as goal
 
 pub returns-in_err-places-clause-only : goal.returns-in_err-places-clause-only
 returns-in_err-places-clause-only g c =
     λ text body more frame whole.
-    let none = IsFrame-no_fault g.H.Headers.headers text body more c.are_headers.ensures frame in
+    let none = IsFrameWith-no_fault g.H.Headers.headers text body more c.are_headers.ensures frame in
     let fault = rw (take_rest c.args.bytes.now c.args.at, whole, none) at c.in_err-places.ensures.err in
     absurd (cc)
 
@@ -19,6 +19,6 @@ pub returns-clause-only : goal.returns-clause-only
 returns-clause-only g c =
     λ text body more frame whole.
     let places = rw (take_rest c.args.bytes.now c.args.at, whole) at c.in_ok-places.ensures.ok in
-    let all = IsFrame-size g.H.Headers.headers text body more c.are_headers.ensures frame in
-    let part = IsFrame-body_size g.H.Headers.headers text body more c.are_headers.ensures frame in
+    let all = IsFrameWith-size g.H.Headers.headers text body more c.are_headers.ensures frame in
+    let part = IsFrameWith-body_size g.H.Headers.headers text body more c.are_headers.ensures frame in
     (omega arith, omega arith)

@@ -1,6 +1,7 @@
 use Rattle.std.proofs.Common.{◌∙◌, sym, arith}
 use Rattle.std.proofs.lemmas.Result.{err_from_is_err_and}
-use Rattle.fix_framing.proofs.HeaderLemmas.{passed-header, header-inside, header-few}
+use Rattle.fix_framing.proofs.HeaderLemmas.{header-inside, header-few}
+use Rattle.fix_framing.proofs.HeaderTestLemmas.{passed-header}
 use Rattle.fix_framing.proofs.TestLemmas.{fault-header, fault-length, fault-trailer}
 use Rattle.fix_framing.proofs.frames.message_places.Goals as goal
 

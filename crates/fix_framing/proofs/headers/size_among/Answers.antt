@@ -1,6 +1,6 @@
 use denote.Ref.{Bor}
 use Rattle.std.proofs.Common.{ℕ, List, [], sym, ◌∙◌}
-use Rattle.fix_framing.proofs.HeaderLemmas.{among-size, among-found, among-cut, among-other}
+use Rattle.fix_framing.proofs.HeaderTestLemmas.{among-size, among-found, among-cut, among-other}
 use Rattle.fix_framing.proofs.headers.size_among.Goals as goal
 
 pub returns-in-Some-clause-size : goal.returns-in-Some-clause-size

@@ -1,6 +1,6 @@
 use Rattle.std.proofs.Common.{sym, ◌∙◌}
 use Rattle.fix_framing.specs.Headers.{header}
-use Rattle.fix_framing.proofs.HeaderLemmas.{fix44-size, fix44-found, fix44-cut}
+use Rattle.fix_framing.proofs.HeaderTestLemmas.{fix44-size, fix44-found, fix44-cut}
 use Rattle.fix_framing.proofs.headers.Fix44Headers.header_size.Goals as goal
 
 pub returns-then-starts_with-clause-size : goal.returns-then-starts_with-clause-size
