@@ -16,6 +16,10 @@ use Rattle.fix_framing.proofs.FramerLemmas as framer_of
 pub IsFrame-whole : (f b : List ℕ) (frame : IsFrame f b) → f ≡ before_checksum header frame.length_digits b ++ checksum_field frame.sum_digits
 IsFrame-whole f b frame = frame.whole ∙ ap (λ (head : List ℕ). before_checksum head frame.length_digits b ++ checksum_field frame.sum_digits) (fix44-head frame.head frame.known)
 
+-- its header has 12 bytes
+pub IsFrame-head : (f b : List ℕ) (frame : IsFrame f b) → length frame.head ≡ 12
+IsFrame-head f b frame = ap length (fix44-head frame.head frame.known) ∙ length-header
+
 pub IsFrame-no_fault : (f b more : List ℕ) → IsFrame f b → frame_fault (f ++ more) ≡ None
 IsFrame-no_fault f b more frame = IsFrameWith-no_fault fix44 f b more fix44-headers frame
 

@@ -72,12 +72,13 @@ trailer_place n r = body_place n r + body_size n r
 abbrev pub trailer_of : ℕ → List ℕ → List ℕ
 trailer_of n r = take 7 (drop (trailer_place n r) r)
 
--- the body
+-- the body, where r begins with one of these headers
 abbrev pub body_of_with : List (List ℕ) → List ℕ → List ℕ
 body_of_with headers r =
     let n = header_size headers r in
     take (body_size n r) (drop (body_place n r) r)
 
+-- the body, where r begins with the header of FIX 4.4
 abbrev pub body_of : List ℕ → List ℕ
 body_of r = body_of_with fix44 r
 
@@ -85,6 +86,7 @@ body_of r = body_of_with fix44 r
 abbrev pub frame_size_with : List (List ℕ) → List ℕ → ℕ
 frame_size_with headers r = trailer_place (header_size headers r) r + 7
 
+-- the same of a message of FIX 4.4
 abbrev pub frame_size : List ℕ → ℕ
 frame_size r = frame_size_with fix44 r
 
@@ -139,29 +141,36 @@ first_failing ((fails, fault) ∷ more) = if fails then Some fault else first_fa
 
 -- the tests in their order: those of the header, of the body's length, and of the rest
 abbrev pub header_tests : List (List ℕ) → List ℕ → List (Bool × FrameFault)
-header_tests headers r = (has_bad_begin headers r, Begin) ∷ (ends_in_header headers r, Truncated) ∷ []
+header_tests headers r =
+    (has_bad_begin headers r, Begin) ∷ (ends_in_header headers r, Truncated) ∷ []
 
 abbrev pub length_tests : ℕ → List ℕ → List (Bool × FrameFault)
 length_tests n r =
-    (has_long_length n r, Length) ∷ (ends_in_length n r, Truncated) ∷ (has_bad_length n r, Length) ∷ []
+    (has_long_length n r, Length) ∷ (ends_in_length n r, Truncated)
+    ∷ (has_bad_length n r, Length) ∷ []
 
 abbrev pub trailer_tests : ℕ → List ℕ → List (Bool × FrameFault)
 trailer_tests n r =
-    (ends_in_body n r, Truncated) ∷ (has_bad_trailer n r, Trailer) ∷ (has_bad_sum n r, Checksum) ∷ []
+    (ends_in_body n r, Truncated) ∷ (has_bad_trailer n r, Trailer)
+    ∷ (has_bad_sum n r, Checksum) ∷ []
 
 abbrev pub frame_tests : List (List ℕ) → List ℕ → List (Bool × FrameFault)
 frame_tests headers r =
     let n = header_size headers r in
     header_tests headers r ++ length_tests n r ++ trailer_tests n r
 
--- FrameFault: the fault of the first test that r fails, or nothing where a message begins at r
+-- the fault of the first test that r fails, or nothing where r begins with a message whose header
+-- is one of these
 unfoldable pub frame_fault_with : List (List ℕ) → List ℕ → Option FrameFault
 frame_fault_with headers r = first_failing (frame_tests headers r)
 
+-- FrameFault: the fault of the first test that r fails, or nothing where a message of FIX 4.4
+-- begins at r
 abbrev pub frame_fault : List ℕ → Option FrameFault
 frame_fault r = frame_fault_with fix44 r
 
--- the bytes from start to end are a message, whose body runs from `body` to `end - 7`
+-- the bytes from start to end are a message with one of these headers, whose body runs from
+-- `body` to `end - 7`
 pub record IsFrameAt (headers : List (List ℕ)) (bytes : List ℕ) (at : ℕ) (frame : Frame)
     : Type 0 where
   pub begins : frame.start ≡ at

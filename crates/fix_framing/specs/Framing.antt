@@ -31,7 +31,8 @@ next_text framer = after_breaks (bytes_unframed framer)
 abbrev pub next_offset : {H : Type 0} → Framer H → ℕ
 next_offset framer = framer.base + length (bytes_held framer) - length (next_text framer)
 
--- the text is these frames in order, with only CR and LF bytes around them
+-- the text is these frames in order, each with one of these headers, with only CR and LF bytes
+-- around them
 abbrev pub IsFramedWith : List (List ℕ) → List ℕ → List (List ℕ) → Type 0
 IsFramedWith headers text [] = IsTrue (list_all is_line_end_byte text)
 IsFramedWith headers text (frame ∷ more) =
@@ -39,6 +40,7 @@ IsFramedWith headers text (frame ∷ more) =
     × IsTrue (list_all is_line_end_byte gap) × IsFrameWith headers frame body
     × (text ≡ gap ++ (frame ++ rest)) × IsFramedWith headers rest more
 
+-- the text is these frames of FIX 4.4 in order, with only CR and LF bytes around them
 abbrev pub IsFramed : List ℕ → List (List ℕ) → Type 0
 IsFramed text frames = IsFramedWith fix44 text frames
 
@@ -53,6 +55,7 @@ pub record IsFramerWith {H : Type 0} (headers : List (List ℕ)) (framer : Frame
   pub within : count_framed framer ≤ length fed
   pub framed : IsFramedWith headers (take (count_framed framer) fed) frames
 
+-- the framer stands for these bytes fed and these frames of FIX 4.4
 abbrev pub IsFramerOf : {H : Type 0} → Framer H → List ℕ → List (List ℕ) → Type 0
 IsFramerOf framer fed frames = IsFramerWith fix44 framer fed frames
 

@@ -89,11 +89,12 @@ impl<H: Headers> Framer<H> {
     pub fn next_frame(&mut self) -> Step
         ensures answers { StepSays H.headers self.old self.new result }
         // Each answer comes exactly where the bytes say so.
-        ensures whole { IsWholeFrame result ↔ (frame_fault_with H.headers (next_text self.old) ≡ None) }
+        ensures whole { IsWholeFrame result
+            ↔ (frame_fault_with H.headers (next_text self.old) ≡ None) }
         ensures waits { (result ≡ Step.Wait) ↔ IsUnfinished H.headers self.old }
         ensures refuses { (at : ℕ) (fault : FrameFault) → (result ≡ Step.Fault at fault)
-            ↔ ((frame_fault_with H.headers (next_text self.old) ≡ Some fault) × (fault ≢ FrameFault.Truncated)
-            × (at ≡ next_offset self.old)) }
+            ↔ ((frame_fault_with H.headers (next_text self.old) ≡ Some fault)
+            × (fault ≢ FrameFault.Truncated) × (at ≡ next_offset self.old)) }
     {
         H::are_headers();
         let at = skip_breaks(&self.bytes, self.next);

@@ -85,7 +85,8 @@ fn length_window(text: &[u8], header: usize) -> &[u8]
 fn length_field(text: &[u8], header: usize) -> Result<usize, FrameFault>
     requires { header ≤ length text.now }
     ensures ok { IfOk result (λ digits. IsLengthField (drop header text.now) digits) }
-    ensures err { IfErr result (λ fault. first_failing (length_tests header text.now) ≡ Some fault) }
+    ensures err { IfErr result (λ fault.
+        first_failing (length_tests header text.now) ≡ Some fault) }
 {
     let window = length_window(text, header);
     match memchr(SOH, window) {
@@ -129,7 +130,8 @@ fn body_length(text: &[u8], header: usize) -> Result<BodyLength, FrameFault>
     requires { header ≤ length text.now }
     ensures ok { IfOk result (λ l. IsLengthField (drop header text.now) l.digits
         × (l.size ≡ digits_value 10 (take l.digits (drop header text.now)))) }
-    ensures err { IfErr result (λ fault. first_failing (length_tests header text.now) ≡ Some fault) }
+    ensures err { IfErr result (λ fault.
+        first_failing (length_tests header text.now) ≡ Some fault) }
 {
     if is_length_of(text, header, 3) {
         let size = size_of(text, header, 3);
@@ -154,7 +156,8 @@ fn find_places(text: &[u8], header: usize) -> Result<Places, FrameFault>
     ensures ok { IfOk result (λ p. (first_failing (length_tests header text.now) ≡ None)
         × (p.body ≡ body_place header text.now) × (p.trailer ≡ trailer_place header text.now)) }
     ensures most { IfOk result (λ p. p.trailer ≤ 1048599) }
-    ensures err { IfErr result (λ fault. first_failing (length_tests header text.now) ≡ Some fault) }
+    ensures err { IfErr result (λ fault.
+        first_failing (length_tests header text.now) ≡ Some fault) }
 {
     let length = body_length(text, header)?;
     if length.size > LONGEST_BODY {

@@ -1,11 +1,10 @@
 //! What a message begins with: `8=`, the name of a version, SOH, `9=`. FIX 4.4, BeginString (8) and
 //! BodyLength (9).
 //!
-//! Which versions a log may have is a type: `Fix44` is FIX 4.4 alone, `AnyVersion` is FIX 4.0 to 4.4
-//! and FIXT 1.1, message by message.
-ghost use Rattle.std.specs.Prelude.{◌≡◌, ℕ, List, length, map, Some, None, IfOk, IfSome};
+//! Which versions a log may have is a type: `Fix44` is FIX 4.4 alone, `AnyVersion` is FIX 4.0 to
+//! 4.4 and FIXT 1.1, message by message.
+ghost use Rattle.std.specs.Prelude.{◌≡◌, ℕ, List, map, nat_eq, IfOk};
 ghost use Rattle.std.specs.List.{list_any, position, starts_with};
-ghost use Rattle.std.specs.Prelude.{nat_eq, nat_lt};
 ghost use Rattle.std.specs.Result.{result_err};
 ghost use Rattle.fix_framing.specs.Headers.{AreHeaders, header_size, fix44, any_version};
 ghost use Rattle.fix_framing.specs.Frames.{header_tests, first_failing};

@@ -1,5 +1,5 @@
-//! The messages of the tests, whose lengths and sums were worked out by hand: of FIX 4.4, and last a
-//! message and a day of other versions.
+//! The messages of the tests, whose lengths and sums were worked out apart from this code: of
+//! FIX 4.4, and last a message of each version and a day of several.
 
 /// A new order: buy 100 at 10.
 pub const M1: &[u8] =

@@ -13,7 +13,7 @@ use Rattle.fix_framing.specs.Frames.{before_checksum, checksum_field, IsFrame, f
 use Rattle.fix_framing.specs.Framing.{IsFramed}
 use Rattle.fix_framing.specs.declared.frames.FrameFault.{FrameFault}
 use Rattle.fix_framing.proofs.FrameLemmas.{length-before}
-use Rattle.fix_framing.proofs.Fix44Lemmas.{IsFrame-whole, IsFrame-no_fault, IsFrame-body_of, IsFrame-size}
+use Rattle.fix_framing.proofs.Fix44Lemmas.{IsFrame-whole, IsFrame-head, IsFrame-no_fault, IsFrame-body_of, IsFrame-size}
 use Rattle.fix_messages.specs.declared.meanings.MessageFault.{MessageFault}
 use Rattle.fix_messages.specs.Bodies.{body_says}
 use Rattle.fix_messages.specs.Feeds.{after_frame, read_frames}
@@ -186,7 +186,7 @@ module _ {R : Type 0} (meaning : List TagValue → Result (Option R) MessageFaul
 -- a frame has the bytes of its header and its checksum field, and more
 pub frame-size : (frame body : List ℕ) → IsFrame frame body → 9 ≤ length frame
 frame-size frame body is =
-    omega (arith, ap length is.whole, length-append (before_checksum is.head is.length_digits body) (checksum_field is.sum_digits), length-before is.head is.length_digits body)
+    omega (arith, ap length is.whole, length-append (before_checksum is.head is.length_digits body) (checksum_field is.sum_digits), length-before is.head is.length_digits body, IsFrame-head frame body is)
 
 -- so frames have at least nine bytes each
 pub framed-count : (front : List ℕ) (frames : List (List ℕ)) → IsFramed front frames → 9 * length frames ≤ length front
