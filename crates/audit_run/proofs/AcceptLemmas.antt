@@ -23,7 +23,7 @@ use Rattle.audit_run.specs.Laws.{GenerateWrites}
 use Rattle.audit_run.specs.OtherTexts.{orders_finding, ExpectsRecords, IsAcceptedBeside, IsExpectAnswer, IsExpectedLog}
 use Rattle.audit_run.specs.Requests.{IsAnswerTo}
 use Rattle.audit_run.specs.VerdictAnswers.{IsDone, IsVerdictAnswer}
-use Rattle.record_verdict.specs.Judgements.{question, IsRecordVerdict}
+use Rattle.record_verdict.specs.RecordVerdicts.{question, IsRecordVerdict}
 use Rattle.log_verdict.specs.LogVerdicts.{Log, log_in, records_of_order_log, trades_of_trade_log}
 use Rattle.log_verdict.specs.Laws.{OneVerdict}
 use Rattle.audit_run.proofs.StepLemmas.{held-all}

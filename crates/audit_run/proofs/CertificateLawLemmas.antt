@@ -22,7 +22,7 @@ use Rattle.audit_report.specs.declared.verdicts.Verdict.TheVariants as verdict
 use Rattle.record_verdict.specs.declared.questions.Question.{Question}
 use Rattle.audit_run.specs.Certificates.{IsCertificateOf, IsVerdictAnswerWith, VerifiesDeals, VerifiesRecords}
 use Rattle.audit_run.specs.Laws.{CertifiedIsVerified}
-use Rattle.record_verdict.specs.Judgements.{IsRecordVerdict, IsVerdictOfFinding}
+use Rattle.record_verdict.specs.RecordVerdicts.{IsRecordVerdict, IsOutcomeByFinding}
 use Rattle.log_verdict.specs.LogVerdicts.{IsLogVerdict, Log}
 
 -- the rules of certificates admit the same orders
@@ -48,10 +48,10 @@ none_before q entries paired a is = of_before (finding_before_rule q.rule q.symb
     apart finding e = cc
 
     of_before : (before found : Option Finding) → MatchOption before (IsRuleFinding q.rule orders deals (length (paired_trades paired)) found) (λ finding. found ≡ Some finding)
-        → IsVerdictOfFinding q orders deals found (verdict.Accepted a) → before ≡ None
+        → IsOutcomeByFinding q orders deals found (verdict.Accepted a) → before ≡ None
     of_before None found rules outcome = refl
     of_before (Some finding) found rules outcome =
-        absurd (apart finding (subst (λ (o : Option Finding). IsVerdictOfFinding q orders deals o (verdict.Accepted a)) rules outcome))
+        absurd (apart finding (subst (λ (o : Option Finding). IsOutcomeByFinding q orders deals o (verdict.Accepted a)) rules outcome))
 
 module _ (q : Question) (orders trades : Log) (certificate text : List ℕ) (the_status : Status) where
   -- what was written agrees, so that it is not refused

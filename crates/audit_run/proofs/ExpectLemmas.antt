@@ -30,7 +30,7 @@ use Rattle.continuous_laws.specs.Laws.{OnlyPairs}
 use Rattle.record_verdict.specs.declared.questions.Question.{Question}
 use Rattle.audit_run.specs.Expecting.{IsConformingLog, IsLogOfOrders}
 use Rattle.audit_run.specs.OtherTexts.{IsAcceptedBeside}
-use Rattle.record_verdict.specs.Judgements.{question, table_lines, AreOnlyQuantities, IsReportedBound}
+use Rattle.record_verdict.specs.RecordVerdicts.{question, table_lines, AreOnlyQuantities, IsReportedBound}
 use Rattle.log_verdict.specs.LogVerdicts.{trades_without_pairing}
 use Rattle.record_verdict.specs.Stages.{VerdictFollowsDeals}
 use Rattle.record_verdict.specs.Laws.{SoundTradesHaveVerdict}

@@ -25,7 +25,7 @@ use Rattle.audit_run.specs.Certificates.{IsCertificateOf, IsVerdictAnswerWith}
 use Rattle.audit_run.specs.Deciding.{IsAnswerOfKind}
 use Rattle.audit_run.specs.JudgedAnswers.{IsCertifyAnswerOn, IsDealsCertificate, LogsReach}
 use Rattle.audit_run.specs.VerdictAnswers.{IsVerdictAnswer}
-use Rattle.record_verdict.specs.Judgements.{IsRecordVerdict, IsVerdictOfFinding}
+use Rattle.record_verdict.specs.RecordVerdicts.{IsRecordVerdict, IsOutcomeByFinding}
 use Rattle.log_verdict.specs.LogVerdicts.{records_of_order_log, trades_of_trade_log, HaveRecords, IsLogVerdict, Log, OfLogs}
 use Rattle.record_verdict.specs.Scopes.{scope_of}
 use Rattle.record_verdict.specs.Stages.{VerdictFollowsDeals, IsVerdictAfterStages}
@@ -127,6 +127,6 @@ accepted_conforms q orders deals count a is = by_finding is.found is.by_the_rule
     apart : (finding : Finding) → verdict.Accepted a ≡ verdict.Rejected finding → ⊥
     apart finding e = cc
 
-    by_finding : (found : Option Finding) → IsRuleFinding q.rule orders deals count found → IsVerdictOfFinding q orders deals found (verdict.Accepted a) → Conforms q.rule orders deals
+    by_finding : (found : Option Finding) → IsRuleFinding q.rule orders deals count found → IsOutcomeByFinding q orders deals found (verdict.Accepted a) → Conforms q.rule orders deals
     by_finding None conforms outcome = conforms
     by_finding (Some finding) offence outcome = absurd (apart finding outcome)

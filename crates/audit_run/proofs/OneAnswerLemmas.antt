@@ -45,7 +45,7 @@ use Rattle.log_verdict.specs.Laws.{OneVerdict}
 use Rattle.log_verdict.specs.LogVerdicts.{HaveRecords, Log, OfLogs, log_in, records_of_order_log, trades_of_trade_log}
 use Rattle.log_verdict.specs.Ranges.{TradeLogsAreInRange}
 use Rattle.record_verdict.specs.declared.questions.Question.{Question}
-use Rattle.record_verdict.specs.Judgements.{question}
+use Rattle.record_verdict.specs.RecordVerdicts.{question}
 use Rattle.record_verdict.specs.Scopes.{call_scope, day_scope, finding_before_rule_in_scope, unadmitted_order_finding}
 use Rattle.session_audit.specs.declared.phases.Phase.{Phase}
 use Rattle.session_audit.specs.OneOffence.{DayOffenceIsOne}

@@ -13,7 +13,7 @@ use Rattle.log_source.specs.Sinks.{SinkState}
 use Rattle.record_verdict.specs.declared.questions.Question.{Question}
 use Rattle.command_words.specs.declared.requests.Request.{Request}
 use Rattle.command_words.specs.declared.requests.Request.TheVariants.{Expect}
-use Rattle.record_verdict.specs.Judgements.{question}
+use Rattle.record_verdict.specs.RecordVerdicts.{question}
 use Rattle.log_verdict.specs.LogVerdicts.{Log, log_in, IsLogVerdict}
 use Rattle.audit_run.specs.Runs.{AllIsThere, AnswersHeldLogs, AnswersWithCause, HoldsNeededLogs}
 use Rattle.audit_run.specs.TopCall.{audit_of_logs}

@@ -30,7 +30,7 @@ use Rattle.audit_report.specs.Summaries.{generated_line, call_line, continuous_l
 use Rattle.csv_logs.specs.Written.{csv_orders_text, csv_trades_text}
 use Rattle.log_maker.specs.Generator.{generated_orders, generated_records}
 use Rattle.record_verdict.specs.declared.questions.Question.{Question}
-use Rattle.record_verdict.specs.Judgements.{question, IsRecordVerdict}
+use Rattle.record_verdict.specs.RecordVerdicts.{question, IsRecordVerdict}
 use Rattle.log_verdict.specs.LogVerdicts.{Log, records_of_order_log, trades_of_trade_log}
 use Rattle.audit_run.specs.VerdictAnswers.{IsAnswerWith, IsDone, IsVerdictAnswer}
 

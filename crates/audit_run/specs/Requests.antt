@@ -12,7 +12,7 @@ use Rattle.audit_run.specs.Certificates.{IsCertifyAnswer, IsVerifyAnswer}
 use Rattle.audit_run.specs.OtherTexts.{IsConvertAnswer, IsExpectAnswer, IsGeneratedSummary}
 use Rattle.audit_run.specs.Sessions.{IsSessionAnswer}
 use Rattle.audit_run.specs.VerdictAnswers.{IsAuditAnswer, IsDone}
-use Rattle.record_verdict.specs.Judgements.{question}
+use Rattle.record_verdict.specs.RecordVerdicts.{question}
 use Rattle.log_verdict.specs.LogVerdicts.{records_of_order_log, trades_of_trade_log, log_in}
 
 -- the next log of a command that needs one: it starts that first, and no other

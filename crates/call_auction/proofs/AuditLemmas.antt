@@ -61,18 +61,18 @@ short-due orders deals totals side most v i are same e =
 pub audited : (r : VolumeRule) (orders : List Order) (deals : List Deal) (count : ℕ) (most : Cut) (known : List ℕ × ℕ) (result : Outcome) → IsOrderList orders → All (NamesOrders orders) deals → DealsInRange deals
     → IsGreatestOf r orders most → IsFairMatching (asks_one_price r) orders deals known → IsVolumeOutcome orders known count most result → IsCallOutcome r orders deals count result
 audited r orders deals count most known (outcome.Broken finding) list named ranges g f (lt, is) =
-    let less : volume deals < volume g.some = subst (λ v. v < volume g.some) f.volume_is (subst (λ v. known.1 < v) (sym g.reached) lt) in
-    let n = (conforms-fair r orders g.some g.conforms).0 in
-    let bid = lesser-best orders deals g.some f.matching n less Buy in
-    let ask = lesser-best orders deals g.some f.matching n less Sell in
-    let first = short-due orders deals known.0 Buy most.volume (volume g.some) bid.0 f.totals (sym g.reached) bid.1 in
-    let second = short-due orders deals known.0 Sell most.volume (volume g.some) ask.0 f.totals (sym g.reached) ask.1 in
+    let less : volume deals < volume g.deals = subst (λ v. v < volume g.deals) f.volume_is (subst (λ v. known.1 < v) (sym g.reached) lt) in
+    let n = (conforms-fair r orders g.deals g.conforms).0 in
+    let bid = lesser-best orders deals g.deals f.matching n less Buy in
+    let ask = lesser-best orders deals g.deals f.matching n less Sell in
+    let first = short-due orders deals known.0 Buy most.volume (volume g.deals) bid.0 f.totals (sym g.reached) bid.1 in
+    let second = short-due orders deals known.0 Sell most.volume (volume g.deals) ask.0 f.totals (sym g.reached) ask.1 in
     let shows = is deals f.totals ∙ (λ j. finding_of orders (record { place = count + 1; evidence = Volume (record { reached = f.volume_is j; greatest = sym g.reached j }) (first j) (second j) })) in
-    broken r orders deals count finding ranges (late-offence r orders deals count finding f.no_offence (below r orders deals g.some count bid.0 ask.0 finding list g.ranges g.conforms less bid.1 ask.1 shows))
+    broken r orders deals count finding ranges (late-offence r orders deals count finding f.no_offence (below r orders deals g.deals count bid.0 ask.0 finding list g.ranges g.conforms less bid.1 ask.1 shows))
 audited r orders deals count most known (outcome.Conforms reached_is) list named ranges g f (le, is) =
-    let over : volume g.some ≤ volume deals = subst (λ v. volume g.some ≤ v) f.volume_is (subst (λ v. v ≤ known.1) (sym g.reached) le) in
-    let c = reached r orders deals g.some named f.no_offence g.conforms over in
-    let same = sym (conforms-greatest r orders deals most.volume ranges c (subst (IsGreatestUnder r orders) g.reached (greatest-conforms r orders g.some g.ranges g.conforms))) in
+    let over : volume g.deals ≤ volume deals = subst (λ v. volume g.deals ≤ v) f.volume_is (subst (λ v. v ≤ known.1) (sym g.reached) le) in
+    let c = reached r orders deals g.deals named f.no_offence g.conforms over in
+    let same = sym (conforms-greatest r orders deals most.volume ranges c (subst (IsGreatestUnder r orders) g.reached (greatest-conforms r orders g.deals g.ranges g.conforms))) in
     rw is (record {
       conforms = c;
       totals = f.totals;

@@ -18,10 +18,10 @@ use Rattle.matching_core.specs.declared.outcomes.Outcome.TheVariants as outcome
 -- a greatest volume of the rule with its bound: some conforming list of deals has this volume, and
 -- the price is the least that shows it
 pub record IsGreatestOf (the_rule : VolumeRule) (orders : List Order) (most : Cut) : Type 0 where
-  pub some : List Deal
-  pub ranges : DealsInRange some
-  pub conforms : Conforms (rule_of_volume the_rule) orders some
-  pub reached : volume some ≡ most.volume
+  pub deals : List Deal
+  pub ranges : DealsInRange deals
+  pub conforms : Conforms (rule_of_volume the_rule) orders deals
+  pub reached : volume deals ≡ most.volume
   pub bound : IsBoundPrice the_rule orders most.volume most.price
 
 -- a bound of this volume under the rule

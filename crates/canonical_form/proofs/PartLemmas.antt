@@ -87,14 +87,14 @@ module _ (parts : List DealPart) (each : All IsPartOfDeal parts) (in_order : IsS
   made-next true shares s t made =
       let two = and_parts (s.bid == q.bid) (s.ask == q.ask) t in
       let fits = made.fits in
-      let most = deal.most in
-      let some = made.some_here in
+      let most = deal.bounded in
+      let some = made.positive_here in
       record {
         bid = λ i e. subst (λ (j : ℕ). s.bid ≡ (part_at parts j).bid) (sym (last i e)) (eqb-true s.bid q.bid two.0);
         ask = λ i e. subst (λ (j : ℕ). s.ask ≡ (part_at parts j).ask) (sym (last i e)) (eqb-true s.ask q.ask two.1);
         sums = λ bid ask. omega (arith, made.sums bid ask, step bid ask, same-pair bid ask s q t);
-        some = made.some;
-        some_here = omega arith;
+        positive = made.positive;
+        positive_here = omega arith;
         ascending = made.ascending;
         under = All-weaker (λ (t : Share). ShareBefore t s) (λ (t : Share). ShareBefore t (record s { quantity = s.quantity + q.quantity })) (λ t h. h) shares made.under;
         fits = omega arith;
@@ -102,13 +102,13 @@ module _ (parts : List DealPart) (each : All IsPartOfDeal parts) (in_order : IsS
   made-next false shares s f made =
       let before : (at - 1) + 1 ≡ at = omega arith in
       let here = apart s (part_at parts (at - 1)) q (made.bid (at - 1) before) (made.ask (at - 1) before) late f in
-      let most = deal.most in
+      let most = deal.bounded in
       record {
         bid = λ i e. ap (λ (j : ℕ). (part_at parts j).bid) (sym (last i e));
         ask = λ i e. ap (λ (j : ℕ). (part_at parts j).ask) (sym (last i e));
         sums = λ bid ask. omega (arith, made.sums bid ask, step bid ask, sum_by-append (share_of_pair bid ask) shares (s ∷ []), sum_by-cons (share_of_pair bid ask) s []);
-        some = All-push (λ (t : Share). 0 < t.quantity) shares s made.some made.some_here;
-        some_here = deal.some;
+        positive = All-push (λ (t : Share). 0 < t.quantity) shares s made.positive made.positive_here;
+        positive_here = deal.positive;
         ascending = push shares s made.ascending made.under;
         under = All-push (λ (t : Share). ShareBefore t (share_of_part q)) shares s (All-weaker (λ (t : Share). ShareBefore t s) (λ (t : Share). ShareBefore t (share_of_part q)) (λ t h. onward t s (share_of_part q) h here) shares made.under) here;
         fits = omega arith;
@@ -125,11 +125,11 @@ made-first parts each shares s inside s_is none =
       bid = λ i e. ap (λ (j : ℕ). (part_at parts j).bid) (zero-is i e);
       ask = λ i e. ap (λ (j : ℕ). (part_at parts j).ask) (zero-is i e);
       sums = λ bid ask. let more = sum_by_more (part_of_pair bid ask) parts 0 part_past_end inside in omega arith;
-      some = All-nil (λ (t : Share). 0 < t.quantity);
-      some_here = deal.some;
+      positive = All-nil (λ (t : Share). 0 < t.quantity);
+      positive_here = deal.positive;
       ascending = λ i j d lt below. absurd (omega arith);
       under = All-nil (λ (t : Share). ShareBefore t (share_of_part (part_at parts 0)));
-      fits = let most = deal.most in omega arith;
+      fits = let most = deal.bounded in omega arith;
     }))
   where
     zero-is : (i : ℕ) → i + 1 ≡ 1 → 0 ≡ i
@@ -139,7 +139,7 @@ made-first parts each shares s inside s_is none =
 pub merged : (parts : List DealPart) (at : ℕ) (shares ys : List Share) (s : Share) → ys ≡ shares ++ s ∷ [] → length parts ≤ at → AreSharesSoFar parts at shares s → AreMergedShares parts ys
 merged parts at shares ys s is all made = subst (AreMergedShares parts) (sym is) (record {
   sums = λ bid ask. sum_by-append (share_of_pair bid ask) shares (s ∷ []) ∙ ap (λ (n : ℕ). sum_by (share_of_pair bid ask) shares + n) (one bid ask) ∙ made.sums bid ask ∙ ap (sum_by (part_of_pair bid ask)) (take_all at parts all);
-  some = All-push (λ (t : Share). 0 < t.quantity) shares s made.some made.some_here;
+  positive = All-push (λ (t : Share). 0 < t.quantity) shares s made.positive made.positive_here;
   ascending = push shares s made.ascending made.under;
 })
   where
@@ -148,7 +148,7 @@ merged parts at shares ys s is all made = subst (AreMergedShares parts) (sym is)
 
 -- of no parts there are no shares
 pub merged-none : (parts : List DealPart) (shares : List Share) → length parts ≡ 0 → shares ≡ [] → AreMergedShares parts shares
-merged-none [] shares e none = subst (AreMergedShares []) (sym none) (record { sums = λ bid ask. refl; some = All-nil (λ (t : Share). 0 < t.quantity); ascending = λ i j d lt below. absurd (omega arith) })
+merged-none [] shares e none = subst (AreMergedShares []) (sym none) (record { sums = λ bid ask. refl; positive = All-nil (λ (t : Share). 0 < t.quantity); ascending = λ i j d lt below. absurd (omega arith) })
 merged-none (p ∷ ps) shares e none = absurd (omega arith)
 
 -- the parts of all deals, in another order
@@ -156,6 +156,6 @@ pub sorted-parts : (deals : List Deal) (from parts : List DealPart) → from ≡
 sorted-parts deals from parts is ranges moved =
     let moved' : IsPermutation (map part_of_deal deals) parts = subst (λ (xs : List DealPart). IsPermutation xs parts) is moved in (
       length_permutation (map part_of_deal deals) parts moved' ∙ length-map deals part_of_deal,
-      All-permutation IsPartOfDeal (map part_of_deal deals) parts moved' (All-map IsPartOfDeal part_of_deal deals (λ k d lt. let r = ranges k d lt in record { some = r.some; most = r.most })),
+      All-permutation IsPartOfDeal (map part_of_deal deals) parts moved' (All-map IsPartOfDeal part_of_deal deals (λ k d lt. let r = ranges k d lt in record { positive = r.some; bounded = r.most })),
       λ bid ask. sum_by-IsPermutation (part_of_pair bid ask) (map part_of_deal deals) parts moved' ∙ fold-map (λ (n : ℕ) (p : DealPart). n + part_of_pair bid ask p) part_of_deal 0 deals,
     )

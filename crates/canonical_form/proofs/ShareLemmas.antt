@@ -67,7 +67,7 @@ are-shares deals parts shares are merged =
     let total = λ (bid ask : ℕ). merged.sums bid ask ∙ are bid ask in
     record {
       quantities = λ k d lt. let s = get_or shares k d in sym (own-sums shares merged.ascending k d lt) ∙ total s.bid s.ask;
-      some = merged.some;
+      positive = merged.positive;
       complete = λ bid ask some. subst (λ (n : ℕ). Contains shares (record { bid = bid; ask = ask; quantity = n })) (total bid ask)
           (has-share bid ask shares merged.ascending (let t = total bid ask in omega arith));
       ascending = merged.ascending;

@@ -29,8 +29,8 @@ share_of_pair bid ask s = if (s.bid == bid) && (s.ask == ask) then s.quantity el
 
 -- a part is of a quantity that a deal may have
 pub record IsPartOfDeal (p : DealPart) : Type 0 where
-  pub some : 0 < p.quantity
-  pub most : p.quantity ≤ 10 ^ 12
+  pub positive : 0 < p.quantity
+  pub bounded : p.quantity ≤ 10 ^ 12
 
 -- the part of a deal
 abbrev pub part_of_deal : Deal → DealPart
@@ -61,7 +61,7 @@ finished_shares shares s p = if is_of_pair s p then shares else shares ++ s ∷ 
 pub record AreMergedShares (parts : List DealPart) (shares : List Share) : Type 0 where
   pub sums : (bid ask : ℕ) → sum_by (share_of_pair bid ask) shares
       ≡ sum_by (part_of_pair bid ask) parts
-  pub some : All (λ s. 0 < s.quantity) shares
+  pub positive : All (λ s. 0 < s.quantity) shares
   pub ascending : AllPairs ShareBefore shares
 
 -- what is known after the first parts: the finished shares, and the one that is made, which is of
@@ -72,8 +72,8 @@ pub record AreSharesSoFar (parts : List DealPart) (at : ℕ) (shares : List Shar
   pub ask : (i : ℕ) → i + 1 ≡ at → s.ask ≡ (part_at parts i).ask
   pub sums : (bid ask : ℕ) → sum_by (share_of_pair bid ask) shares + share_of_pair bid ask s
       ≡ sum_by (part_of_pair bid ask) (take at parts)
-  pub some : All (λ t. 0 < t.quantity) shares
-  pub some_here : 0 < s.quantity
+  pub positive : All (λ t. 0 < t.quantity) shares
+  pub positive_here : 0 < s.quantity
   pub ascending : AllPairs ShareBefore shares
   pub under : All (λ t. ShareBefore t s) shares
   pub fits : s.quantity ≤ at * 10 ^ 12

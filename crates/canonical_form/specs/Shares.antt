@@ -12,7 +12,7 @@ ShareBefore s t = (s.bid < t.bid) ⊎ ((s.bid ≡ t.bid) × (s.ask < t.ask))
 -- the bid, then of the ask
 pub record AreShares (deals : List Deal) (shares : List Share) : Type 0 where
   pub quantities : All (λ s. s.quantity ≡ pair deals s.bid s.ask) shares
-  pub some : All (λ s. 0 < s.quantity) shares
+  pub positive : All (λ s. 0 < s.quantity) shares
   pub complete : (bid ask : ℕ) → 0 < pair deals bid ask
       → Contains shares (record { bid = bid; ask = ask; quantity = pair deals bid ask })
   pub ascending : AllPairs ShareBefore shares

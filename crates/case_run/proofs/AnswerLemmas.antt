@@ -14,7 +14,7 @@ use Rattle.case_run.specs.Play.{list_turn, show_turn, verdict_turn}
 use Rattle.std.specs.Prelude.{IfSome}
 use Rattle.case_run.specs.Causes.{IsHaltCause, StartsNoLog, ReadsGoodLogs, ReadsLogsFor}
 use Rattle.case_run.specs.Statuses.{ends_run}
-use Rattle.case_run.specs.Turns.{AnswersFromCasebook, AnswersCommand, AsksKeeperFor, FilesVerdict, HasVerdictStatus, IsKeeperCause, IsLogHalt, JudgesLogs, ReadsForVerdict, EndsWithinOrHalts}
+use Rattle.case_run.specs.Turns.{AnswersFromCasebook, AnswersCommand, AsksKeeperFor, FilesVerdict, HasVerdictStatus, IsKeeperCause, IsLogHalt, ReadsFilingVerdict, ReadsForVerdict, EndsWithinOrHalts}
 use Rattle.case_run.specs.declared.answers.Answer.{Answer}
 use Rattle.case_run.specs.declared.commands.Command.{Command}
 use Rattle.case_run.specs.declared.commands.Command.TheVariants as command
@@ -69,7 +69,7 @@ module _ (r : Reading) (keeper_old keeper_new : KeeperState) where
   asked_good wanted (verdict.Malformed log place) why read asks e = absurd (cc)
 
   -- a verdict that was filed
-  pub answers_file : (wanted : Filing) (v : Verdict) (result : Result Answer Halt) → JudgesLogs r wanted v → FilesVerdict keeper_old keeper_new wanted v result → AnswersCommand r keeper_old keeper_new (command.File wanted) result
+  pub answers_file : (wanted : Filing) (v : Verdict) (result : Result Answer Halt) → ReadsFilingVerdict r wanted v → FilesVerdict keeper_old keeper_new wanted v result → AnswersCommand r keeper_old keeper_new (command.File wanted) result
   answers_file wanted v (Ok answer) judges is = record {
     read = verdict_read wanted v answer.status is.status_is judges.read;
     known = λ cases tells has. record { turn = verdict_turn cases wanted v; is = (v, judges.on tells, refl); has = is.known cases has };

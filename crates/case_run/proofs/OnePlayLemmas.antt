@@ -7,7 +7,7 @@ use Rattle.audit_base.specs.declared.terms.Which.{Which}
 use Rattle.audit_base.specs.declared.terms.Which.TheVariants.{Orders, Trades}
 use Rattle.audit_report.specs.declared.verdicts.Verdict.{Verdict}
 use Rattle.audit_report.specs.declared.verdicts.Verdict.TheVariants as verdict
-use Rattle.record_verdict.specs.Judgements.{question, IsRecordVerdict}
+use Rattle.record_verdict.specs.RecordVerdicts.{question, IsRecordVerdict}
 use Rattle.log_verdict.specs.Laws.{OneVerdict}
 use Rattle.log_verdict.specs.LogVerdicts.{records_of_order_log, trades_of_trade_log, log_in, IsLogVerdict}
 use Rattle.case_keeper.specs.declared.case.Case.{Case}

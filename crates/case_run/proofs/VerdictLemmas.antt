@@ -24,9 +24,9 @@ use Rattle.log_verdict.specs.Collecting.{step_of}
 use Rattle.log_verdict.specs.LogVerdicts.{log_in, records_of_order_log, trades_of_trade_log, IsLogVerdict}
 use Rattle.log_verdict.specs.Steps.{Reading, LogStep, IsRead}
 use Rattle.record_verdict.specs.declared.questions.Question.{Question}
-use Rattle.record_verdict.specs.Judgements.{question, IsRecordVerdict, IsVerdictOfFinding}
+use Rattle.record_verdict.specs.RecordVerdicts.{question, IsRecordVerdict, IsOutcomeByFinding}
 use Rattle.case_run.specs.Causes.{IsFilingLogInTurn, OfFilingLog, ReadsGoodLogs, filing_log_name}
-use Rattle.case_run.specs.Turns.{halt_of_stop, IsLogHalt, JudgesLogs, ReadsForVerdict, EndsWithinOrHalts}
+use Rattle.case_run.specs.Turns.{halt_of_stop, IsLogHalt, ReadsFilingVerdict, ReadsForVerdict, EndsWithinOrHalts}
 use Rattle.case_run.specs.declared.commands.Command.TheVariants as command
 use Rattle.case_run.specs.declared.commands.Filing.{Filing}
 
@@ -35,7 +35,7 @@ judged_sound : (q : Question) (entries : List OrderRecord) (paired : Result (Lis
 judged_sound q entries paired log bad is =
     by_found (order_list q.symbol entries) (deals_of_symbol (order_list q.symbol entries) q.symbol (paired_trades paired)) is.found is.outcome
   where
-    by_found : (orders : List Order) (deals : List Deal) (found : Option Finding) → IsVerdictOfFinding q orders deals found (verdict.Malformed log bad) → ⊥
+    by_found : (orders : List Order) (deals : List Deal) (found : Option Finding) → IsOutcomeByFinding q orders deals found (verdict.Malformed log bad) → ⊥
     by_found orders deals None is = absurd is
     by_found orders deals (Some finding) is = cc
 
@@ -68,7 +68,7 @@ module _ (r : Reading) (wanted : Filing) (orders trades : Source) (first : Names
   no_good (Err other) bad e good = cc
 
   -- what is said of both logs where the order log is out of its grammar
-  of_bad_orders : (v : Verdict) (bytes : List ℕ) (bad : BadPlace) → IsRead r (step_of r Orders orders.name.now) bytes → records_of_order_log orders.form bytes ≡ Err bad → v ≡ verdict.Malformed Orders bad → IsUntouched r Trades → JudgesLogs r wanted v
+  of_bad_orders : (v : Verdict) (bytes : List ℕ) (bad : BadPlace) → IsRead r (step_of r Orders orders.name.now) bytes → records_of_order_log orders.form bytes ≡ Err bad → v ≡ verdict.Malformed Orders bad → IsUntouched r Trades → ReadsFilingVerdict r wanted v
   of_bad_orders v bytes bad read says is alone = record {
     on = λ tells. record {
       orders = bytes;
@@ -83,7 +83,7 @@ module _ (r : Reading) (wanted : Filing) (orders trades : Source) (first : Names
   -- and where it is in its grammar
   module _ (v : Verdict) (one two : List ℕ) (entries : List OrderRecord) (read_one : IsRead r (step_of r Orders orders.name.now) one) (read_two : IsRead r (step_of r Trades trades.name.now) two)
       (says : records_of_order_log orders.form one ≡ Ok entries) where
-    judges : ReadsForVerdict r wanted v → IsLogVerdict asked (log_in wanted.form one) (log_in wanted.form two) v → JudgesLogs r wanted v
+    judges : ReadsForVerdict r wanted v → IsLogVerdict asked (log_in wanted.form one) (log_in wanted.form two) v → ReadsFilingVerdict r wanted v
     judges read is = record {
       on = λ tells. record {
         orders = one;
@@ -107,7 +107,7 @@ module _ (r : Reading) (wanted : Filing) (orders trades : Source) (first : Names
     not_bad (verdict.Malformed log bad) paired said is = absurd (judged_sound asked entries paired log bad is)
 
     of_trades : (said : Result (Result (List TradeRecord) Finding) BadPlace) → trades_of_trade_log trades.form two ≡ said
-        → MatchResult said (λ paired. IsRecordVerdict asked entries paired v) (λ bad. v ≡ verdict.Malformed Trades bad) → JudgesLogs r wanted v
+        → MatchResult said (λ paired. IsRecordVerdict asked entries paired v) (λ bad. v ≡ verdict.Malformed Trades bad) → ReadsFilingVerdict r wanted v
     of_trades (Ok paired) said is = judges (not_bad v paired said is) (rw (orders_say one (Ok entries) says, trades_say two (Ok paired) said) is)
     of_trades (Err bad) said is =
         judges (subst (ReadsForVerdict r wanted) (sym is) (record {
@@ -117,10 +117,10 @@ module _ (r : Reading) (wanted : Filing) (orders trades : Source) (first : Names
         (rw (orders_say one (Ok entries) says, trades_say two (Err bad) said) is)
 
   -- the verdict on both logs is that on the logs of the filing
-  pub judges_logs : (v : Verdict) → ReadsVerdict r asked orders trades v → JudgesLogs r wanted v
+  pub judges_logs : (v : Verdict) → ReadsVerdict r asked orders trades v → ReadsFilingVerdict r wanted v
   judges_logs v is = of_orders (records_of_order_log orders.form is.bytes) refl is.holds
     where
-      of_orders : (said : Result (List OrderRecord) BadPlace) → records_of_order_log orders.form is.bytes ≡ said → after v said → JudgesLogs r wanted v
+      of_orders : (said : Result (List OrderRecord) BadPlace) → records_of_order_log orders.form is.bytes ≡ said → after v said → ReadsFilingVerdict r wanted v
       of_orders (Ok entries) says holds =
           of_trades v is.bytes holds.bytes entries is.read holds.read says (trades_of_trade_log trades.form holds.bytes) refl holds.holds
       of_orders (Err bad) says holds = of_bad_orders v is.bytes bad is.read says holds.0 holds.1

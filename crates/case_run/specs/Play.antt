@@ -9,7 +9,7 @@ use Rattle.audit_base.specs.declared.terms.Which.TheVariants.{Orders, Trades}
 use Rattle.audit_report.specs.Lines.{malformed_line}
 use Rattle.audit_report.specs.declared.verdicts.Verdict.{Verdict}
 use Rattle.audit_report.specs.declared.verdicts.Verdict.TheVariants as verdict
-use Rattle.record_verdict.specs.Judgements.{question}
+use Rattle.record_verdict.specs.RecordVerdicts.{question}
 use Rattle.log_verdict.specs.LogVerdicts.{records_of_order_log, log_in, IsLogVerdict}
 use Rattle.case_keeper.specs.Cases.{kept_case, passing_cases}
 use Rattle.case_keeper.specs.Casebooks.{filing, cases_after_filing}

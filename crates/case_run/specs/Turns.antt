@@ -48,7 +48,7 @@ ReadsForVerdict r wanted (verdict.Rejected finding) = ReadsGoodLogs r (command.F
 ReadsForVerdict r wanted (verdict.Malformed log bad) = ReadsBadFilingLog r wanted log
 
 -- The verdict is that on the two logs of the filing.
-pub record JudgesLogs (r : Reading) (wanted : Filing) (the_verdict : Verdict) : Type 0 where
+pub record ReadsFilingVerdict (r : Reading) (wanted : Filing) (the_verdict : Verdict) : Type 0 where
   pub on : r.tells ≡ true → IsVerdictOfFiling r.log_of wanted the_verdict
   pub read : ReadsForVerdict r wanted the_verdict
 
@@ -72,8 +72,9 @@ abbrev pub EndsWithinOrHalts : {T : Type 0} → Reading → Result T Halt → Ty
 EndsWithinOrHalts r result = BeginsWithin r → IsLengthHalt result ⊎ EndsWithin r
 
 -- the verdict on two logs, or why there is none
-abbrev pub JudgesOrHalts : Reading → Filing → Result Verdict Halt → Type 0
-JudgesOrHalts r wanted result = MatchResult result (JudgesLogs r wanted) (IsLogHalt r wanted)
+abbrev pub GivesFilingVerdictOrHalt : Reading → Filing → Result Verdict Halt → Type 0
+GivesFilingVerdictOrHalt r wanted result =
+    MatchResult result (ReadsFilingVerdict r wanted) (IsLogHalt r wanted)
 
 -- The answer has the status and the text of this turn, and the casebook has its cases.
 pub record AnswersAsTurn (turn : PlayTurn) (keeper : KeeperState) (answer : Answer) : Type 0 where

@@ -3,7 +3,7 @@ ghost use Rattle.std.specs.Prelude.{◌≡◌, IfOk};
 ghost use Rattle.audit_report.specs.Texts.{IsVerdictInRange};
 ghost use Rattle.log_source.specs.Sources.{longest_log};
 ghost use Rattle.log_verdict.specs.Steps.{reading, KeepsShelfLogs, FaultsNeverFall};
-ghost use Rattle.case_run.specs.Turns.{EndsWithinOrHalts, JudgesOrHalts};
+ghost use Rattle.case_run.specs.Turns.{EndsWithinOrHalts, GivesFilingVerdictOrHalt};
 
 use super::commands::Filing;
 use super::halts::Halt;
@@ -35,7 +35,8 @@ pub(crate) fn verdict_of<F: Shelf>(
 ) -> Result<Verdict, Halt>
     ensures logs { KeepsShelfLogs F.Shelf shelf.old shelf.new }
     ensures later { FaultsNeverFall (reading F.Shelf shelf.old shelf.new) }
-    ensures judges { JudgesOrHalts (reading F.Shelf shelf.old shelf.new) filing.now result }
+    ensures decides { GivesFilingVerdictOrHalt (reading F.Shelf shelf.old shelf.new) filing.now
+        result }
     ensures within { EndsWithinOrHalts (reading F.Shelf shelf.old shelf.new) result }
     ensures in_range { IfOk result IsVerdictInRange }
 {

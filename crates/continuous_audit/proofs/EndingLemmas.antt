@@ -22,7 +22,7 @@ use Rattle.order_book.specs.Books.{BookSide, has_index_and_limit, book_with_orde
 use Rattle.continuous_audit.specs.declared.endings.Ending.{Ending}
 use Rattle.continuous_audit.specs.declared.books.Books.{Books}
 use Rattle.continuous_audit.specs.Books.{AreBooksOfAmounts, books_without_order, resting_count}
-use Rattle.continuous_audit.specs.Endings.{AreEndings, IsEnding, amount_without, ending_at, ending_cmp, endings_of, endings_upto, ending_index_at, is_ended_between, ending_past_end, ending_place_at}
+use Rattle.continuous_audit.specs.Endings.{AreEndings, IsEnding, amount_without, ending_at, ending_cmp, endings_of, endings_below, ending_index_at, is_ended_between, ending_past_end, ending_place_at}
 use Rattle.continuous_audit.proofs.HoldLemmas.{hold-same, hold-without}
 
 -- the books without one order
@@ -85,26 +85,26 @@ module _ (orders : List Order) where
   ending-is i None lt e = All-nil (IsEnding orders)
   ending-is i (Some place) lt e = All-cons (IsEnding orders) (record { place = place; index = i }) [] (record { inside = lt; is = e }) (All-nil (IsEnding orders))
 
-  upto-only : (n : ℕ) → n ≤ length orders → All (IsEnding orders) (endings_upto orders n)
+  upto-only : (n : ℕ) → n ≤ length orders → All (IsEnding orders) (endings_below orders n)
   upto-only zero le = All-nil (IsEnding orders)
-  upto-only (suc n) le = All-append (IsEnding orders) (endings_upto orders n) (endings_of n (order_at orders n)) (upto-only n (omega arith)) (ending-is n (order_at orders n).cancelled (omega arith) refl)
+  upto-only (suc n) le = All-append (IsEnding orders) (endings_below orders n) (endings_of n (order_at orders n)) (upto-only n (omega arith)) (ending-is n (order_at orders n).cancelled (omega arith) refl)
 
-  upto-each : (n k c : ℕ) → k < n → (order_at orders k).cancelled ≡ Some c → Contains (endings_upto orders n) (record { place = c; index = k })
+  upto-each : (n k c : ℕ) → k < n → (order_at orders k).cancelled ≡ Some c → Contains (endings_below orders n) (record { place = c; index = k })
   upto-each zero k c lt e = absurd (omega arith)
   upto-each (suc n) k c lt e = elim (cases_eq k n) [
     | inl same ↦
         let is : endings_of n (order_at orders n) ≡ record { place = c; index = k } ∷ [] = ap (ending_at n) (ap (λ (j : ℕ). (order_at orders j).cancelled) (sym same) ∙ e) ∙ ap (λ (j : ℕ). record { place = c; index = j } ∷ []) (sym same) in
-        Contains-append_right (endings_upto orders n) (endings_of n (order_at orders n)) (record { place = c; index = k }) (subst (λ (xs : List Ending). Contains xs (record { place = c; index = k })) (sym is) (Contains-front (record { place = c; index = k }) []))
-    | inr ne ↦ Contains-append_left (endings_upto orders n) (endings_of n (order_at orders n)) (record { place = c; index = k }) (upto-each n k c (omega (arith, ne)) e)
+        Contains-append_right (endings_below orders n) (endings_of n (order_at orders n)) (record { place = c; index = k }) (subst (λ (xs : List Ending). Contains xs (record { place = c; index = k })) (sym is) (Contains-front (record { place = c; index = k }) []))
+    | inr ne ↦ Contains-append_left (endings_below orders n) (endings_of n (order_at orders n)) (record { place = c; index = k }) (upto-each n k c (omega (arith, ne)) e)
   ]
 
   weak : IsStrictWeakOrder (λ (a b : Ending). is_lt (ending_cmp a b))
   weak = ranks_by (then_total (on_total (λ (e : Ending). e.place) nat_cmp_total) (on_total (λ (e : Ending). e.index) nat_cmp_total)) (λ (e : Ending). e)
 
-  pub are-endings : (endings : List Ending) → IsPermutation (endings_upto orders (length orders)) endings → IsSorted ending_cmp endings → AreEndings orders endings
+  pub are-endings : (endings : List Ending) → IsPermutation (endings_below orders (length orders)) endings → IsSorted ending_cmp endings → AreEndings orders endings
   are-endings endings moved in_order = record {
-    only = All-permutation (IsEnding orders) (endings_upto orders (length orders)) endings moved (upto-only (length orders) (omega arith));
-    each = λ k c lt e. Contains-permutation (endings_upto orders (length orders)) endings (record { place = c; index = k }) moved (upto-each (length orders) k c lt e);
+    only = All-permutation (IsEnding orders) (endings_below orders (length orders)) endings moved (upto-only (length orders) (omega arith));
+    each = λ k c lt e. Contains-permutation (endings_below orders (length orders)) endings (record { place = c; index = k }) moved (upto-each (length orders) k c lt e);
     rising = λ i j d lt below. not-above (get_or endings i d) (get_or endings j d) (sorted_far (λ (a b : Ending). is_lt (ending_cmp a b)) weak endings in_order i j d (omega arith) below);
   }
     where

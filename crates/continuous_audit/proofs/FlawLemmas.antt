@@ -15,7 +15,7 @@ use Rattle.audit_base.specs.ContinuousOffences.{traded_shown_after}
 use Rattle.audit_base.specs.Flaws.{IsEvidenceInside}
 use Rattle.audit_base.proofs.OrderLemmas.{place-rises}
 use Rattle.continuous_audit.specs.declared.market.Market.{Market}
-use Rattle.continuous_audit.specs.declared.numbers.Numbers.{Numbers}
+use Rattle.continuous_audit.specs.declared.numbers.DealingState.{DealingState}
 use Rattle.continuous_audit.specs.Flaws.{HasShownNumber, IsFindingOfFlaw, IsFlawAt, priority_flaw, shown_number, spread_evidence, spread_flaw}
 use Rattle.continuous_audit.specs.Markets.{IsConserved}
 use Rattle.continuous_audit.specs.Progress.{HasDealt}
@@ -42,7 +42,7 @@ deal-upto orders list deals deal_list n n_inside k inside here =
     }
 
 -- what is shown with the orders up to that of a record, once its deals are added
-module _ (m : Market) (n : ℕ) (n_inside : n < length m.orders.now) (numbers : Numbers) (dealt : HasDealt m n numbers) where
+module _ (m : Market) (n : ℕ) (n_inside : n < length m.orders.now) (numbers : DealingState) (dealt : HasDealt m n numbers) where
   abbrev after : ℕ → ℕ
   after = traded_shown_after m.orders.now m.deals.now (place_at m.orders.now n)
 

@@ -20,31 +20,31 @@ use Rattle.audit_base.proofs.OffenceLemmas.{get_or-default}
 use Rattle.audit_base.proofs.OrderLemmas.{place-rises}
 use Rattle.audit_base.proofs.SumLemmas.{below-same, below-list, below-add, sum_by-same, AllPairs-head, AllPairs-tail, AllPairs-cons}
 use Rattle.continuous_audit.specs.declared.incoming_deals.IncomingDeal.{IncomingDeal}
-use Rattle.continuous_audit.specs.IncomingDeals.{AreIncomingDeals, IncomingDealBefore, incoming_deal_cmp, incoming_deal_of, incoming_deals_upto, running_total}
+use Rattle.continuous_audit.specs.IncomingDeals.{AreIncomingDeals, IncomingDealBefore, incoming_deal_cmp, incoming_deal_of, incoming_deals_below, running_total}
 
 module _ (orders : List Order) (deals : List Deal) where
-  upto-only : (n : ℕ) → All (λ c. (c.deal < n) × (c ≡ incoming_deal_of orders deals c.deal)) (incoming_deals_upto orders deals n)
+  upto-only : (n : ℕ) → All (λ c. (c.deal < n) × (c ≡ incoming_deal_of orders deals c.deal)) (incoming_deals_below orders deals n)
   upto-only zero = All-nil (λ (c : IncomingDeal). (c.deal < 0) × (c ≡ incoming_deal_of orders deals c.deal))
-  upto-only (suc n) = All-push (λ (c : IncomingDeal). (c.deal < suc n) × (c ≡ incoming_deal_of orders deals c.deal)) (incoming_deals_upto orders deals n) (incoming_deal_of orders deals n)
-      (All-weaker (λ (c : IncomingDeal). (c.deal < n) × (c ≡ incoming_deal_of orders deals c.deal)) (λ (c : IncomingDeal). (c.deal < suc n) × (c ≡ incoming_deal_of orders deals c.deal)) (λ c h. let l = h.0 in (omega arith, h.1)) (incoming_deals_upto orders deals n) (upto-only n))
+  upto-only (suc n) = All-push (λ (c : IncomingDeal). (c.deal < suc n) × (c ≡ incoming_deal_of orders deals c.deal)) (incoming_deals_below orders deals n) (incoming_deal_of orders deals n)
+      (All-weaker (λ (c : IncomingDeal). (c.deal < n) × (c ≡ incoming_deal_of orders deals c.deal)) (λ (c : IncomingDeal). (c.deal < suc n) × (c ≡ incoming_deal_of orders deals c.deal)) (λ c h. let l = h.0 in (omega arith, h.1)) (incoming_deals_below orders deals n) (upto-only n))
       (omega arith, refl)
 
-  upto-each : (n k : ℕ) → k < n → Contains (incoming_deals_upto orders deals n) (incoming_deal_of orders deals k)
+  upto-each : (n k : ℕ) → k < n → Contains (incoming_deals_below orders deals n) (incoming_deal_of orders deals k)
   upto-each zero k lt = absurd (omega arith)
   upto-each (suc n) k lt = elim (cases_eq k n) [
-    | inl e ↦ subst (λ j. Contains (incoming_deals_upto orders deals (suc n)) (incoming_deal_of orders deals j)) (sym e) (Contains-push (incoming_deals_upto orders deals n) (incoming_deal_of orders deals n))
-    | inr ne ↦ Contains-append_left (incoming_deals_upto orders deals n) (incoming_deal_of orders deals n ∷ []) (incoming_deal_of orders deals k) (upto-each n k (omega (arith, ne)))
+    | inl e ↦ subst (λ j. Contains (incoming_deals_below orders deals (suc n)) (incoming_deal_of orders deals j)) (sym e) (Contains-push (incoming_deals_below orders deals n) (incoming_deal_of orders deals n))
+    | inr ne ↦ Contains-append_left (incoming_deals_below orders deals n) (incoming_deal_of orders deals n ∷ []) (incoming_deal_of orders deals k) (upto-each n k (omega (arith, ne)))
   ]
 
-  upto-sum : (f : IncomingDeal → ℕ) (n : ℕ) → sum_by f (incoming_deals_upto orders deals n) ≡ sum_below (λ k. f (incoming_deal_of orders deals k)) n
+  upto-sum : (f : IncomingDeal → ℕ) (n : ℕ) → sum_by f (incoming_deals_below orders deals n) ≡ sum_below (λ k. f (incoming_deal_of orders deals k)) n
   upto-sum f zero = refl
   upto-sum f (suc n) =
       let rest = upto-sum f n in
-      let more = sum_by-append f (incoming_deals_upto orders deals n) (incoming_deal_of orders deals n ∷ []) in
+      let more = sum_by-append f (incoming_deals_below orders deals n) (incoming_deal_of orders deals n ∷ []) in
       let one = sum_by-cons f (incoming_deal_of orders deals n) [] in
       omega arith
 
-  upto-rising : (n : ℕ) (i j : ℕ) (d : IncomingDeal) → i < j → j < length (incoming_deals_upto orders deals n) → (get_or (incoming_deals_upto orders deals n) i d).deal < (get_or (incoming_deals_upto orders deals n) j d).deal
+  upto-rising : (n : ℕ) (i j : ℕ) (d : IncomingDeal) → i < j → j < length (incoming_deals_below orders deals n) → (get_or (incoming_deals_below orders deals n) i d).deal < (get_or (incoming_deals_below orders deals n) j d).deal
   upto-rising n i j d lt below = pairs n i j d lt below
     where
       push : (xs : List IncomingDeal) (y : IncomingDeal) → AllPairs (λ a b. a.deal < b.deal) xs → All (λ a. a.deal < y.deal) xs → AllPairs (λ a b. a.deal < b.deal) (xs ++ y ∷ [])
@@ -52,9 +52,9 @@ module _ (orders : List Order) (deals : List Deal) where
       push (x ∷ xs) y h under = AllPairs-cons (λ (a b : IncomingDeal). a.deal < b.deal) x (xs ++ y ∷ []) (All-push (λ (b : IncomingDeal). x.deal < b.deal) xs y (AllPairs-head (λ (a b : IncomingDeal). a.deal < b.deal) x xs h) (All-head (λ (a : IncomingDeal). a.deal < y.deal) x xs under))
           (push xs y (AllPairs-tail (λ (a b : IncomingDeal). a.deal < b.deal) x xs h) (All-tail (λ (a : IncomingDeal). a.deal < y.deal) x xs under))
 
-      pairs : (n : ℕ) → AllPairs (λ a b. a.deal < b.deal) (incoming_deals_upto orders deals n)
+      pairs : (n : ℕ) → AllPairs (λ a b. a.deal < b.deal) (incoming_deals_below orders deals n)
       pairs zero = λ i j d lt below. absurd (omega arith)
-      pairs (suc n) = push (incoming_deals_upto orders deals n) (incoming_deal_of orders deals n) (pairs n) (All-weaker (λ (c : IncomingDeal). (c.deal < n) × (c ≡ incoming_deal_of orders deals c.deal)) (λ (c : IncomingDeal). c.deal < n) (λ c h. h.0) (incoming_deals_upto orders deals n) (upto-only n))
+      pairs (suc n) = push (incoming_deals_below orders deals n) (incoming_deal_of orders deals n) (pairs n) (All-weaker (λ (c : IncomingDeal). (c.deal < n) × (c ≡ incoming_deal_of orders deals c.deal)) (λ (c : IncomingDeal). c.deal < n) (λ c h. h.0) (incoming_deals_below orders deals n) (upto-only n))
 
 abbrev same_deal : IncomingDeal → IncomingDeal → Bool
 same_deal a b = eqb a.deal b.deal
@@ -69,9 +69,9 @@ sooner a b apart h = elim (cases_lt a.order b.order) [
 ]
 
 -- the incoming deals, sorted
-pub are-incoming_deals : (orders : List Order) (deals : List Deal) (incoming_deals : List IncomingDeal) → IsPermutation (incoming_deals_upto orders deals (length deals)) incoming_deals → IsSorted incoming_deal_cmp incoming_deals → AreIncomingDeals orders deals incoming_deals
+pub are-incoming_deals : (orders : List Order) (deals : List Deal) (incoming_deals : List IncomingDeal) → IsPermutation (incoming_deals_below orders deals (length deals)) incoming_deals → IsSorted incoming_deal_cmp incoming_deals → AreIncomingDeals orders deals incoming_deals
 are-incoming_deals orders deals incoming_deals moved in_order =
-    let from = incoming_deals_upto orders deals (length deals) in
+    let from = incoming_deals_below orders deals (length deals) in
     let once = IsDistinct-from_apart same_deal from (λ i j d lt below. ne_eqb _ _ (λ e. let up = upto-rising orders deals (length deals) i j d lt below in absurd (omega arith))) in
     record {
       only = All-permutation (λ (c : IncomingDeal). (c.deal < length deals) × (c ≡ incoming_deal_of orders deals c.deal)) from incoming_deals moved (upto-only orders deals (length deals));

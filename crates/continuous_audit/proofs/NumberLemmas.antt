@@ -13,10 +13,10 @@ use Rattle.audit_base.proofs.OrderLemmas.{place-rises}
 use Rattle.audit_base.proofs.OffenceLemmas.{get_or-default}
 use Rattle.continuous_audit.specs.declared.incoming_deals.IncomingDeal.{IncomingDeal}
 use Rattle.continuous_audit.specs.declared.market.Market.{Market}
-use Rattle.continuous_audit.specs.declared.numbers.Numbers.{Numbers}
+use Rattle.continuous_audit.specs.declared.numbers.DealingState.{DealingState}
 use Rattle.continuous_audit.specs.declared.order_numbers.OrderNumbers.{OrderNumbers}
 use Rattle.continuous_audit.specs.Progress.{AreNumbers}
-use Rattle.continuous_audit.specs.IncomingDeals.{AreIncomingDeals, incoming_deal_of, incoming_deals_upto, running_total}
+use Rattle.continuous_audit.specs.IncomingDeals.{AreIncomingDeals, incoming_deal_of, incoming_deals_below, running_total}
 use Rattle.continuous_audit.specs.Chains.{HaveChainsEnded, HasChainEnded, AreNumbersInBounds, IsKnownBeforeArrival, flag_in}
 use Rattle.continuous_audit.specs.Records.{AreChainTradedNumbers, AreLeftBefore, AreSizes, AreTradedBefore, ConformsBelow}
 use Rattle.continuous_audit.specs.Scans.{AreTotalsSmall, AreRunningTotals, IsLeftRefreshed, IsSplitAt, incoming_deal_past_end, number_in, incoming_order_at}
@@ -27,9 +27,9 @@ ones : (xs : List IncomingDeal) → sum_by (λ (c : IncomingDeal). 1) xs ≡ len
 ones [] = refl
 ones (x ∷ xs) = omega (arith, ones xs, sum_by-cons (λ (c : IncomingDeal). 1) x xs)
 
-ones-upto : (orders : List Order) (deals : List Deal) (n : ℕ) → sum_by (λ (c : IncomingDeal). 1) (incoming_deals_upto orders deals n) ≡ n
+ones-upto : (orders : List Order) (deals : List Deal) (n : ℕ) → sum_by (λ (c : IncomingDeal). 1) (incoming_deals_below orders deals n) ≡ n
 ones-upto orders deals zero = refl
-ones-upto orders deals (suc n) = omega (arith, ones-upto orders deals n, ones (incoming_deal_of orders deals n ∷ []), sum_by-append (λ (c : IncomingDeal). 1) (incoming_deals_upto orders deals n) (incoming_deal_of orders deals n ∷ []))
+ones-upto orders deals (suc n) = omega (arith, ones-upto orders deals n, ones (incoming_deal_of orders deals n ∷ []), sum_by-append (λ (c : IncomingDeal). 1) (incoming_deals_below orders deals n) (incoming_deal_of orders deals n ∷ []))
 
 -- one number more
 module _ (orders : List Order) (deals : List Deal) (n : ℕ) (n_inside : n < length orders) where
@@ -137,7 +137,7 @@ module _ (orders : List Order) (list : IsOrderList orders) (deals : List Deal) (
         })
 
 -- whatever the deals are, of these numbers
-pub numbers-bounded : (m : Market) (n q : ℕ) (numbers : Numbers) → AreNumbers m n q numbers → AreNumbersInBounds m.orders.now n numbers.order_numbers
+pub numbers-bounded : (m : Market) (n q : ℕ) (numbers : DealingState) → AreNumbers m n q numbers → AreNumbersInBounds m.orders.now n numbers.order_numbers
 numbers-bounded m n q numbers known = record {
   chain_traded_count = known.chain_traded.count;
   sizes_count = known.sizes.count;

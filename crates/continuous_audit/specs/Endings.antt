@@ -16,9 +16,9 @@ abbrev pub endings_of : ℕ → Order → List Ending
 endings_of index order = ending_at index order.cancelled
 
 -- the endings of the first n orders
-abbrev pub endings_upto : List Order → ℕ → List Ending
-endings_upto orders zero = []
-endings_upto orders (suc n) = endings_upto orders n ++ endings_of n (order_at orders n)
+abbrev pub endings_below : List Order → ℕ → List Ending
+endings_below orders zero = []
+endings_below orders (suc n) = endings_below orders n ++ endings_of n (order_at orders n)
 
 -- how endings compare
 abbrev pub ending_cmp : Ending → Ending → Ordering

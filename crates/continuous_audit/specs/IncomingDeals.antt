@@ -18,10 +18,10 @@ incoming_deal_of orders deals deal =
     record { order = incoming_order orders (deal_at deals deal); deal = deal }
 
 -- the first n deals with their incoming orders, in log order
-abbrev pub incoming_deals_upto : List Order → List Deal → ℕ → List IncomingDeal
-incoming_deals_upto orders deals zero = []
-incoming_deals_upto orders deals (suc n) =
-    incoming_deals_upto orders deals n ++ incoming_deal_of orders deals n ∷ []
+abbrev pub incoming_deals_below : List Order → List Deal → ℕ → List IncomingDeal
+incoming_deals_below orders deals zero = []
+incoming_deals_below orders deals (suc n) =
+    incoming_deals_below orders deals n ++ incoming_deal_of orders deals n ∷ []
 
 -- the first is before the second: an earlier order, or the same and an earlier deal
 abbrev pub IncomingDealBefore : IncomingDeal → IncomingDeal → Type 0
@@ -36,7 +36,7 @@ pub record AreIncomingDeals (orders : List Order) (deals : List Deal)
       → Contains incoming_deals (incoming_deal_of orders deals deal)
   pub rising : AllPairs IncomingDealBefore incoming_deals
   pub sums : (f : IncomingDeal → ℕ) → sum_by f incoming_deals
-      ≡ sum_by f (incoming_deals_upto orders deals (length deals))
+      ≡ sum_by f (incoming_deals_below orders deals (length deals))
 
 -- what an order trades in the first of the incoming deals
 abbrev pub running_total : List Deal → List IncomingDeal → ℕ → ℕ → ℕ

@@ -2,7 +2,7 @@
 use Rattle.std.specs.Prelude.{◌≡◌, ◌≤◌, ℕ, suc, None, replicate}
 use Rattle.audit_base.specs.Orders.{place_at}
 use Rattle.continuous_audit.specs.declared.market.Market.{Market}
-use Rattle.continuous_audit.specs.declared.numbers.Numbers.{Numbers}
+use Rattle.continuous_audit.specs.declared.numbers.DealingState.{DealingState}
 use Rattle.continuous_audit.specs.declared.state.State.{State}
 use Rattle.continuous_audit.specs.Books.{AreEmptyBooks, AreBooksAfterDeals, AreBooksBefore, next_order_place}
 use Rattle.continuous_audit.specs.Chains.{HaveChainsEnded}
@@ -13,7 +13,7 @@ use Rattle.continuous_audit.specs.Scans.{IsSplitAt}
 use Rattle.continuous_audit.specs.OrderNumbers.{AreBlankNumbers}
 
 -- the numbers of the first n orders before a place
-pub record AreNumbers (m : Market) (n place : ℕ) (numbers : Numbers) : Type 0 where
+pub record AreNumbers (m : Market) (n place : ℕ) (numbers : DealingState) : Type 0 where
   pub chain_traded : AreChainTradedNumbers m.orders.now m.deals.now n
       numbers.order_numbers.chain_traded.items
   pub chain_ended : HaveChainsEnded m.orders.now n numbers.order_numbers.chain_ended.items
@@ -22,15 +22,15 @@ pub record AreNumbers (m : Market) (n place : ℕ) (numbers : Numbers) : Type 0 
   pub running : HaveTraded m n numbers.running
 
 -- the numbers before an order arrives, at its own place; and those after its deals
-abbrev pub AreNumbersFor : Market → ℕ → Numbers → Type 0
+abbrev pub AreNumbersFor : Market → ℕ → DealingState → Type 0
 AreNumbersFor m order numbers = AreNumbers m order (place_at m.orders.now order) numbers
 
-abbrev pub AreNumbersAfter : Market → ℕ → Numbers → Type 0
+abbrev pub AreNumbersAfter : Market → ℕ → DealingState → Type 0
 AreNumbersAfter m order numbers =
     AreNumbers m (suc order) (suc (place_at m.orders.now order)) numbers
 
 -- the deals of an order, each of which keeps the rules by itself, are those from the start on
-pub record HasDealt (m : Market) (order : ℕ) (numbers : Numbers) : Type 0 where
+pub record HasDealt (m : Market) (order : ℕ) (numbers : DealingState) : Type 0 where
   pub conserved : IsConserved m order
   pub split : IsSplitAt m.incoming_deals.now order numbers.start
   pub from : numbers.start ≤ numbers.running.added
@@ -61,7 +61,7 @@ abbrev pub IsReadyNext : Market → ℕ → State → Type 0
 IsReadyNext m order state = IsReadyAt m order (next_order_place m.orders.now order) state
 
 -- before the first of this many orders
-pub record AreNumbersAtStart (count : ℕ) (numbers : Numbers) : Type 0 where
+pub record AreNumbersAtStart (count : ℕ) (numbers : DealingState) : Type 0 where
   pub order_numbers : AreBlankNumbers count numbers.order_numbers
   pub traded : numbers.running.traded.items ≡ replicate count 0
   pub added : numbers.running.added ≡ 0

@@ -1,6 +1,6 @@
 //! The orders that a record ends, by the place of this record.
 ghost use Rattle.std.specs.Prelude.{◌≡◌, ◌<◌, ◌^◌, ◌++◌, OnOk, IfOk, length};
-ghost use Rattle.continuous_audit.specs.Endings.{AreEndings, endings_of, endings_upto};
+ghost use Rattle.continuous_audit.specs.Endings.{AreEndings, endings_of, endings_below};
 
 use audit_base::faults::NoMemory;
 use order_list::listed::ListedOrder;
@@ -33,8 +33,9 @@ fn add_ending(
 
 /// The orders that a record ends, in log order.
 fn collect_endings(alloc: Global, orders: &OrderList<'_>) -> Result<Vec<Ending>, NoMemory>
-    requires few { length orders.now < 2 ^ 32 }
-    ensures { IfOk result (λ endings. endings.items ≡ endings_upto orders.now (length orders.now)) }
+    requires fits_places { length orders.now < 2 ^ 32 }
+    ensures { IfOk result
+        (λ endings. endings.items ≡ endings_below orders.now (length orders.now)) }
 {
     let mut endings = Vec::with_capacity(alloc, orders.len())?;
     for index in 0..orders.len() {
@@ -45,7 +46,7 @@ fn collect_endings(alloc: Global, orders: &OrderList<'_>) -> Result<Vec<Ending>,
 
 /// The orders that a record ends, by the place of this record.
 pub fn sort_endings(alloc: Global, orders: &OrderList<'_>) -> Result<Vec<Ending>, NoMemory>
-    requires few { length orders.now < 2 ^ 32 }
+    requires fits_places { length orders.now < 2 ^ 32 }
     ensures { IfOk result (λ endings. AreEndings orders.now endings.items) }
 {
     let mut endings = collect_endings(alloc, orders)?;

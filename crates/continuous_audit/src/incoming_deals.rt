@@ -3,7 +3,7 @@ ghost use Rattle.std.specs.Prelude.{◌≡◌, ◌<◌, ◌^◌, All, IfOk, leng
 ghost use Rattle.audit_base.specs.Orders.{order_at, place_at};
 ghost use Rattle.audit_base.specs.Deals.{NamesOrders, IsDealList};
 ghost use Rattle.audit_base.specs.Continuous.{incoming_order, resting_order};
-ghost use Rattle.continuous_audit.specs.IncomingDeals.{AreIncomingDeals, incoming_deals_upto};
+ghost use Rattle.continuous_audit.specs.IncomingDeals.{AreIncomingDeals, incoming_deals_below};
 
 use audit_base::faults::NoMemory;
 use audit_base::orders::Deal;
@@ -49,11 +49,11 @@ fn collect_incoming_deals(
     orders: &OrderList<'_>,
     deals: &[Deal],
 ) -> Result<Vec<IncomingDeal>, NoMemory>
-    requires few_orders { length orders.now < 2 ^ 32 }
-    requires few_deals { length deals.now < 2 ^ 32 }
+    requires orders_fit_places { length orders.now < 2 ^ 32 }
+    requires deals_fit_places { length deals.now < 2 ^ 32 }
     requires named { All (NamesOrders orders.now) deals.now }
     ensures { IfOk result (λ incoming_deals.
-        incoming_deals.items ≡ incoming_deals_upto orders.now deals.now (length deals.now)) }
+        incoming_deals.items ≡ incoming_deals_below orders.now deals.now (length deals.now)) }
 {
     let mut incoming_deals = Vec::with_capacity(alloc, deals.len())?;
     for (index, deal) in deals.iter().enumerate() {
@@ -72,8 +72,8 @@ pub fn sort_incoming_deals(
     orders: &OrderList<'_>,
     deals: &[Deal],
 ) -> Result<Vec<IncomingDeal>, NoMemory>
-    requires few_orders { length orders.now < 2 ^ 32 }
-    requires few_deals { length deals.now < 2 ^ 32 }
+    requires orders_fit_places { length orders.now < 2 ^ 32 }
+    requires deals_fit_places { length deals.now < 2 ^ 32 }
     requires named { All (NamesOrders orders.now) deals.now }
     ensures { IfOk result (λ incoming_deals.
         AreIncomingDeals orders.now deals.now incoming_deals.items) }

@@ -18,21 +18,21 @@ use std::alloc::Global;
 
 /// What is known of the orders, and at which of the incoming deals those of the last one begin.
 #[derive(Drop)]
-pub struct Numbers {
+pub struct DealingState {
     pub order_numbers: OrderNumbers,
     pub running: RunningTotals,
     pub start: usize,
 }
 
-impl Numbers {
+impl DealingState {
     /// The numbers before the first of this many orders.
-    pub fn new(alloc: Global, count: usize) -> Result<Numbers, NoMemory>
+    pub fn new(alloc: Global, count: usize) -> Result<DealingState, NoMemory>
         ensures { IfOk result (AreNumbersAtStart count) }
     {
         let order_numbers = OrderNumbers::new(alloc, count)?;
         let traded = zeros(alloc, count)?;
         let running = RunningTotals { traded, added: 0 };
-        Ok(Numbers {
+        Ok(DealingState {
             order_numbers,
             running,
             start: 0,

@@ -14,7 +14,7 @@ ghost use Rattle.continuous_audit.specs.Records.{priority_at};
 use super::books::Books;
 use super::incoming_deals::resting_of;
 use super::market::Market;
-use super::numbers::Numbers;
+use super::numbers::DealingState;
 use audit_base::flaws::{Evidence, Flaw};
 use order_book::books::Resting;
 use rank_order::comparing::better;
@@ -36,7 +36,7 @@ fn outranks(market: &Market<'_>, over: usize, at: usize) -> bool
 }
 
 /// The flaw of the deal at `at` of the incoming deals, which passes over the order at `over`.
-fn priority_flaw(market: &Market<'_>, numbers: &Numbers, over: usize, at: usize) -> Flaw
+fn priority_flaw(market: &Market<'_>, numbers: &DealingState, over: usize, at: usize) -> Flaw
     requires market { IsMarket market.now }
     requires at { at < length market.now.incoming_deals.now }
     requires over { HasShownNumber numbers.now over }
@@ -62,7 +62,7 @@ fn priority_flaw(market: &Market<'_>, numbers: &Numbers, over: usize, at: usize)
 fn check_priority(
     market: &Market<'_>,
     order: usize,
-    numbers: &Numbers,
+    numbers: &DealingState,
     best: Resting,
 ) -> Option<Flaw>
     requires market { IsMarket market.now }
@@ -87,7 +87,7 @@ fn check_priority(
 pub fn pass_deals(
     market: &Market<'_>,
     order: usize,
-    numbers: &Numbers,
+    numbers: &DealingState,
     books: &mut Books,
 ) -> Option<Flaw>
     requires market { IsMarket market.now }

@@ -12,7 +12,7 @@ ghost use Rattle.continuous_audit.specs.Holding.{IsUncrossedBefore};
 ghost use Rattle.continuous_audit.specs.Spreads.{IsAfterOwn, is_active_after_with, rests_after_with};
 
 use super::books::Books;
-use super::numbers::Numbers;
+use super::numbers::DealingState;
 use audit_base::faults::NoMemory;
 use audit_base::flaws::{Evidence, Flaw, TradedOrder};
 use audit_base::numbers::Price;
@@ -93,7 +93,12 @@ fn spread_evidence(side: Side, own: TradedOrder, other: TradedOrder) -> Evidence
 }
 
 /// The flaw of the record of the order at `order`, which meets the one at `other`.
-pub fn spread_flaw(orders: &OrderList<'_>, numbers: &Numbers, order: usize, other: usize) -> Flaw
+pub fn spread_flaw(
+    orders: &OrderList<'_>,
+    numbers: &DealingState,
+    order: usize,
+    other: usize,
+) -> Flaw
     requires order { order < length orders.now }
     requires own { HasShownNumber numbers.now order }
     requires other { HasShownNumber numbers.now other }

@@ -7,7 +7,7 @@ ghost use Rattle.continuous_audit.specs.Progress.{IsAfterDeals, IsFirstState, Is
 
 use super::books::BooksSoFar;
 use super::market::Market;
-use super::numbers::Numbers;
+use super::numbers::DealingState;
 use super::passing::pass_deals;
 use super::spreading::{enter_own, spread_flaw, spread_of};
 use audit_base::faults::NoMemory;
@@ -18,7 +18,7 @@ use std::alloc::Global;
 /// What is known before an order arrives: the numbers of the earlier ones, and what of them rests.
 #[derive(Drop)]
 pub struct State {
-    pub numbers: Numbers,
+    pub numbers: DealingState,
     pub books_so_far: BooksSoFar,
 }
 
@@ -27,7 +27,7 @@ impl State {
     pub fn new(alloc: Global, count: usize) -> Result<State, NoMemory>
         ensures { IfOk result (IsFirstState count) }
     {
-        let numbers = Numbers::new(alloc, count)?;
+        let numbers = DealingState::new(alloc, count)?;
         Ok(State {
             numbers,
             books_so_far: BooksSoFar::new(alloc),

@@ -278,7 +278,7 @@ impl<R: CsvRecord, K: Collector<Entry = R>> CsvFeed<K> {
         requires { IsCsvFeedWithinLimit K.has_taken R.names R.meaning self }
         ensures reads { (log : List ℕ) → IsCsvFeedOf K.has_taken R.names R.meaning self log
             → AnswersCollected K.has_taken (read_csv_log R.names R.meaning log) result }
-        ensures few { IfOk result (HasPlace K.has_taken) }
+        ensures fits_places { IfOk result (HasPlace K.has_taken) }
         ensures nine { (log : List ℕ) → IfOk (read_csv_log R.names R.meaning log)
             (λ entries. HasNineBytesEach entries log) }
         ensures sound { (log : List ℕ) → IfOk (read_csv_log R.names R.meaning log) (All R.sound) }
@@ -319,7 +319,7 @@ impl<R: CsvRecord> CsvFeed<Vec<R>> {
             (log : List ℕ) → IsCsvFeedOf has_taken R.names R.meaning self log
             → AnswersLogRecords (read_csv_log R.names R.meaning log) result }
         ensures sound { IfOk result (λ entries. All R.sound entries.items) }
-        ensures few { IfOk result (λ entries. vec_len entries < 2 ^ 32 - 1) }
+        ensures fits_places { IfOk result (λ entries. vec_len entries < 2 ^ 32 - 1) }
         ensures nine { let has_taken = ⟦<Vec<R> as Collector>⟧.has_taken in
             (log : List ℕ) → IsCsvFeedOf has_taken R.names R.meaning self log
             → IfOk result (λ entries. HasNineBytesEach entries.items log) }

@@ -21,7 +21,7 @@ fn entries_of<R: CsvRecord>(alloc: Global, bytes: &[u8]) -> Result<Vec<R>, LogFa
     requires { length bytes.now ≤ longest_read }
     ensures reads { AnswersLogRecords (read_csv_log R.names R.meaning bytes.now) result }
     ensures sound { IfOk result (λ entries. All R.sound entries.items) }
-    ensures few { IfOk result (λ entries. vec_len entries < 2 ^ 32 - 1) }
+    ensures fits_places { IfOk result (λ entries. vec_len entries < 2 ^ 32 - 1) }
     ensures nine { IfOk result (λ entries. HasNineBytesEach entries.items bytes.now) }
     ensures unique { let reading = read_csv_log R.names R.meaning bytes.now in
         IsOnlyCsvReading R.names R.meaning bytes.now reading }
@@ -43,7 +43,7 @@ pub fn csv_orders_of(alloc: Global, bytes: &[u8]) -> Result<Vec<OrderRecord>, Lo
     requires { length bytes.now ≤ longest_read }
     ensures reads { AnswersLogRecords (csv_order_records bytes.now) result }
     ensures priced { IfOk result (λ entries. All HasMarketPrice entries.items) }
-    ensures few { IfOk result (λ entries. vec_len entries < 2 ^ 32 - 1) }
+    ensures fits_places { IfOk result (λ entries. vec_len entries < 2 ^ 32 - 1) }
     ensures nine { IfOk result (λ entries. HasNineBytesEach entries.items bytes.now) }
     ensures unique { IsOnlyCsvReading order_columns order_of_row bytes.now
         (csv_order_records bytes.now) }
@@ -56,7 +56,7 @@ pub fn csv_orders_of(alloc: Global, bytes: &[u8]) -> Result<Vec<OrderRecord>, Lo
 pub fn csv_trades_of(alloc: Global, bytes: &[u8]) -> Result<Vec<TradeRecord>, LogFault>
     requires { length bytes.now ≤ longest_read }
     ensures reads { AnswersLogRecords (csv_trade_records bytes.now) result }
-    ensures few { IfOk result (λ entries. vec_len entries < 2 ^ 32 - 1) }
+    ensures fits_places { IfOk result (λ entries. vec_len entries < 2 ^ 32 - 1) }
     ensures nine { IfOk result (λ entries. HasNineBytesEach entries.items bytes.now) }
     ensures unique { IsOnlyCsvReading trade_columns trade_of_row bytes.now
         (csv_trade_records bytes.now) }

@@ -12,7 +12,7 @@ use Rattle.day_symbols.specs.Shares.{DayShare}
 use Rattle.record_verdict.specs.declared.scopes.Admission.{Admission}
 use Rattle.day_trades.specs.declared.day_trades.EndedTrades.{EndedTrades}
 use Rattle.day_verdicts.specs.declared.day_verdicts.JudgedSymbols.{JudgedSymbols}
-use Rattle.day_verdicts.specs.DayVerdicts.{JudgesShare}
+use Rattle.day_verdicts.specs.DayVerdicts.{IsJudgedShare}
 use Rattle.log_source.specs.Sources.{RoseOrIsFull}
 use Rattle.log_verdict.specs.declared.sources.Source.{Source}
 use Rattle.log_verdict.specs.declared.stops.Stop.{Stop}
@@ -25,30 +25,30 @@ use Rattle.day_logs.specs.declared.answers.DayAnswer.{DayAnswer}
 use Rattle.day_logs.specs.declared.answers.DayAnswer.TheVariants as answer
 use Rattle.day_logs.specs.declared.answers.DayQuestion.{DayQuestion}
 use Rattle.day_logs.specs.declared.before_rule.DayBeforeRule.{DayBeforeRule}
-use Rattle.day_logs.specs.declared.before_rule.DayBeforeRule.TheVariants as upto
-use Rattle.day_logs.specs.DayAnswers.{AnswersHeldDay, DayMeaning, GivesDayAnswerOrStop, HoldsDay, IsAnswerToLogs, IsAnswerToRecords, IsAnswerUpToRule, JudgesTrades, ReadsDayAnswer}
+use Rattle.day_logs.specs.declared.before_rule.DayBeforeRule.TheVariants as before_rule
+use Rattle.day_logs.specs.DayAnswers.{AnswersHeldDay, DayMeaning, GivesDayAnswerOrStop, HoldsDay, IsAnswerToLogs, IsAnswerToRecords, IsAnswerUpToRule, AreVerdictsOfDay, ReadsDayAnswer}
 use Rattle.day_logs.specs.DayBeforeRule.{IsDayBeforeRule, ReadsDayUpToRule}
 use Rattle.day_logs.proofs.JoinLemmas.{reads-on}
 
 -- the answer to what both logs come to is the answer to both
-pub reads-answer : (r : Reading) (share : DayShare) (admission : Admission) (judges : DayMeaning) (orders trades : Source) (reached : DayBeforeRule) (a : DayAnswer) → ReadsDayUpToRule r share admission orders trades reached
-    → IsAnswerUpToRule share admission judges reached a → ReadsDayAnswer r judges orders trades a
-reads-answer r share admission judges orders trades reached a read is =
+pub reads-answer : (r : Reading) (share : DayShare) (admission : Admission) (meaning : DayMeaning) (orders trades : Source) (given : DayBeforeRule) (a : DayAnswer) → ReadsDayUpToRule r share admission orders trades given
+    → IsAnswerUpToRule share admission meaning given a → ReadsDayAnswer r meaning orders trades a
+reads-answer r share admission meaning orders trades given a read is =
     reads-on r orders trades _ _ _ _ is.of_records is.of_place read
 
 some-not-none : (bytes : List ℕ) → Some bytes ≡ None → ⊥
 some-not-none bytes e = cc
 
-module _ (r : Reading) (judges : DayMeaning) (orders trades : Source) (orders_bytes trades_bytes : List ℕ) (held : HoldsDay r orders trades orders_bytes trades_bytes) where
+module _ (r : Reading) (meaning : DayMeaning) (orders trades : Source) (orders_bytes trades_bytes : List ℕ) (held : HoldsDay r orders trades orders_bytes trades_bytes) where
   -- the logs that were read are those that are held
-  held-answer : (a : DayAnswer) → ReadsDayAnswer r judges orders trades a → IsAnswerToLogs judges (log_in orders.form orders_bytes) (log_in trades.form trades_bytes) a
+  held-answer : (a : DayAnswer) → ReadsDayAnswer r meaning orders trades a → IsAnswerToLogs meaning (log_in orders.form orders_bytes) (log_in trades.form trades_bytes) a
   held-answer a is =
       let same : is.bytes ≡ orders_bytes = same_Some is.bytes orders_bytes (sym (is.read.known held.tells) ∙ held.orders_there) in
       of_orders (records_of_order_log orders.form orders_bytes)
       (subst (λ (bytes : List ℕ). ReadsAfterOrders r trades P B (records_of_order_log orders.form bytes)) same is.holds)
     where
       P : List OrderRecord → Result (List TradeRecord) Finding → Type 0
-      P entries paired = IsAnswerToRecords judges entries paired a
+      P entries paired = IsAnswerToRecords meaning entries paired a
 
       B : Which → BadPlace → Type 0
       B log bad = a ≡ answer.Malformed log bad
@@ -79,16 +79,16 @@ module _ (r : Reading) (judges : DayMeaning) (orders trades : Source) (orders_by
   no-fault log (inr (t, none)) = held-there log none
 
 -- where the logs are held and nothing fails, the answer is the one to them, or memory ran out
-pub answers-held : (r : Reading) (judges : DayMeaning) (orders trades : Source) (result : Result DayAnswer Stop) → GivesDayAnswerOrStop r judges orders trades result → AnswersHeldDay r judges orders trades result
-answers-held r judges orders trades (Ok a) is orders_bytes trades_bytes held = held-answer r judges orders trades orders_bytes trades_bytes held a is
-answers-held r judges orders trades (Err (stop.ReadFault log)) is orders_bytes trades_bytes held = absurd (no-fault r judges orders trades orders_bytes trades_bytes held log is.fault.cause)
-answers-held r judges orders trades (Err (stop.TooLong log)) is orders_bytes trades_bytes held = absurd (held-short r judges orders trades orders_bytes trades_bytes held log (is.long.longer held.tells))
-answers-held r judges orders trades (Err stop.Memory) is orders_bytes trades_bytes held = refl
+pub answers-held : (r : Reading) (meaning : DayMeaning) (orders trades : Source) (result : Result DayAnswer Stop) → GivesDayAnswerOrStop r meaning orders trades result → AnswersHeldDay r meaning orders trades result
+answers-held r meaning orders trades (Ok a) is orders_bytes trades_bytes held = held-answer r meaning orders trades orders_bytes trades_bytes held a is
+answers-held r meaning orders trades (Err (stop.ReadFault log)) is orders_bytes trades_bytes held = absurd (no-fault r meaning orders trades orders_bytes trades_bytes held log is.fault.cause)
+answers-held r meaning orders trades (Err (stop.TooLong log)) is orders_bytes trades_bytes held = absurd (held-short r meaning orders trades orders_bytes trades_bytes held log (is.long.longer held.tells))
+answers-held r meaning orders trades (Err stop.Memory) is orders_bytes trades_bytes held = refl
 
 -- The answer to what two logs come to: their verdicts.
-pub judged-up-to : (q : DayQuestion) (ended : EndedTrades) (judged : JudgedSymbols) → JudgesShare q.rule q.table q.share ended judged → IsAnswerUpToRule q.share (admission_of q.rule) (JudgesTrades q) (upto.Read ended) (answer.Judged judged)
+pub judged-up-to : (q : DayQuestion) (ended : EndedTrades) (judged : JudgedSymbols) → IsJudgedShare q.rule q.table q.share ended judged → IsAnswerUpToRule q.share (admission_of q.rule) (AreVerdictsOfDay q) (before_rule.Read ended) (answer.Judged judged)
 judged-up-to q ended judged is = record { of_place = λ log bad e. absurd (cc); of_records = of-records }
   where
-    of-records : (entries : List OrderRecord) (paired : Result (List TradeRecord) Finding) → IsDayBeforeRule q.share (admission_of q.rule) entries paired (upto.Read ended) → IsAnswerToRecords (JudgesTrades q) entries paired (answer.Judged judged)
+    of-records : (entries : List OrderRecord) (paired : Result (List TradeRecord) Finding) → IsDayBeforeRule q.share (admission_of q.rule) entries paired (before_rule.Read ended) → IsAnswerToRecords (AreVerdictsOfDay q) entries paired (answer.Judged judged)
     of-records entries (Ok trades) has = is entries trades has
     of-records entries (Err finding) has = has

@@ -11,14 +11,14 @@ use Rattle.day_report.specs.DayTexts.{day_line}
 use Rattle.day_logs.specs.declared.answers.DayAnswer.{DayAnswer}
 use Rattle.day_logs.specs.declared.answers.DayAnswer.TheVariants as answer
 use Rattle.day_logs.specs.declared.answers.DayQuestion.{DayQuestion}
-use Rattle.day_logs.specs.DayAnswers.{IsAnswerToRecords, JudgesTrades}
+use Rattle.day_logs.specs.DayAnswers.{IsAnswerToRecords, AreVerdictsOfDay}
 use Rattle.day_logs.specs.DayAnswerTexts.{day_answer_status, day_answer_text}
 use Rattle.day_logs.specs.Laws.{AreWrittenAlike, OneDayAnswer, SharesHaveTheVerdicts}
 use Rattle.day_verdicts.specs.DayVerdicts.{IsJudgedDay}
 use Rattle.day_verdicts.specs.Laws.{OneDay}
 use Rattle.day_verdicts.specs.declared.day_verdicts.JudgedSymbols.{JudgedSymbols}
 use Rattle.log_verdict.specs.LogVerdicts.{records_of_order_log, trades_of_trade_log}
-use Rattle.record_verdict.specs.Judgements.{question}
+use Rattle.record_verdict.specs.RecordVerdicts.{question}
 use Rattle.record_verdict.specs.Laws.{RecordVerdictIsOne}
 
 pub shares-have-verdicts : RecordVerdictIsOne → SharesHaveTheVerdicts
@@ -49,7 +49,7 @@ module _ (one : OneDay) (q : DayQuestion) (judged_by : List ℕ) where
   same-unpaired : (x y : Finding) (paired : Result (List TradeRecord) Finding) → paired ≡ Err x → paired ≡ Err y → x ≡ y
   same-unpaired x y paired is-x is-y = cc (is-x, is-y)
 
-  same-records : (entries : List OrderRecord) (paired : Result (List TradeRecord) Finding) (a b : DayAnswer) → IsAnswerToRecords (JudgesTrades q) entries paired a → IsAnswerToRecords (JudgesTrades q) entries paired b
+  same-records : (entries : List OrderRecord) (paired : Result (List TradeRecord) Finding) (a b : DayAnswer) → IsAnswerToRecords (AreVerdictsOfDay q) entries paired a → IsAnswerToRecords (AreVerdictsOfDay q) entries paired b
       → AreWrittenAlike judged_by a b
   same-records entries (Ok trades) (answer.Judged a) (answer.Judged b) is-a is-b = same-days entries trades _ a b is-a is-b
   same-records entries (Err finding) (answer.Judged a) b is-a is-b = absurd is-a
@@ -66,8 +66,8 @@ module _ (one : OneDay) (q : DayQuestion) (judged_by : List ℕ) where
 
   -- two answers to what two logs say
   same-logs : (said : Result (List OrderRecord) BadPlace) (trades : Result (Result (List TradeRecord) Finding) BadPlace) (a b : DayAnswer)
-      → MatchResult said (λ entries. MatchResult trades (λ paired. IsAnswerToRecords (JudgesTrades q) entries paired a) (λ bad. a ≡ answer.Malformed Trades bad)) (λ bad. a ≡ answer.Malformed Orders bad)
-      → MatchResult said (λ entries. MatchResult trades (λ paired. IsAnswerToRecords (JudgesTrades q) entries paired b) (λ bad. b ≡ answer.Malformed Trades bad)) (λ bad. b ≡ answer.Malformed Orders bad)
+      → MatchResult said (λ entries. MatchResult trades (λ paired. IsAnswerToRecords (AreVerdictsOfDay q) entries paired a) (λ bad. a ≡ answer.Malformed Trades bad)) (λ bad. a ≡ answer.Malformed Orders bad)
+      → MatchResult said (λ entries. MatchResult trades (λ paired. IsAnswerToRecords (AreVerdictsOfDay q) entries paired b) (λ bad. b ≡ answer.Malformed Trades bad)) (λ bad. b ≡ answer.Malformed Orders bad)
       → AreWrittenAlike judged_by a b
   same-logs (Err bad) trades a b is-a is-b = same-place Orders bad a b is-a is-b
   same-logs (Ok entries) (Err bad) a b is-a is-b = same-place Trades bad a b is-a is-b

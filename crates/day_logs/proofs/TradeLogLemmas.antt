@@ -7,7 +7,7 @@ use Rattle.audit_base.specs.declared.terms.Which.TheVariants.{Orders, Trades}
 use Rattle.day_symbols.specs.Shares.{DayShare}
 use Rattle.day_trades.specs.declared.day_trades.EndedTrades.{EndedTrades}
 use Rattle.day_trades.specs.DayTrades.{HasTradesOf}
-use Rattle.day_logs.specs.declared.before_rule.DayBeforeRule.TheVariants as upto
+use Rattle.day_logs.specs.declared.before_rule.DayBeforeRule.TheVariants as before_rule
 use Rattle.day_logs.specs.DayBeforeRule.{day_without_log, GivesDayBeforeRuleOrStop, GivesDayTradesOrStop, IsDayReadAfterOrders}
 use Rattle.log_verdict.specs.declared.reading.Unread.{Unread}
 use Rattle.log_verdict.specs.declared.reading.Unread.TheVariants as unread
@@ -22,13 +22,13 @@ module _ (r : Reading) (share : DayShare) (admission : Admission) (trades : Sour
   -- the trades that a day was handed
   pub day-ended : (has_taken : List TradeRecord → Type 0) (ended : EndedTrades)
       → IsReadAs r Trades trades.name.now (λ bytes. HasLogTrades has_taken (trades_of_trade_log trades.form bytes)) → ((ts : List TradeRecord) → has_taken ts → HasTradesOf share admission entries ended ts)
-      → IsDayReadAfterOrders r share admission trades entries (upto.Read ended)
+      → IsDayReadAfterOrders r share admission trades entries (before_rule.Read ended)
   day-ended has_taken ended read ends =
       record { bytes = read.bytes; read = read.read; holds = rw read.holds.says (ends read.holds.trades read.holds.has) }
 
   -- a report without its partner
   pub day-unpaired : (finding : Finding) → IsReadAs r Trades trades.name.now (λ bytes. trades_of_trade_log trades.form bytes ≡ Ok (Err finding))
-      → IsDayReadAfterOrders r share admission trades entries (upto.Unpaired finding)
+      → IsDayReadAfterOrders r share admission trades entries (before_rule.Unpaired finding)
   day-unpaired finding read = record { bytes = read.bytes; read = read.read; holds = rw read.holds refl }
 
   -- where the trade log was not read into trades, what is answered says why

@@ -11,7 +11,7 @@ use Rattle.day_logs.specs.declared.answers.DayAnswer.{DayAnswer}
 use Rattle.day_logs.specs.declared.answers.DayAnswer.TheVariants as answer
 use Rattle.day_logs.specs.declared.answers.DayQuestion.{DayQuestion}
 use Rattle.day_logs.specs.declared.before_rule.DayBeforeRule.{DayBeforeRule}
-use Rattle.day_logs.specs.declared.before_rule.DayBeforeRule.TheVariants as upto
+use Rattle.day_logs.specs.declared.before_rule.DayBeforeRule.TheVariants as before_rule
 use Rattle.day_logs.specs.DayBeforeRule.{IsDayBeforeRule}
 use Rattle.day_symbols.specs.Shares.{DayShare, symbols_in}
 use Rattle.day_symbols.specs.Symbols.{symbols_of_day}
@@ -31,8 +31,8 @@ abbrev pub DayMeaning : Type 1
 DayMeaning = List OrderRecord → JudgedSymbols → List TradeRecord → Type 0
 
 -- these are the counts and lines of the verdicts on the symbols of the share, in these records
-abbrev pub JudgesTrades : DayQuestion → DayMeaning
-JudgesTrades q entries judged trades =
+abbrev pub AreVerdictsOfDay : DayQuestion → DayMeaning
+AreVerdictsOfDay q entries judged trades =
     IsJudgedDay q.rule q.table entries trades
     (symbols_in q.share (symbols_of_day entries trades)) judged
 
@@ -40,29 +40,29 @@ JudgesTrades q entries judged trades =
 -- alone, exactly where the reports of the trade log do not pair
 abbrev pub IsAnswerToRecords : DayMeaning → List OrderRecord → Result (List TradeRecord) Finding
     → DayAnswer → Type 0
-IsAnswerToRecords judges entries paired (answer.Judged judged) =
-    IsOkAnd paired (judges entries judged)
-IsAnswerToRecords judges entries paired (answer.Unpaired finding) = paired ≡ Err finding
-IsAnswerToRecords judges entries paired (answer.Malformed log bad) = ⊥
+IsAnswerToRecords meaning entries paired (answer.Judged judged) =
+    IsOkAnd paired (meaning entries judged)
+IsAnswerToRecords meaning entries paired (answer.Unpaired finding) = paired ≡ Err finding
+IsAnswerToRecords meaning entries paired (answer.Malformed log bad) = ⊥
 
 -- the answer to two logs: that to their records, or the first bad place
 abbrev pub IsAnswerToLogs : DayMeaning → Log → Log → DayAnswer → Type 0
-IsAnswerToLogs judges orders trades the_answer =
-    OfLogs (λ entries paired. IsAnswerToRecords judges entries paired the_answer)
+IsAnswerToLogs meaning orders trades the_answer =
+    OfLogs (λ entries paired. IsAnswerToRecords meaning entries paired the_answer)
     (λ log bad. the_answer ≡ answer.Malformed log bad) orders trades
 
 -- both logs were read, and this is the answer to them
 abbrev pub ReadsDayAnswer : Reading → DayMeaning → Source → Source → DayAnswer → Type 0
-ReadsDayAnswer r judges orders trades the_answer =
+ReadsDayAnswer r meaning orders trades the_answer =
     ReadsLogs r orders trades
-    (λ entries paired. IsAnswerToRecords judges entries paired the_answer)
+    (λ entries paired. IsAnswerToRecords meaning entries paired the_answer)
     (λ log bad. the_answer ≡ answer.Malformed log bad)
 
 -- the answer to both logs, or why there is none
 abbrev pub GivesDayAnswerOrStop : Reading → DayMeaning → Source → Source → Result DayAnswer Stop
     → Type 0
-GivesDayAnswerOrStop r judges orders trades result =
-    MatchResult result (ReadsDayAnswer r judges orders trades) (IsStopOfTwoLogs r orders trades)
+GivesDayAnswerOrStop r meaning orders trades result =
+    MatchResult result (ReadsDayAnswer r meaning orders trades) (IsStopOfTwoLogs r orders trades)
 
 -- It is known what the shelf has, and it has both logs under their names, each within the limit;
 -- and no fault of it was counted in the call, nor is a count of faults at its greatest value.
@@ -79,10 +79,10 @@ pub record HoldsDay (r : Reading) (orders trades : Source) (orders_bytes trades_
 -- logs, or memory ran out
 abbrev pub AnswersHeldDay : Reading → DayMeaning → Source → Source → Result DayAnswer Stop
     → Type 0
-AnswersHeldDay r judges orders trades result = (orders_bytes trades_bytes : List ℕ)
+AnswersHeldDay r meaning orders trades result = (orders_bytes trades_bytes : List ℕ)
     → HoldsDay r orders trades orders_bytes trades_bytes
     → MatchResult result
-    (IsAnswerToLogs judges (log_in orders.form orders_bytes) (log_in trades.form trades_bytes))
+    (IsAnswerToLogs meaning (log_in orders.form orders_bytes) (log_in trades.form trades_bytes))
     (λ why. why ≡ stop.Memory)
 
 -- What functions pass on.
@@ -90,9 +90,9 @@ AnswersHeldDay r judges orders trades result = (orders_bytes trades_bytes : List
 -- The answer to what two logs give before the rule is looked at: their first bad place; and of
 -- whatever records give this, the answer to them.
 pub record IsAnswerUpToRule (share : DayShare) (admission : Admission)
-    (judges : DayMeaning) (reached : DayBeforeRule) (the_answer : DayAnswer) : Type 0 where
-  pub of_place : (log : Which) (bad : BadPlace) → reached ≡ upto.Malformed log bad
+    (meaning : DayMeaning) (given : DayBeforeRule) (the_answer : DayAnswer) : Type 0 where
+  pub of_place : (log : Which) (bad : BadPlace) → given ≡ before_rule.Malformed log bad
       → the_answer ≡ answer.Malformed log bad
   pub of_records : (entries : List OrderRecord) (paired : Result (List TradeRecord) Finding)
-      → IsDayBeforeRule share admission entries paired reached
-      → IsAnswerToRecords judges entries paired the_answer
+      → IsDayBeforeRule share admission entries paired given
+      → IsAnswerToRecords meaning entries paired the_answer

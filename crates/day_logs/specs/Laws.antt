@@ -6,7 +6,7 @@ use Rattle.audit_base.specs.declared.terms.Rule.{Rule}
 use Rattle.audit_report.specs.declared.verdicts.Verdict.{Verdict}
 use Rattle.day_logs.specs.declared.answers.DayAnswer.{DayAnswer}
 use Rattle.day_logs.specs.declared.answers.DayQuestion.{DayQuestion}
-use Rattle.day_logs.specs.DayAnswers.{IsAnswerToLogs, JudgesTrades}
+use Rattle.day_logs.specs.DayAnswers.{IsAnswerToLogs, AreVerdictsOfDay}
 use Rattle.day_logs.specs.DayAnswerTexts.{day_answer_status, day_answer_text}
 use Rattle.day_symbols.specs.Shares.{DayShare, symbols_in}
 use Rattle.day_symbols.specs.Symbols.{symbols_of_day}
@@ -41,5 +41,5 @@ pub record AreWrittenAlike (judged_by : List ℕ) (a b : DayAnswer) : Type 0 whe
 -- and one status
 abbrev pub OneDayAnswer : Type 0
 OneDayAnswer = (q : DayQuestion) (orders trades : Log) (judged_by : List ℕ) (a b : DayAnswer)
-    → IsAnswerToLogs (JudgesTrades q) orders trades a
-    → IsAnswerToLogs (JudgesTrades q) orders trades b → AreWrittenAlike judged_by a b
+    → IsAnswerToLogs (AreVerdictsOfDay q) orders trades a
+    → IsAnswerToLogs (AreVerdictsOfDay q) orders trades b → AreWrittenAlike judged_by a b

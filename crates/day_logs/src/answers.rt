@@ -4,7 +4,7 @@ ghost use Rattle.log_verdict.specs.BothLogs.{HaveOneLimit, StaysWithin};
 ghost use Rattle.log_verdict.specs.Steps.{reading_by, KeepsShelfLogs, FaultsNeverFall};
 ghost use Rattle.record_verdict.specs.Scopes.{admission_of};
 ghost use Rattle.day_logs.specs.DayAnswers.{AnswersHeldDay, GivesDayAnswerOrStop};
-ghost use Rattle.day_logs.specs.DayAnswers.{IsAnswerUpToRule, JudgesTrades};
+ghost use Rattle.day_logs.specs.DayAnswers.{IsAnswerUpToRule, AreVerdictsOfDay};
 ghost use Rattle.day_logs.specs.DayBeforeRule.{IsDayWithFewTrades};
 
 use crate::before_rule::DayBeforeRule;
@@ -45,13 +45,13 @@ pub enum DayAnswer {
 fn answer_after(
     alloc: Global,
     question: &DayQuestion,
-    reached: DayBeforeRule,
+    given: DayBeforeRule,
 ) -> Result<DayAnswer, NoMemory>
-    requires { IsDayWithFewTrades question.now.share (admission_of question.now.rule) reached }
+    requires { IsDayWithFewTrades question.now.share (admission_of question.now.rule) given }
     ensures { let admission = admission_of question.now.rule in IfOk result
-        (IsAnswerUpToRule question.now.share admission (JudgesTrades question.now) reached) }
+        (IsAnswerUpToRule question.now.share admission (AreVerdictsOfDay question.now) given) }
 {
-    match reached {
+    match given {
         DayBeforeRule::Malformed { log, bad } => Ok(DayAnswer::Malformed { log, bad }),
         DayBeforeRule::Unpaired(finding) => Ok(DayAnswer::Unpaired(finding)),
         DayBeforeRule::Read(ended) => {
@@ -73,12 +73,12 @@ fn answer_to<F: Shelf>(
     ensures logs { KeepsShelfLogs F.Shelf shelf.old shelf.new }
     ensures later { FaultsNeverFall (reading_by orders.now F.Shelf shelf.old shelf.new) }
     ensures decides { GivesDayAnswerOrStop (reading_by orders.now F.Shelf shelf.old shelf.new)
-        (JudgesTrades question.now) orders.now trades.now result }
+        (AreVerdictsOfDay question.now) orders.now trades.now result }
     ensures within { StaysWithin (reading_by orders.now F.Shelf shelf.old shelf.new) result }
 {
     let admission = Admission::of(question.rule);
     match read_day(alloc, shelf, question.share, admission, orders, trades) {
-        Ok(reached) => Ok(answer_after(alloc, question, reached)?),
+        Ok(given) => Ok(answer_after(alloc, question, given)?),
         Err(stop) => Err(stop),
     }
 }
@@ -104,9 +104,9 @@ pub fn verdicts_on<F: Shelf>(
     ensures logs { KeepsShelfLogs F.Shelf shelf.old shelf.new }
     ensures later { FaultsNeverFall (reading_by orders.now F.Shelf shelf.old shelf.new) }
     ensures decides { GivesDayAnswerOrStop (reading_by orders.now F.Shelf shelf.old shelf.new)
-        (JudgesTrades question.now) orders.now trades.now result }
+        (AreVerdictsOfDay question.now) orders.now trades.now result }
     ensures complete { AnswersHeldDay (reading_by orders.now F.Shelf shelf.old shelf.new)
-        (JudgesTrades question.now) orders.now trades.now result }
+        (AreVerdictsOfDay question.now) orders.now trades.now result }
     ensures within { StaysWithin (reading_by orders.now F.Shelf shelf.old shelf.new) result }
 {
     answer_to(alloc, shelf, question, orders, trades)

@@ -51,7 +51,7 @@ fn read_trades<M: AuditedDay, F: Shelf>(
     ensures decides { (entries : List AnEntry) → M.may_have entries
         → GivesDayTradesOrStop (reading_by trades.now F.Shelf shelf.old shelf.new)
         M.share M.admission trades.now entries result }
-    ensures few { IfOk result (IsDayWithFewTrades M.share M.admission) }
+    ensures fits_places { IfOk result (IsDayWithFewTrades M.share M.admission) }
     ensures within { StaysWithinAt (reading_by trades.now F.Shelf shelf.old shelf.new)
         Which.Trades result }
 {
@@ -82,7 +82,7 @@ fn after_orders<M: AuditedDay, F: Shelf>(
     ensures decides { (entries : List AnEntry) → M.may_have entries
         → GivesDayTradesOrStop (reading_by trades.now F.Shelf shelf.old shelf.new)
         share admission trades.now entries result }
-    ensures few { IfOk result (IsDayWithFewTrades share admission) }
+    ensures fits_places { IfOk result (IsDayWithFewTrades share admission) }
     ensures within { (F.slot shelf.old Which.Trades).taken ≤ trades.now.limit
         → StaysWithinAt (reading_by trades.now F.Shelf shelf.old shelf.new) Which.Trades result }
 {
@@ -107,7 +107,7 @@ fn read_share<D: AuditedShare, F: Shelf>(
     ensures later { FaultsNeverFall (reading_by orders.now F.Shelf shelf.old shelf.new) }
     ensures decides { GivesDayBeforeRuleOrStop (reading_by orders.now F.Shelf shelf.old shelf.new)
         share admission orders.now trades.now result }
-    ensures few { IfOk result (IsDayWithFewTrades share admission) }
+    ensures fits_places { IfOk result (IsDayWithFewTrades share admission) }
     ensures within { StaysWithin (reading_by orders.now F.Shelf shelf.old shelf.new) result }
 {
     let day = DayOrders::<D>::new(alloc, orders.seed, share);
@@ -133,7 +133,7 @@ pub fn read_day<F: Shelf>(
     ensures later { FaultsNeverFall (reading_by orders.now F.Shelf shelf.old shelf.new) }
     ensures decides { GivesDayBeforeRuleOrStop (reading_by orders.now F.Shelf shelf.old shelf.new)
         share admission orders.now trades.now result }
-    ensures few { IfOk result (IsDayWithFewTrades share admission) }
+    ensures fits_places { IfOk result (IsDayWithFewTrades share admission) }
     ensures within { StaysWithin (reading_by orders.now F.Shelf shelf.old shelf.new) result }
 {
     read_share::<Brand, F>(alloc, shelf, share, admission, orders, trades)

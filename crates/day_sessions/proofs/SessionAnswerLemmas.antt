@@ -4,21 +4,21 @@ use Rattle.audit_base.specs.declared.findings.Finding.{Finding}
 use Rattle.audit_base.specs.declared.records.OrderRecord.{OrderRecord}
 use Rattle.audit_base.specs.declared.records.TradeRecord.{TradeRecord}
 use Rattle.day_logs.specs.declared.answers.DayAnswer.TheVariants as answer
-use Rattle.day_logs.specs.declared.before_rule.DayBeforeRule.TheVariants as upto
+use Rattle.day_logs.specs.declared.before_rule.DayBeforeRule.TheVariants as before_rule
 use Rattle.day_logs.specs.DayAnswers.{IsAnswerToRecords, IsAnswerUpToRule}
 use Rattle.day_logs.specs.DayBeforeRule.{IsDayBeforeRule}
-use Rattle.day_sessions.specs.JudgedSessions.{JudgesDaySessions, JudgesSessions}
+use Rattle.day_sessions.specs.JudgedSessions.{AreSessionsOfDay, AreJudgedSessionsOfShare}
 use Rattle.day_symbols.specs.Shares.{DayShare}
 use Rattle.day_trades.specs.declared.day_trades.EndedTrades.{EndedTrades}
 use Rattle.day_verdicts.specs.declared.day_verdicts.JudgedSymbols.{JudgedSymbols}
 use Rattle.record_verdict.specs.declared.scopes.Admission.TheVariants as admission
 use Rattle.session_audit.specs.declared.phases.Phase.{Phase}
 
-pub sessions-up-to : (phases : List Phase) (table : Bool) (share : DayShare) (ended : EndedTrades) (judged : JudgedSymbols) → JudgesSessions phases table share ended judged
-    → IsAnswerUpToRule share admission.All (JudgesDaySessions phases table share) (upto.Read ended) (answer.Judged judged)
+pub sessions-up-to : (phases : List Phase) (table : Bool) (share : DayShare) (ended : EndedTrades) (judged : JudgedSymbols) → AreJudgedSessionsOfShare phases table share ended judged
+    → IsAnswerUpToRule share admission.All (AreSessionsOfDay phases table share) (before_rule.Read ended) (answer.Judged judged)
 sessions-up-to phases table share ended judged is = record { of_place = λ log bad e. absurd (cc); of_records = of-records }
   where
-    of-records : (entries : List OrderRecord) (paired : Result (List TradeRecord) Finding) → IsDayBeforeRule share admission.All entries paired (upto.Read ended)
-        → IsAnswerToRecords (JudgesDaySessions phases table share) entries paired (answer.Judged judged)
+    of-records : (entries : List OrderRecord) (paired : Result (List TradeRecord) Finding) → IsDayBeforeRule share admission.All entries paired (before_rule.Read ended)
+        → IsAnswerToRecords (AreSessionsOfDay phases table share) entries paired (answer.Judged judged)
     of-records entries (Ok trades) has = is entries trades has
     of-records entries (Err finding) has = has

@@ -6,11 +6,11 @@ use Rattle.std.proofs.lemmas.List.Sums.{count_by-le-length, sum_by-append}
 use Rattle.std.proofs.lemmas.Option.{slice_get_within, get_or_from_slice_get}
 use Rattle.audit_base.specs.declared.records.OrderRecord.{OrderRecord}
 use Rattle.audit_base.specs.declared.records.TradeRecord.{TradeRecord}
-use Rattle.day_logs.specs.DayBeforeRule.{HasFewDayTrades}
+use Rattle.day_logs.specs.DayBeforeRule.{DayTradesFitPlaces}
 use Rattle.day_report.specs.declared.day_line.DayCounts.{DayCounts}
 use Rattle.day_report.specs.DayTexts.{symbol_lines}
 use Rattle.day_sessions.specs.declared.symbol_sessions.SymbolSession.{SymbolSession}
-use Rattle.day_sessions.specs.JudgedSessions.{AreSessions, session_counts, AreJudgedSessions, AreJudgedSessionsUpTo, JudgesSessions, JudgesSession, session_lines, with_session}
+use Rattle.day_sessions.specs.JudgedSessions.{AreSessions, session_counts, AreJudgedSessions, AreJudgedSessionsUpTo, AreJudgedSessionsOfShare, AddsSessionOfSymbol, session_lines, with_session}
 use Rattle.day_sessions.specs.SymbolSessions.{IsSessionOfRecords}
 use Rattle.day_symbols.specs.Shares.{DayShare, symbols_in}
 use Rattle.day_trades.specs.declared.day_trades.EndedTrades.{EndedTrades}
@@ -59,30 +59,30 @@ counts-more sessions v = λ i. record {
 }
 
 -- what is known of it
-pub next-known : (share : DayShare) (ended : EndedTrades) (n : ℕ) (part : SymbolTrades) (symbol : List ℕ) → IsNext share ended n part symbol → (entries : List OrderRecord) (trades : List TradeRecord)
-    → HasTradesOf share admission.All entries ended trades → IsSymbolTrades admission.All entries trades symbol part
-next-known share ended n part symbol next entries trades has =
-    has.symbols_trades_are.each n symbol part (ap (λ (s : List (List ℕ)). slice_get (symbols_in share s) n) (sym has.symbols_are) ∙ next.symbol_there) next.symbol_trades_there
+pub next-known : (share : DayShare) (ended : EndedTrades) (n : ℕ) (symbol_trades : SymbolTrades) (symbol : List ℕ) → IsNext share ended n symbol_trades symbol → (entries : List OrderRecord) (trades : List TradeRecord)
+    → HasTradesOf share admission.All entries ended trades → IsSymbolTrades admission.All entries trades symbol symbol_trades
+next-known share ended n symbol_trades symbol next entries trades has =
+    has.symbols_trades_are.each n symbol symbol_trades (ap (λ (s : List (List ℕ)). slice_get (symbols_in share s) n) (sym has.symbols_are) ∙ next.symbol_there) next.symbol_trades_there
 
-pub next-few : (share : DayShare) (ended : EndedTrades) (n : ℕ) (part : SymbolTrades) (symbol : List ℕ) → IsNext share ended n part symbol → HasFewDayTrades share admission.All ended → HasFewOfSymbol ended.count part
-next-few share ended n part symbol next few = record {
+pub next-few : (share : DayShare) (ended : EndedTrades) (n : ℕ) (symbol_trades : SymbolTrades) (symbol : List ℕ) → IsNext share ended n symbol_trades symbol → DayTradesFitPlaces share admission.All ended → HasFewOfSymbol ended.count symbol_trades
+next-few share ended n symbol_trades symbol next few = record {
   admission = admission.All;
   entries = few.entries;
   trades = few.trades;
   symbol = symbol;
-  is = next-known share ended n part symbol next few.entries few.trades few.has;
+  is = next-known share ended n symbol_trades symbol next few.entries few.trades few.has;
   counted = few.has.count;
-  few = few.few;
+  fits_places = few.fits_places;
 }
 
 -- one symbol more was judged
-pub sessions-next : (phases : List Phase) (table : Bool) (share : DayShare) (ended : EndedTrades) (n : ℕ) (part : SymbolTrades) (symbol : List ℕ) (old new : JudgedSymbols)
-    → IsNext share ended n part symbol → JudgesSession symbol phases table ended.count part old new → AreJudgedSessionsUpTo phases table share ended n old → AreJudgedSessionsUpTo phases table share ended (n + 1) new
-sessions-next phases table share ended n part symbol old new next one is = λ entries trades has.
+pub sessions-next : (phases : List Phase) (table : Bool) (share : DayShare) (ended : EndedTrades) (n : ℕ) (symbol_trades : SymbolTrades) (symbol : List ℕ) (old new : JudgedSymbols)
+    → IsNext share ended n symbol_trades symbol → AddsSessionOfSymbol symbol phases table ended.count symbol_trades old new → AreJudgedSessionsUpTo phases table share ended n old → AreJudgedSessionsUpTo phases table share ended (n + 1) new
+sessions-next phases table share ended n symbol_trades symbol old new next one is = λ entries trades has.
     let symbols : List (List ℕ) = shared_symbols share entries trades in
     let got : slice_get symbols n ≡ Some symbol = ap (λ (s : List (List ℕ)). slice_get (symbols_in share s) n) (sym has.symbols_are) ∙ next.symbol_there in
     let before = is entries trades has in
-    let judged : IsSessionOfRecords phases table entries trades symbol one.one = one.is entries trades (next-known share ended n part symbol next entries trades has) has.count in
+    let judged : IsSessionOfRecords phases table entries trades symbol one.one = one.is entries trades (next-known share ended n symbol_trades symbol next entries trades has) has.count in
     let more : take (n + 1) symbols ≡ take n symbols ++ symbol ∷ [] = take_more symbols n [] (slice_get_within symbols n symbol got) ∙ ap (λ (s : List ℕ). take n symbols ++ s ∷ []) (get_or_from_slice_get symbols n symbol [] got) in
     record {
       sessions = before.sessions ++ one.one ∷ [];
@@ -95,7 +95,7 @@ sessions-next phases table share ended n part symbol old new next one is = λ en
     }
 
 -- there is room to count one symbol more
-pub room-for-session : (phases : List Phase) (table : Bool) (share : DayShare) (ended : EndedTrades) (n : ℕ) (judged : JudgedSymbols) → n < length ended.symbols_trades.items → length ended.symbols_trades.items < 2 ^ 64 → HasFewDayTrades share admission.All ended → AreJudgedSessionsUpTo phases table share ended n judged
+pub room-for-session : (phases : List Phase) (table : Bool) (share : DayShare) (ended : EndedTrades) (n : ℕ) (judged : JudgedSymbols) → n < length ended.symbols_trades.items → length ended.symbols_trades.items < 2 ^ 64 → DayTradesFitPlaces share admission.All ended → AreJudgedSessionsUpTo phases table share ended n judged
     → HasRoomForOne judged.counts
 room-for-session phases table share ended n judged lt few_parts few is =
     let before = is few.entries few.trades few.has in
@@ -112,7 +112,7 @@ room-for-session phases table share ended n judged lt few_parts few is =
 
 -- all symbols were judged
 pub sessions-all : (phases : List Phase) (table : Bool) (share : DayShare) (ended : EndedTrades) (n : ℕ) (before rest : List SymbolTrades) (judged : JudgedSymbols) → before ++ rest ≡ ended.symbols_trades.items → length rest ≡ 0 → n ≡ length before
-    → AreJudgedSessionsUpTo phases table share ended n judged → JudgesSessions phases table share ended judged
+    → AreJudgedSessionsUpTo phases table share ended n judged → AreJudgedSessionsOfShare phases table share ended judged
 sessions-all phases table share ended n before rest judged parts none at is = λ entries trades has.
     let symbols : List (List ℕ) = shared_symbols share entries trades in
     let size : length before + length rest ≡ length ended.symbols_trades.items = sym (length-append before rest) ∙ ap length parts in

@@ -64,10 +64,10 @@ pub record AddsSession (old new : JudgedSymbols) (symbol : List ℕ) (session : 
   pub lines_are : new.lines.items ≡ old.lines.items ++ symbol_lines symbol session.text.items
 
 -- The session of a symbol is counted and written.
-pub record JudgesSession (symbol : List ℕ) (phases : List Phase) (table : Bool) (count : ℕ)
-    (part : SymbolTrades) (old new : JudgedSymbols) : Type 0 where
+pub record AddsSessionOfSymbol (symbol : List ℕ) (phases : List Phase) (table : Bool) (count : ℕ)
+    (symbol_trades : SymbolTrades) (old new : JudgedSymbols) : Type 0 where
   pub one : SymbolSession
-  pub is : IsSessionOf symbol phases table count part one
+  pub is : IsSessionOf symbol phases table count symbol_trades one
   pub adds : AddsSession old new symbol one
 
 -- whatever records the day has, these are the counts and lines of the sessions of this many first
@@ -82,15 +82,16 @@ AreJudgedSessionsUpTo phases table share ended n judged =
 
 -- whatever records the day has, these are the counts and lines of the sessions of the symbols of
 -- the share
-abbrev pub JudgesSessions : List Phase → Bool → DayShare → EndedTrades → JudgedSymbols → Type 0
-JudgesSessions phases table share ended judged =
+abbrev pub AreJudgedSessionsOfShare : List Phase → Bool → DayShare → EndedTrades → JudgedSymbols
+    → Type 0
+AreJudgedSessionsOfShare phases table share ended judged =
     (entries : List OrderRecord) (trades : List TradeRecord)
     → HasTradesOf share admission.All entries ended trades
     → AreJudgedSessions phases table entries trades
     (symbols_in share (symbols_of_day entries trades)) judged
 
 -- what the counts and lines of the sessions of the symbols of a share mean
-abbrev pub JudgesDaySessions : List Phase → Bool → DayShare → DayMeaning
-JudgesDaySessions phases table share entries judged trades =
+abbrev pub AreSessionsOfDay : List Phase → Bool → DayShare → DayMeaning
+AreSessionsOfDay phases table share entries judged trades =
     AreJudgedSessions phases table entries trades
     (symbols_in share (symbols_of_day entries trades)) judged

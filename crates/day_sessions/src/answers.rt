@@ -3,7 +3,7 @@ ghost use Rattle.std.specs.Prelude.{IfOk};
 ghost use Rattle.day_logs.specs.DayAnswers.{AnswersHeldDay, GivesDayAnswerOrStop};
 ghost use Rattle.day_logs.specs.DayAnswers.{IsAnswerUpToRule};
 ghost use Rattle.day_logs.specs.DayBeforeRule.{IsDayWithFewTrades};
-ghost use Rattle.day_sessions.specs.JudgedSessions.{JudgesDaySessions};
+ghost use Rattle.day_sessions.specs.JudgedSessions.{AreSessionsOfDay};
 ghost use Rattle.log_verdict.specs.BothLogs.{HaveOneLimit, StaysWithin};
 ghost use Rattle.log_verdict.specs.Steps.{reading_by, KeepsShelfLogs, FaultsNeverFall};
 ghost use Rattle.record_verdict.specs.declared.scopes.Admission.TheVariants.{All as AdmitsAll};
@@ -28,14 +28,14 @@ fn sessions_after(
     phases: &[Phase],
     table: bool,
     share: Share,
-    reached: DayBeforeRule,
+    given: DayBeforeRule,
 ) -> Result<DayAnswer, NoMemory>
     requires phases { ArePhases phases.now }
-    requires few { IsDayWithFewTrades share AdmitsAll reached }
-    ensures { let judges = JudgesDaySessions phases.now table share in
-        IfOk result (IsAnswerUpToRule share AdmitsAll judges reached) }
+    requires fits_places { IsDayWithFewTrades share AdmitsAll given }
+    ensures { let meaning = AreSessionsOfDay phases.now table share in
+        IfOk result (IsAnswerUpToRule share AdmitsAll meaning given) }
 {
-    match reached {
+    match given {
         DayBeforeRule::Malformed { log, bad } => Ok(DayAnswer::Malformed { log, bad }),
         DayBeforeRule::Unpaired(finding) => Ok(DayAnswer::Unpaired(finding)),
         DayBeforeRule::Read(ended) => {
@@ -60,11 +60,11 @@ fn sessions_of_logs<F: Shelf>(
     ensures logs { KeepsShelfLogs F.Shelf shelf.old shelf.new }
     ensures later { FaultsNeverFall (reading_by orders.now F.Shelf shelf.old shelf.new) }
     ensures decides { GivesDayAnswerOrStop (reading_by orders.now F.Shelf shelf.old shelf.new)
-        (JudgesDaySessions phases.now table share) orders.now trades.now result }
+        (AreSessionsOfDay phases.now table share) orders.now trades.now result }
     ensures within { StaysWithin (reading_by orders.now F.Shelf shelf.old shelf.new) result }
 {
     match read_day(alloc, shelf, share, Admission::All, orders, trades) {
-        Ok(reached) => Ok(sessions_after(alloc, phases, table, share, reached)?),
+        Ok(given) => Ok(sessions_after(alloc, phases, table, share, given)?),
         Err(stop) => Err(stop),
     }
 }
@@ -86,9 +86,9 @@ pub fn sessions_on<F: Shelf>(
     ensures logs { KeepsShelfLogs F.Shelf shelf.old shelf.new }
     ensures later { FaultsNeverFall (reading_by orders.now F.Shelf shelf.old shelf.new) }
     ensures decides { GivesDayAnswerOrStop (reading_by orders.now F.Shelf shelf.old shelf.new)
-        (JudgesDaySessions phases.now table share) orders.now trades.now result }
+        (AreSessionsOfDay phases.now table share) orders.now trades.now result }
     ensures complete { AnswersHeldDay (reading_by orders.now F.Shelf shelf.old shelf.new)
-        (JudgesDaySessions phases.now table share) orders.now trades.now result }
+        (AreSessionsOfDay phases.now table share) orders.now trades.now result }
     ensures within { StaysWithin (reading_by orders.now F.Shelf shelf.old shelf.new) result }
 {
     sessions_of_logs(alloc, shelf, phases, table, share, orders, trades)

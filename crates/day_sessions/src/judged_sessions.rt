@@ -1,8 +1,8 @@
 //! The session of each symbol of a share, one symbol after another.
 ghost use Rattle.std.specs.Prelude.{◌≡◌, IfOk, OnOk};
-ghost use Rattle.day_logs.specs.DayBeforeRule.{HasFewDayTrades};
-ghost use Rattle.day_sessions.specs.JudgedSessions.{AddsSession, JudgesSession};
-ghost use Rattle.day_sessions.specs.JudgedSessions.{JudgesSessions, with_session};
+ghost use Rattle.day_logs.specs.DayBeforeRule.{DayTradesFitPlaces};
+ghost use Rattle.day_sessions.specs.JudgedSessions.{AddsSession, AddsSessionOfSymbol};
+ghost use Rattle.day_sessions.specs.JudgedSessions.{AreJudgedSessionsOfShare, with_session};
 ghost use Rattle.day_trades.specs.SymbolTrades.{HasFewOfSymbol};
 ghost use Rattle.day_verdicts.specs.DayVerdicts.{HasRoomForOne, IsNothingJudged};
 ghost use Rattle.record_verdict.specs.declared.scopes.Admission.TheVariants.{All as AdmitsAll};
@@ -67,16 +67,16 @@ fn judge_symbol(
     symbol: &Name,
     phases: &[Phase],
     table: bool,
-    part: SymbolTrades,
+    symbol_trades: SymbolTrades,
     count: u32,
 ) -> Result<(), NoMemory>
     requires phases { ArePhases phases.now }
-    requires few { HasFewOfSymbol count part }
+    requires fits_places { HasFewOfSymbol count symbol_trades }
     requires room { HasRoomForOne judged.old.counts }
-    ensures { OnOk result
-        (JudgesSession symbol.now phases.now table count part judged.old judged.new) }
+    ensures { OnOk result (AddsSessionOfSymbol symbol.now phases.now table count symbol_trades
+        judged.old judged.new) }
 {
-    let session = session_of(alloc, symbol, phases, table, part, count)?;
+    let session = session_of(alloc, symbol, phases, table, symbol_trades, count)?;
     add_session(judged, symbol, &session)
 }
 
@@ -91,8 +91,8 @@ pub fn judge_sessions(
     ended: EndedTrades,
 ) -> Result<JudgedSymbols, NoMemory>
     requires phases { ArePhases phases.now }
-    requires few { HasFewDayTrades share AdmitsAll ended }
-    ensures { IfOk result (JudgesSessions phases.now table share ended) }
+    requires fits_places { DayTradesFitPlaces share AdmitsAll ended }
+    ensures { IfOk result (AreJudgedSessionsOfShare phases.now table share ended) }
 {
     let EndedTrades {
         symbols,
@@ -101,11 +101,11 @@ pub fn judge_sessions(
     } = ended;
     let mut judged = no_sessions(alloc);
     let mut place: usize = 0;
-    for part in symbols_trades {
+    for symbol_trades in symbols_trades {
         let Some(symbol) = share.symbol_at(&symbols, place) else {
             unreachable!();
         };
-        judge_symbol(alloc, &mut judged, symbol, phases, table, part, count)?;
+        judge_symbol(alloc, &mut judged, symbol, phases, table, symbol_trades, count)?;
         place += 1;
     }
     Ok(judged)

@@ -24,8 +24,8 @@ use Rattle.day_trades.specs.declared.symbol_trades.SymbolTrades.TheVariants as k
 use Rattle.day_trades.specs.SymbolTrades.{IsSoundSymbol, IsSymbolTrades, scope_by}
 
 -- a trade of another symbol changes nothing
-pub other-known : (admission : Admission) (entries : List OrderRecord) (trades : List TradeRecord) (symbol : List ℕ) (known : SymbolTrades) (x : TradeRecord) → same_name x.symbol symbol ≡ false
-    → IsSymbolTrades admission entries trades symbol known → IsSymbolTrades admission entries (trades ++ x ∷ []) symbol known
+pub other-known : (admission : Admission) (entries : List OrderRecord) (trades : List TradeRecord) (symbol : List ℕ) (symbol_trades : SymbolTrades) (x : TradeRecord) → same_name x.symbol symbol ≡ false
+    → IsSymbolTrades admission entries trades symbol symbol_trades → IsSymbolTrades admission entries (trades ++ x ∷ []) symbol symbol_trades
 other-known admission entries trades symbol (kept.Found finding) x other is = is
 other-known admission entries trades symbol (kept.Sound sound_symbol) x other is = record {
   well_formed = is.well_formed;
@@ -35,15 +35,15 @@ other-known admission entries trades symbol (kept.Sound sound_symbol) x other is
 }
 
 -- nor do trades of other symbols
-pub others-known : (admission : Admission) (entries : List OrderRecord) (before trades : List TradeRecord) (symbol : List ℕ) (known : SymbolTrades)
+pub others-known : (admission : Admission) (entries : List OrderRecord) (before trades : List TradeRecord) (symbol : List ℕ) (symbol_trades : SymbolTrades)
     → All (λ (name : List ℕ). same_name name symbol ≡ false) (map (λ (trade : TradeRecord). trade.symbol) trades)
-    → IsSymbolTrades admission entries before symbol known → IsSymbolTrades admission entries (before ++ trades) symbol known
-others-known admission entries before [] symbol known others is = subst (λ (xs : List TradeRecord). IsSymbolTrades admission entries xs symbol known) (sym (append-nil before)) is
-others-known admission entries before (x ∷ xs) symbol known others is =
-    let more : IsSymbolTrades admission entries (before ++ x ∷ []) symbol known =
-    other-known admission entries before symbol known x (All-head (λ (name : List ℕ). same_name name symbol ≡ false) x.symbol (map (λ (trade : TradeRecord). trade.symbol) xs) others) is in
-    subst (λ (ts : List TradeRecord). IsSymbolTrades admission entries ts symbol known) (append_assoc before (x ∷ []) xs)
-    (others-known admission entries (before ++ x ∷ []) xs symbol known (All-tail (λ (name : List ℕ). same_name name symbol ≡ false) x.symbol (map (λ (trade : TradeRecord). trade.symbol) xs) others) more)
+    → IsSymbolTrades admission entries before symbol symbol_trades → IsSymbolTrades admission entries (before ++ trades) symbol symbol_trades
+others-known admission entries before [] symbol symbol_trades others is = subst (λ (xs : List TradeRecord). IsSymbolTrades admission entries xs symbol symbol_trades) (sym (append-nil before)) is
+others-known admission entries before (x ∷ xs) symbol symbol_trades others is =
+    let more : IsSymbolTrades admission entries (before ++ x ∷ []) symbol symbol_trades =
+    other-known admission entries before symbol symbol_trades x (All-head (λ (name : List ℕ). same_name name symbol ≡ false) x.symbol (map (λ (trade : TradeRecord). trade.symbol) xs) others) is in
+    subst (λ (ts : List TradeRecord). IsSymbolTrades admission entries ts symbol symbol_trades) (append_assoc before (x ∷ []) xs)
+    (others-known admission entries (before ++ x ∷ []) xs symbol symbol_trades (All-tail (λ (name : List ℕ). same_name name symbol ≡ false) x.symbol (map (λ (trade : TradeRecord). trade.symbol) xs) others) more)
 
 -- what the trades of a symbol give whose orders have no finding
 pub gives-sound : (admission : Admission) (entries : List OrderRecord) (trades : List TradeRecord) (symbol : List ℕ) (sound_symbol : SoundSymbol) (resolved : ResolvedTrades)

@@ -40,9 +40,10 @@ IsSymbolTrades admission entries trades symbol (kept.Sound sound_symbol) =
 -- a fact of whatever this is known of
 abbrev pub ForSymbol : SymbolTrades
     → (Admission → List OrderRecord → List TradeRecord → List ℕ → Type 0) → Type 0
-ForSymbol known P = (admission : Admission) (entries : List OrderRecord)
+ForSymbol symbol_trades P = (admission : Admission) (entries : List OrderRecord)
     (trades : List TradeRecord) (symbol : List ℕ)
-    → IsSymbolTrades admission entries trades symbol known → P admission entries trades symbol
+    → IsSymbolTrades admission entries trades symbol symbol_trades
+    → P admission entries trades symbol
 
 -- of whatever symbol this was known, it is known with one trade of the symbol more, at its place
 abbrev pub TakesTradeOf : SymbolTrades → SymbolTrades → ℕ → TradeRecord → Type 0
@@ -51,16 +52,17 @@ TakesTradeOf old new place trade = ForSymbol old (λ admission entries trades sy
     → IsSymbolTrades admission entries (trades ++ trade ∷ []) symbol new)
 
 -- this is known of a symbol after this many trades, which are fewer than there are places
-pub record HasFewOfSymbol (count : ℕ) (known : SymbolTrades) : Type 0 where
+pub record HasFewOfSymbol (count : ℕ) (symbol_trades : SymbolTrades) : Type 0 where
   pub admission : Admission
   pub entries : List OrderRecord
   pub trades : List TradeRecord
   pub symbol : List ℕ
-  pub is : IsSymbolTrades admission entries trades symbol known
+  pub is : IsSymbolTrades admission entries trades symbol symbol_trades
   pub counted : count ≡ length trades
-  pub few : length trades < 2 ^ 32 - 1
+  pub fits_places : length trades < 2 ^ 32 - 1
 
 -- the records of whatever symbol this is known of give this before the rule is looked at
 abbrev pub GivesBeforeRule : ℕ → SymbolTrades → BeforeRule → Type 0
-GivesBeforeRule count known reached = ForSymbol known (λ admission entries trades symbol.
-    count ≡ length trades → IsBeforeRule (scope_by admission symbol) entries (Ok trades) reached)
+GivesBeforeRule count symbol_trades given =
+    ForSymbol symbol_trades (λ admission entries trades symbol. count ≡ length trades
+    → IsBeforeRule (scope_by admission symbol) entries (Ok trades) given)

@@ -3,7 +3,7 @@ use Rattle.std.proofs.Common.{◌≡◌, ◌<◌, ℕ, zero, suc, Some, List, []
 use Rattle.std.specs.Prelude.{slice_get}
 use Rattle.std.proofs.lemmas.Option.{slice_get_within, slice_get-get_or}
 use Rattle.audit_report.specs.declared.verdicts.Verdict.{Verdict}
-use Rattle.record_verdict.specs.Judgements.{question}
+use Rattle.record_verdict.specs.RecordVerdicts.{question}
 use Rattle.record_verdict.specs.Laws.{RecordVerdictIsOne}
 use Rattle.day_symbols.specs.Kept.{AreForEach}
 use Rattle.day_verdicts.specs.DayVerdicts.{counts_of, day_lines_of}

@@ -21,8 +21,8 @@ use Rattle.day_trades.specs.declared.symbol_trades.SymbolTrades.{SymbolTrades}
 use Rattle.day_trades.specs.DayTrades.{HasTradesOf}
 use Rattle.day_trades.specs.SymbolTrades.{HasFewOfSymbol, IsSymbolTrades}
 use Rattle.day_verdicts.specs.declared.day_verdicts.JudgedSymbols.{JudgedSymbols}
-use Rattle.day_verdicts.specs.DayVerdicts.{AreVerdicts, counts_of, HasFewTradesOf, HasRoomForOne, is_acceptance, IsJudgedDay, IsJudgedUpTo, JudgesShare, JudgesOne, day_lines_of, with_verdict}
-use Rattle.record_verdict.specs.Judgements.{IsRecordVerdict, question}
+use Rattle.day_verdicts.specs.DayVerdicts.{AreVerdicts, counts_of, RuleTradesFitPlaces, HasRoomForOne, is_acceptance, IsJudgedDay, IsJudgedUpTo, IsJudgedShare, AddsVerdictOnSymbol, day_lines_of, with_verdict}
+use Rattle.record_verdict.specs.RecordVerdicts.{IsRecordVerdict, question}
 use Rattle.record_verdict.specs.Scopes.{admission_of}
 
 -- one more for a symbol more
@@ -108,7 +108,7 @@ pub next-known : (rule : Rule) (share : DayShare) (ended : EndedTrades) (n : ℕ
 next-known rule share ended n symbol_trades symbol next entries trades has =
     has.symbols_trades_are.each n symbol symbol_trades (ap (λ (s : List (List ℕ)). slice_get (symbols_in share s) n) (sym has.symbols_are) ∙ next.symbol_there) next.symbol_trades_there
 
-pub next-few : (rule : Rule) (share : DayShare) (ended : EndedTrades) (n : ℕ) (symbol_trades : SymbolTrades) (symbol : List ℕ) → IsNext share ended n symbol_trades symbol → HasFewTradesOf rule share ended → HasFewOfSymbol ended.count symbol_trades
+pub next-few : (rule : Rule) (share : DayShare) (ended : EndedTrades) (n : ℕ) (symbol_trades : SymbolTrades) (symbol : List ℕ) → IsNext share ended n symbol_trades symbol → RuleTradesFitPlaces rule share ended → HasFewOfSymbol ended.count symbol_trades
 next-few rule share ended n symbol_trades symbol next few = record {
   admission = admission_of rule;
   entries = few.entries;
@@ -116,12 +116,12 @@ next-few rule share ended n symbol_trades symbol next few = record {
   symbol = symbol;
   is = next-known rule share ended n symbol_trades symbol next few.entries few.trades few.has;
   counted = few.has.count;
-  few = few.few;
+  fits_places = few.fits_places;
 }
 
 -- one symbol more was judged
 pub judged-next : (rule : Rule) (table : Bool) (share : DayShare) (ended : EndedTrades) (n : ℕ) (symbol_trades : SymbolTrades) (symbol : List ℕ) (old new : JudgedSymbols)
-    → IsNext share ended n symbol_trades symbol → JudgesOne (question rule symbol table) ended.count symbol_trades old new → IsJudgedUpTo rule table share ended n old → IsJudgedUpTo rule table share ended (n + 1) new
+    → IsNext share ended n symbol_trades symbol → AddsVerdictOnSymbol (question rule symbol table) ended.count symbol_trades old new → IsJudgedUpTo rule table share ended n old → IsJudgedUpTo rule table share ended (n + 1) new
 judged-next rule table share ended n symbol_trades symbol old new next one is = λ entries trades has.
     let symbols : List (List ℕ) = shared_symbols share entries trades in
     let got : slice_get symbols n ≡ Some symbol = ap (λ (s : List (List ℕ)). slice_get (symbols_in share s) n) (sym has.symbols_are) ∙ next.symbol_there in
@@ -139,7 +139,7 @@ judged-next rule table share ended n symbol_trades symbol old new next one is = 
     }
 
 -- there is room to count one symbol more
-pub room-for : (rule : Rule) (table : Bool) (share : DayShare) (ended : EndedTrades) (n : ℕ) (judged : JudgedSymbols) → n < length ended.symbols_trades.items → length ended.symbols_trades.items < 2 ^ 64 → HasFewTradesOf rule share ended → IsJudgedUpTo rule table share ended n judged
+pub room-for : (rule : Rule) (table : Bool) (share : DayShare) (ended : EndedTrades) (n : ℕ) (judged : JudgedSymbols) → n < length ended.symbols_trades.items → length ended.symbols_trades.items < 2 ^ 64 → RuleTradesFitPlaces rule share ended → IsJudgedUpTo rule table share ended n judged
     → HasRoomForOne judged.counts
 room-for rule table share ended n judged lt few_parts few is =
     let before = is few.entries few.trades few.has in
@@ -156,7 +156,7 @@ room-for rule table share ended n judged lt few_parts few is =
 
 -- all symbols were judged
 pub judged-all : (rule : Rule) (table : Bool) (share : DayShare) (ended : EndedTrades) (n : ℕ) (before rest : List SymbolTrades) (judged : JudgedSymbols) → before ++ rest ≡ ended.symbols_trades.items → length rest ≡ 0 → n ≡ length before
-    → IsJudgedUpTo rule table share ended n judged → JudgesShare rule table share ended judged
+    → IsJudgedUpTo rule table share ended n judged → IsJudgedShare rule table share ended judged
 judged-all rule table share ended n before rest judged symbols_trades none at is = λ entries trades has.
     let symbols : List (List ℕ) = shared_symbols share entries trades in
     let size : length before + length rest ≡ length ended.symbols_trades.items = sym (length-append before rest) ∙ ap length symbols_trades in

@@ -17,7 +17,7 @@ use Rattle.day_trades.specs.DayTrades.{HasTradesOf}
 use Rattle.day_trades.specs.SymbolTrades.{IsSymbolTrades}
 use Rattle.day_verdicts.specs.declared.day_verdicts.JudgedSymbols.{JudgedSymbols}
 use Rattle.record_verdict.specs.declared.questions.Question.{Question}
-use Rattle.record_verdict.specs.Judgements.{IsRecordVerdict, question}
+use Rattle.record_verdict.specs.RecordVerdicts.{IsRecordVerdict, question}
 use Rattle.record_verdict.specs.Scopes.{admission_of}
 
 -- The verdicts of a day.
@@ -63,8 +63,8 @@ pub record IsJudgedDay (rule : Rule) (table : Bool) (entries : List OrderRecord)
 
 -- of whatever records this is known of the symbol, this is the verdict on them that the question
 -- asks for
-abbrev pub IsVerdictOfSymbol : Question → ℕ → SymbolTrades → Verdict → Type 0
-IsVerdictOfSymbol q count symbol_trades the_verdict =
+abbrev pub IsVerdictOnSymbol : Question → ℕ → SymbolTrades → Verdict → Type 0
+IsVerdictOnSymbol q count symbol_trades the_verdict =
     (entries : List OrderRecord) (trades : List TradeRecord)
     → IsSymbolTrades (admission_of q.rule) entries trades q.symbol symbol_trades
     → count ≡ length trades
@@ -97,10 +97,10 @@ pub record AddsVerdict (old new : JudgedSymbols) (symbol : List ℕ)
       ++ symbol_lines symbol (verdict_text the_verdict)
 
 -- the verdict that the question asks for is counted and written
-pub record JudgesOne (q : Question) (count : ℕ) (symbol_trades : SymbolTrades)
+pub record AddsVerdictOnSymbol (q : Question) (count : ℕ) (symbol_trades : SymbolTrades)
     (old new : JudgedSymbols) : Type 0 where
   pub one : Verdict
-  pub is : IsVerdictOfSymbol q count symbol_trades one
+  pub is : IsVerdictOnSymbol q count symbol_trades one
   pub adds : AddsVerdict old new q.symbol one
 
 -- whatever records the day has, these are the counts and lines of the verdicts on this many first
@@ -114,15 +114,16 @@ IsJudgedUpTo rule table share ended n judged =
 
 -- whatever records the day has, these are the counts and lines of the verdicts on the symbols of
 -- the share
-abbrev pub JudgesShare : Rule → Bool → DayShare → EndedTrades → JudgedSymbols → Type 0
-JudgesShare rule table share ended judged = (entries : List OrderRecord) (trades : List TradeRecord)
+abbrev pub IsJudgedShare : Rule → Bool → DayShare → EndedTrades → JudgedSymbols → Type 0
+IsJudgedShare rule table share ended judged =
+    (entries : List OrderRecord) (trades : List TradeRecord)
     → HasTradesOf share (admission_of rule) entries ended trades
     → IsJudgedDay rule table entries trades
     (symbols_in share (symbols_of_day entries trades)) judged
 
 -- the day has some records, of trades fewer than there are places
-pub record HasFewTradesOf (rule : Rule) (share : DayShare) (ended : EndedTrades) : Type 0 where
+pub record RuleTradesFitPlaces (rule : Rule) (share : DayShare) (ended : EndedTrades) : Type 0 where
   pub entries : List OrderRecord
   pub trades : List TradeRecord
   pub has : HasTradesOf share (admission_of rule) entries ended trades
-  pub few : length trades < 2 ^ 32 - 1
+  pub fits_places : length trades < 2 ^ 32 - 1

@@ -27,11 +27,11 @@ fn verdict_of(
     count: u32,
 ) -> Result<Verdict, NoMemory>
     requires { HasFewOfSymbol count symbol_trades }
-    ensures judged { IfOk result (day.IsVerdictOfSymbol question.now count symbol_trades) }
+    ensures judged { IfOk result (day.IsVerdictOnSymbol question.now count symbol_trades) }
     ensures in_range { IfOk result IsVerdictInRange }
 {
-    let reached = symbol_trades.end(count);
-    verdict_after(alloc, question, &reached)
+    let given = symbol_trades.end(count);
+    verdict_after(alloc, question, &given)
 }
 
 /// What was said of the symbols so far: how many there were, and their lines.
@@ -88,9 +88,10 @@ impl JudgedSymbols {
         symbol_trades: SymbolTrades,
         count: u32,
     ) -> Result<(), NoMemory>
-        requires few { HasFewOfSymbol count symbol_trades }
+        requires fits_places { HasFewOfSymbol count symbol_trades }
         requires room { day.HasRoomForOne self.old.counts }
-        ensures { OnOk result (day.JudgesOne question.now count symbol_trades self.old self.new) }
+        ensures { OnOk result (day.AddsVerdictOnSymbol question.now count symbol_trades self.old
+            self.new) }
     {
         let verdict = verdict_of(alloc, question, symbol_trades, count)?;
         self.add(alloc, &question.symbol, &verdict)
@@ -118,8 +119,8 @@ pub fn judge_day(
     share: Share,
     ended: EndedTrades,
 ) -> Result<JudgedSymbols, NoMemory>
-    requires { day.HasFewTradesOf rule share ended }
-    ensures { IfOk result (day.JudgesShare rule table share ended) }
+    requires { day.RuleTradesFitPlaces rule share ended }
+    ensures { IfOk result (day.IsJudgedShare rule table share ended) }
 {
     let EndedTrades {
         symbols,

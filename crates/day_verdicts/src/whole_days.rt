@@ -27,7 +27,7 @@ fn orders_handed<D: AuditedShare>(
     entries: &[OrderRecord],
 ) -> Result<DayOrders<D>, NoMemory>
     requires share { share ≡ D.share }
-    requires few { length entries.now < 2 ^ 32 - 1 }
+    requires fits_places { length entries.now < 2 ^ 32 - 1 }
     ensures { IfOk result (λ day. IsDayOrders D.share day entries.now) }
 {
     let mut day = DayOrders::new(alloc, HashSeed::fixed(), share);
@@ -44,7 +44,7 @@ fn orders_of<D: AuditedShare>(
     entries: &[OrderRecord],
 ) -> Result<EndedOrders, NoMemory>
     requires share { share ≡ D.share }
-    requires few { length entries.now < 2 ^ 32 - 1 }
+    requires fits_places { length entries.now < 2 ^ 32 - 1 }
     ensures { IfOk result (λ ended. HasOrders share ended entries.now) }
 {
     let day = orders_handed::<D>(alloc, share, entries)?;
@@ -64,7 +64,7 @@ fn trades_handed<M: AuditedDay>(
     requires orders { (entries : List AnEntry)
         → M.may_have entries → HasOrders M.share orders entries }
     requires some { (entries : List AnEntry) × M.may_have entries }
-    requires few { length trades.now < 2 ^ 32 - 1 }
+    requires fits_places { length trades.now < 2 ^ 32 - 1 }
     ensures { IfOk result (λ day. IsDayTrades M.share M.admission M.may_have day trades.now) }
 {
     let mut day = DayTrades::new(alloc, HashSeed::fixed(), share, admission, orders)?;
@@ -87,7 +87,7 @@ fn trades_of<M: AuditedDay>(
     requires orders { (entries : List AnEntry)
         → M.may_have entries → HasOrders M.share orders entries }
     requires some { (entries : List AnEntry) × M.may_have entries }
-    requires few { length trades.now < 2 ^ 32 - 1 }
+    requires fits_places { length trades.now < 2 ^ 32 - 1 }
     ensures { IfOk result (λ ended. (entries : List AnEntry) → M.may_have entries
         → HasTradesOf M.share M.admission entries ended trades.now) }
 {
@@ -106,8 +106,8 @@ pub fn judge_records_of_day(
     entries: &[OrderRecord],
     trades: &[TradeRecord],
 ) -> Result<JudgedSymbols, NoMemory>
-    requires few_entries { length entries.now < 2 ^ 32 - 1 }
-    requires few_trades { length trades.now < 2 ^ 32 - 1 }
+    requires entries_fit_places { length entries.now < 2 ^ 32 - 1 }
+    requires trades_fit_places { length trades.now < 2 ^ 32 - 1 }
     ensures { let symbols = symbols_in share (symbols_of_day entries.now trades.now) in
         IfOk result (IsJudgedDay rule table entries.now trades.now symbols) }
 {

@@ -100,7 +100,7 @@ fn length_field(text: &[u8], header: usize) -> Result<usize, FrameFault>
 fn is_length_of(text: &[u8], header: usize, digits: usize) -> bool
     requires header { header ≤ length text.now }
     requires some { 0 < digits }
-    requires few { digits ≤ 9 }
+    requires bounded { digits ≤ 9 }
     ensures { IsTrue result → IsLengthField (drop header text.now) digits }
 {
     let rest = &text[header..];
@@ -152,7 +152,7 @@ struct Places {
 /// Tests 3 to 5: the body's length is behind the header.
 fn find_places(text: &[u8], header: usize) -> Result<Places, FrameFault>
     requires inside { header ≤ length text.now }
-    requires few { header ≤ 13 }
+    requires bounded { header ≤ 13 }
     ensures ok { IfOk result (λ p. (first_failing (length_tests header text.now) ≡ None)
         × (p.body ≡ body_place header text.now) × (p.trailer ≡ trailer_place header text.now)) }
     ensures most { IfOk result (λ p. p.trailer ≤ 1048599) }

@@ -145,7 +145,7 @@ impl<R: FixRecord, K: Collector<Entry = R>> FixFeed<K> {
         requires { IsFixFeedWithinLimit K.has_taken R.meaning self }
         ensures reads { (log : List ℕ) → IsFixFeedOf K.has_taken R.meaning self log
             → AnswersFixCollected K.has_taken (read_fix_log R.meaning log) result }
-        ensures few { IfOk result (HasPlace K.has_taken) }
+        ensures fits_places { IfOk result (HasPlace K.has_taken) }
         ensures nine { (log : List ℕ) → IfOk (read_fix_log R.meaning log)
             (λ entries. HasNineBytesEach entries log) }
         ensures sound { (log : List ℕ) → IfOk (read_fix_log R.meaning log) (All R.sound) }
@@ -183,7 +183,7 @@ impl<R: FixRecord> FixFeed<Vec<R>> {
             (log : List ℕ) → IsFixFeedOf has_taken R.meaning self log
             → AnswersMessageRecords (read_fix_log R.meaning log) result }
         ensures sound { IfOk result (λ entries. All R.sound entries.items) }
-        ensures few { IfOk result (λ entries. vec_len entries < 2 ^ 32 - 1) }
+        ensures fits_places { IfOk result (λ entries. vec_len entries < 2 ^ 32 - 1) }
         ensures nine { let has_taken = ⟦<Vec<R> as Collector>⟧.has_taken in
             (log : List ℕ) → IsFixFeedOf has_taken R.meaning self log
             → IfOk result (λ entries. HasNineBytesEach entries.items log) }

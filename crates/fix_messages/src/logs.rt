@@ -21,7 +21,7 @@ fn entries_of<R: FixRecord>(alloc: Global, bytes: &[u8]) -> Result<Vec<R>, LogFa
     requires { length bytes.now ≤ longest_read }
     ensures reads { AnswersMessageRecords (read_fix_log R.meaning bytes.now) result }
     ensures sound { IfOk result (λ entries. All R.sound entries.items) }
-    ensures few { IfOk result (λ entries. vec_len entries < 2 ^ 32 - 1) }
+    ensures fits_places { IfOk result (λ entries. vec_len entries < 2 ^ 32 - 1) }
     ensures nine { IfOk result (λ entries. HasNineBytesEach entries.items bytes.now) }
     ensures unique { IsOnlyFixReading R.meaning bytes.now (read_fix_log R.meaning bytes.now) }
 {
@@ -44,7 +44,7 @@ pub fn fix_orders_of(alloc: Global, bytes: &[u8]) -> Result<Vec<OrderRecord>, Lo
     requires { length bytes.now ≤ longest_read }
     ensures reads { AnswersMessageRecords (fix_order_records bytes.now) result }
     ensures priced { IfOk result (λ entries. All HasMarketPrice entries.items) }
-    ensures few { IfOk result (λ entries. vec_len entries < 2 ^ 32 - 1) }
+    ensures fits_places { IfOk result (λ entries. vec_len entries < 2 ^ 32 - 1) }
     ensures nine { IfOk result (λ entries. HasNineBytesEach entries.items bytes.now) }
     ensures unique { IsOnlyFixReading order_of_message bytes.now (fix_order_records bytes.now) }
 {
@@ -58,7 +58,7 @@ pub fn fix_orders_of(alloc: Global, bytes: &[u8]) -> Result<Vec<OrderRecord>, Lo
 pub fn fix_reports_of(alloc: Global, bytes: &[u8]) -> Result<Vec<Report>, LogFault>
     requires { length bytes.now ≤ longest_read }
     ensures reads { AnswersMessageRecords (fix_report_records bytes.now) result }
-    ensures few { IfOk result (λ reports. vec_len reports < 2 ^ 32 - 1) }
+    ensures fits_places { IfOk result (λ reports. vec_len reports < 2 ^ 32 - 1) }
     ensures nine { IfOk result (λ reports. HasNineBytesEach reports.items bytes.now) }
     ensures unique { IsOnlyFixReading report_of_message bytes.now (fix_report_records bytes.now) }
 {

@@ -44,7 +44,7 @@ fn drafted<M: AuditedHistory, R: AllocGlobal + Abort>(
 ) -> (u32, ResolvedTrades)
     requires symbol { symbol ≡ M.symbol }
     requires orders { history ≡ M.orders }
-    requires few { length lines.now < 100 }
+    requires bounded { length lines.now < 100 }
 {
     let mut draft = DealsDraft::<M>::new(rt.alloc(), HashSeed::of(7, 11), symbol, history);
     for line in lines {

@@ -41,7 +41,7 @@ fn drafted<S: AuditedSymbol, R: AllocGlobal + Abort>(
     passes: bool,
 ) -> (u32, Result<History, Finding>)
     requires symbol { symbol ≡ S.symbol }
-    requires few { length lines.now < 100 }
+    requires bounded { length lines.now < 100 }
 {
     let mut draft = HistoryDraft::<S>::new(rt.alloc(), HashSeed::of(7, 11), symbol);
     for line in lines {

@@ -14,12 +14,12 @@ use Rattle.audit_base.specs.Histories.{symbol_of, order_list, instant_order_find
 -- START is from 1 to 2,147,483,646
 pub record IsStart (start : ℕ) : Type 0 where
   pub least : 1 ≤ start
-  pub most : start ≤ 2147483646
+  pub bounded : start ≤ 2147483646
 
 -- COUNT is from 1 to 1,000,000
 pub record IsCount (count : ℕ) : Type 0 where
   pub least : 1 ≤ count
-  pub most : count ≤ 1000000
+  pub bounded : count ≤ 1000000
 
 -- the state at record i: START before the first record, and then 48271 times the state before,
 -- modulo 2^31 - 1 (source: the minimal standard generator of Park, Miller and Stockmeyer)

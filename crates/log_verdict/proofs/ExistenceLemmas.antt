@@ -15,7 +15,7 @@ use Rattle.log_source.specs.Collectors.{HasNineBytesEach}
 use Rattle.log_source.specs.Sources.{longest_read}
 use Rattle.record_verdict.specs.declared.questions.Question.{Question}
 use Rattle.record_verdict.specs.Existence.{RecordVerdictExists}
-use Rattle.record_verdict.specs.Judgements.{IsRecordVerdict}
+use Rattle.record_verdict.specs.RecordVerdicts.{IsRecordVerdict}
 use Rattle.log_verdict.specs.Existence.{LogVerdictExists}
 use Rattle.log_verdict.specs.Laws.{OneVerdict}
 use Rattle.log_verdict.specs.LogVerdicts.{records_of_order_log, trades_of_trade_log}

@@ -9,7 +9,7 @@ use Rattle.audit_base.specs.declared.terms.Which.TheVariants.{Orders, Trades}
 use Rattle.audit_report.specs.declared.verdicts.Verdict.{Verdict}
 use Rattle.audit_report.specs.declared.verdicts.Verdict.TheVariants as verdict
 use Rattle.record_verdict.specs.declared.questions.Question.{Question}
-use Rattle.record_verdict.specs.Judgements.{IsRecordVerdict}
+use Rattle.record_verdict.specs.RecordVerdicts.{IsRecordVerdict}
 use Rattle.record_verdict.specs.Laws.{RecordVerdictIsOne}
 use Rattle.log_verdict.specs.Laws.{FormsAgree, OneVerdict}
 use Rattle.log_verdict.specs.LogVerdicts.{records_of_order_log, trades_of_trade_log}

@@ -23,7 +23,7 @@ use Rattle.log_verdict.specs.LogVerdicts.{records_of_order_log, trades_of_trade_
 use Rattle.record_verdict.specs.BeforeRule.{IsBeforeRule}
 use Rattle.log_verdict.specs.Steps.{Reading, IsReadFault, IsTooLong, BeginsWithin, EndsWithin}
 use Rattle.record_verdict.specs.declared.scopes.Scope.{Scope}
-use Rattle.record_verdict.specs.Judgements.{IsRecordVerdict}
+use Rattle.record_verdict.specs.RecordVerdicts.{IsRecordVerdict}
 use Rattle.record_verdict.specs.Scopes.{unadmitted_order_finding}
 use Rattle.audit_report.specs.declared.verdicts.Verdict.{Verdict}
 use Rattle.audit_report.specs.declared.verdicts.Verdict.TheVariants.{Malformed}

@@ -16,7 +16,7 @@ use Rattle.csv_logs.specs.Logs as csv
 use Rattle.fix_messages.specs.Logs as fix
 use Rattle.fix_messages.specs.Pairings.{Report, pairing}
 use Rattle.record_verdict.specs.declared.questions.Question.{Question}
-use Rattle.record_verdict.specs.Judgements.{IsRecordVerdict}
+use Rattle.record_verdict.specs.RecordVerdicts.{IsRecordVerdict}
 
 -- A log: its bytes, and the form that they are read in.
 pub record Log : Type 0 where

@@ -21,7 +21,7 @@ pub fn decode_orders(alloc: Global, form: Form, bytes: &[u8]) -> Result<Vec<Orde
     ensures says { MatchResult result
         (λ entries. records_of_order_log form bytes.now ≡ Ok entries.items)
         (IsDecodeFault (records_of_order_log form bytes.now)) }
-    ensures few { IfOk result (λ entries. vec_len entries < 2 ^ 32 - 1) }
+    ensures fits_places { IfOk result (λ entries. vec_len entries < 2 ^ 32 - 1) }
 {
     match form {
         Form::Csv => csv_orders_of(alloc, bytes),
@@ -36,7 +36,7 @@ pub fn decode_trades(alloc: Global, form: Form, bytes: &[u8]) -> Result<Paired, 
     ensures says { MatchResult result
         (λ paired. trades_of_trade_log form bytes.now ≡ Ok (result_of_paired paired))
         (IsDecodeFault (trades_of_trade_log form bytes.now)) }
-    ensures few { IfOk result
+    ensures fits_places { IfOk result
         (λ paired. length (paired_trades (result_of_paired paired)) < 2 ^ 32 - 1) }
 {
     match form {

@@ -83,7 +83,7 @@ fn collect_csv<F: Shelf, R: CsvRecord, K: Collector<Entry = R>>(
         (reading_by source.now F.Shelf shelf.old shelf.new) which source.now.name.now result }
     ensures within { result ≢ Err Unread.TooLong
         → (F.slot shelf.new which).taken ≤ source.now.limit }
-    ensures few { IfOk result (HasPlace K.has_taken) }
+    ensures fits_places { IfOk result (HasPlace K.has_taken) }
 {
     let mut feed: CsvFeed<K> = CsvFeed::over(alloc, collector);
     pump(shelf, which, source.name, source.limit, &mut feed)?;
@@ -109,7 +109,7 @@ fn collect_fix<F: Shelf, R: FixRecord, K: Collector<Entry = R>>(
         (reading_by source.now F.Shelf shelf.old shelf.new) which source.now.name.now result }
     ensures within { result ≢ Err Unread.TooLong
         → (F.slot shelf.new which).taken ≤ source.now.limit }
-    ensures few { IfOk result (HasPlace K.has_taken) }
+    ensures fits_places { IfOk result (HasPlace K.has_taken) }
 {
     let mut feed: FixFeed<K> = FixFeed::over(alloc, collector);
     pump(shelf, which, source.name, source.limit, &mut feed)?;
@@ -144,7 +144,7 @@ pub fn collect_orders<F: Shelf, K: Collector<Entry = OrderRecord>>(
         source.now.name.now result }
     ensures within { result ≢ Err Unread.TooLong
         → (F.slot shelf.new Which.Orders).taken ≤ source.now.limit }
-    ensures few { IfOk result (HasPlace K.has_taken) }
+    ensures fits_places { IfOk result (HasPlace K.has_taken) }
 {
     match source.form {
         Form::Csv => collect_csv::<F, OrderRecord, K>(
@@ -181,7 +181,7 @@ fn collect_pairs<F: Shelf, K: Collector<Entry = TradeRecord>>(
         source.now.name.now result }
     ensures within { result ≢ Err Unread.TooLong
         → (F.slot shelf.new Which.Trades).taken ≤ source.now.limit }
-    ensures few { IfOk result (HasFewCollected K.has_taken) }
+    ensures fits_places { IfOk result (HasFewCollected K.has_taken) }
 {
     let draft = PairingDraft::over(alloc, source.seed, collector);
     let draft = collect_fix::<F, Report, PairingDraft<K>>(
@@ -213,7 +213,7 @@ pub fn collect_trades<F: Shelf, K: Collector<Entry = TradeRecord>>(
         source.now.name.now result }
     ensures within { result ≢ Err Unread.TooLong
         → (F.slot shelf.new Which.Trades).taken ≤ source.now.limit }
-    ensures few { IfOk result (HasFewCollected K.has_taken) }
+    ensures fits_places { IfOk result (HasFewCollected K.has_taken) }
 {
     match source.form {
         Form::Csv => {

@@ -90,7 +90,7 @@ pub record HasFewTrades (orders : List Order) (kept : SymbolDeals) : Type 0 wher
   pub symbol : List ℕ
   pub trades : List TradeRecord
   pub is : IsSymbolDeals orders symbol kept trades
-  pub few : length trades < 2 ^ 32 - 1
+  pub fits_places : length trades < 2 ^ 32 - 1
 
 -- of whatever symbol these were the deals, they are those with one trade of the symbol more, at its
 -- place

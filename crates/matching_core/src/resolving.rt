@@ -27,7 +27,7 @@ fn deals_after<M: AuditedHistory>(
 ) -> Result<DealsSoFar<M>, NoMemory>
     requires orders { history.now ≡ M.orders }
     requires symbol { symbol.now ≡ M.symbol }
-    requires few { length trades.now < 2 ^ 32 - 1 }
+    requires fits_places { length trades.now < 2 ^ 32 - 1 }
     ensures { IfOk result (λ so_far. IsDealsSoFar M.orders M.symbol so_far trades.now) }
 {
     let mut so_far = DealsSoFar::new(alloc, HashSeed::fixed());
@@ -46,7 +46,7 @@ fn resolve_all<M: AuditedHistory>(
 ) -> Result<Vec<Deal>, CheckFault>
     requires orders { history.now ≡ M.orders }
     requires symbol { symbol.now ≡ M.symbol }
-    requires few { length trades.now < 2 ^ 32 - 1 }
+    requires fits_places { length trades.now < 2 ^ 32 - 1 }
     ensures { IsResolveAnswer history.now symbol.now trades.now result }
 {
     let DealsSoFar { kept, .. } = deals_after::<M>(alloc, history, trades, symbol)?;

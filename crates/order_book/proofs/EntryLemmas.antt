@@ -91,7 +91,7 @@ module _ (side : Side) where
       → fs ≡ insert_entry rank_cmp es rank r → IsStrictlySortedBy rank_cmp (keys_of fs) → AreBookEntries side fs × (values_of fs ≡ with_order side r (values_of es))
   inserted r rank es fs key some priced are latest e up =
       let same : fs ≡ insert_entry rank_cmp es (rank_of side r.index r.limit) r = e ∙ ap (λ (k : Rank). insert_entry rank_cmp es k r) key in
-      let both = insert-values r (record { some = some; priced = priced }) es are.each latest in
+      let both = insert-values r (record { positive = some; priced = priced }) es are.each latest in
       (record { each = subst (All (IsBookEntry side)) (sym same) both.1; rising = up }, ap values_of same ∙ both.0)
 
   -- what `remove` makes
@@ -149,7 +149,7 @@ module _ (side : Side) where
       let left-is : x.1.left ≡ r.left = ap (λ (y : Resting). y.left) r-is in
       let entry : IsBookEntry side (x.0, w) = record {
         key = here.key ∙ ap (λ (x : Resting). rank_of side x.index x.limit) (sym w-is);
-        held = rw w-is (record { some = omega arith; priced = here.held.priced });
+        held = rw w-is (record { positive = omega arith; priced = here.held.priced });
       } in (
         record {
           each = rw made (All-cons (IsBookEntry side) (x.0, w) es entry (All-tail (IsBookEntry side) x es are.each));

@@ -11,7 +11,7 @@ pub record BookSide : Type 0 where
 
 -- what holds of each: something is left, and its limit is a price
 pub record IsRestingOrder (r : Resting) : Type 0 where
-  pub some : 0 < r.left
+  pub positive : 0 < r.left
   pub priced : r.limit < 10 ^ 18
 
 -- the first is ahead of the second: a better limit, or the same limit and a lower index

@@ -36,7 +36,7 @@ use Rattle.continuous_laws.specs.Laws.{OnlyPairs}
 use Rattle.verdict_laws.specs.Existence.{VerdictExists, VerdictIsTheOnlyOne}
 use Rattle.record_verdict.specs.declared.questions.Question.{Question}
 use Rattle.record_verdict.specs.Existence.{RecordVerdictExists}
-use Rattle.record_verdict.specs.Judgements.{AreOnlyQuantities, IsAcceptance, IsReportedBound, IsRecordVerdict, table_lines}
+use Rattle.record_verdict.specs.RecordVerdicts.{AreOnlyQuantities, IsAcceptance, IsReportedBound, IsRecordVerdict, table_lines}
 
 -- the laws on which this rests
 pub record Laws : Type 0 where

@@ -27,7 +27,7 @@ use Rattle.audit_report.specs.declared.verdicts.Verdict.{Verdict}
 use Rattle.audit_report.specs.declared.verdicts.Verdict.TheVariants.{Accepted as IsAccepted, Rejected, Malformed}
 use Rattle.audit_report.specs.Texts.{IsVerdictInRange, IsBoundInRange}
 use Rattle.record_verdict.specs.declared.questions.Question.{Question}
-use Rattle.record_verdict.specs.Judgements.{IsVerdictOfFinding, IsRecordVerdict}
+use Rattle.record_verdict.specs.RecordVerdicts.{IsOutcomeByFinding, IsRecordVerdict}
 use Rattle.record_verdict.specs.Stages.{IsFindingAfter, VerdictFollowsRecords, VerdictFollowsHistory, VerdictFollowsTrades, VerdictFollowsDeals}
 
 -- what holds of an answer holds of what follows from it
@@ -118,7 +118,7 @@ module _ (q : Question) (orders : List Order) where
     found = is.found;
     by_the_rules = subst (λ (u : Option Finding). IsFindingAfter u q orders (deals_of_symbol orders q.symbol trades) (length trades) is.found) (sym sound)
         (subst (λ (ds : List Deal). IsRuleFinding q.rule orders ds (length trades) is.found) same is.by_the_rule);
-    outcome = subst (λ (ds : List Deal). IsVerdictOfFinding q orders ds is.found the_verdict) same is.outcome;
+    outcome = subst (λ (ds : List Deal). IsOutcomeByFinding q orders ds is.found the_verdict) same is.outcome;
   }
 
 -- What a verdict says is in its range.
@@ -141,7 +141,7 @@ bound-in_range (Some r) orders reached None is = absurd is
 bound-in_range (Some of_volume.Uniform) orders reached (Some c) is = some-shown c is.shows.holds.0
 bound-in_range (Some of_volume.Maximum) orders reached (Some c) is = some-shown c is.shows.holds.0
 
-outcome-in_range : (q : Question) (orders : List Order) (deals : List Deal) (finding_at_record : Option Finding) (the_verdict : Verdict) → IsVerdictOfFinding q orders deals finding_at_record the_verdict → IsVerdictInRange the_verdict
+outcome-in_range : (q : Question) (orders : List Order) (deals : List Deal) (finding_at_record : Option Finding) (the_verdict : Verdict) → IsOutcomeByFinding q orders deals finding_at_record the_verdict → IsVerdictInRange the_verdict
 outcome-in_range q orders deals None (IsAccepted a) is = bound-in_range (volume_rule q.rule) orders (volume deals) a.bound is.bound_is
 outcome-in_range q orders deals None (Rejected f) is = absurd is
 outcome-in_range q orders deals None (Malformed log bad) is = absurd is

@@ -21,7 +21,7 @@ use Rattle.audit_report.specs.declared.verdicts.Verdict.{Verdict}
 use Rattle.audit_report.specs.declared.verdicts.Verdict.TheVariants as verdict
 use Rattle.call_auction.specs.Audits.{IsReachedBound}
 use Rattle.record_verdict.specs.declared.questions.Question.{Question}
-use Rattle.record_verdict.specs.Judgements.{IsAcceptance, IsAcceptedLog, IsRecordVerdict, IsVerdictOfFinding}
+use Rattle.record_verdict.specs.RecordVerdicts.{IsAcceptance, IsAcceptedLog, IsRecordVerdict, IsOutcomeByFinding}
 
 same-cut : (c d : Cut) → c.price ≡ d.price → c.volume ≡ d.volume → c ≡ d
 same-cut c d price volume =
@@ -61,7 +61,7 @@ module _ (q : Question) (orders : List Order) (deals : List Deal) where
   one-acceptance (verdict.Rejected f) b is same = absurd is
   one-acceptance (verdict.Malformed log bad) b is same = absurd is
 
-  one-outcome : (found : Option Finding) (a b : Verdict) → IsVerdictOfFinding q orders deals found a → IsVerdictOfFinding q orders deals found b → a ≡ b
+  one-outcome : (found : Option Finding) (a b : Verdict) → IsOutcomeByFinding q orders deals found a → IsOutcomeByFinding q orders deals found b → a ≡ b
   one-outcome None a b x y = one-acceptance a b x y
   one-outcome (Some f) a b x y = x ∙ sym y
 
@@ -71,4 +71,4 @@ one-judged q entries paired a b x y =
     let orders : List Order = order_list q.symbol entries in
     let deals : List Deal = deals_of_symbol orders q.symbol (paired_trades paired) in
     one-outcome q orders deals x.found a b x.outcome
-    (subst (λ (f : Option Finding). IsVerdictOfFinding q orders deals f b) (x.one y.found y.by_the_rules) y.outcome)
+    (subst (λ (f : Option Finding). IsOutcomeByFinding q orders deals f b) (x.one y.found y.by_the_rules) y.outcome)

@@ -16,7 +16,7 @@ use Rattle.audit_report.specs.declared.tables.Line.{Line}
 use Rattle.audit_report.specs.declared.tables.Line.TheVariants as line
 use Rattle.canonical_form.specs.declared.shares.Share.{Share}
 use Rattle.canonical_form.specs.Shares.{AreShares}
-use Rattle.record_verdict.specs.Judgements.{pair_line_at, pair_table_lines}
+use Rattle.record_verdict.specs.RecordVerdicts.{pair_line_at, pair_table_lines}
 use Rattle.record_verdict.specs.Tables.{IsShareOf, line_of_share, share_lines}
 
 abbrev ends : Share → ℕ × ℕ
@@ -48,7 +48,7 @@ pair-inside orders (d ∷ ds) bid ask named some =
 pub shares-inside : (orders : List Order) (deals : List Deal) (shares : List Share) → IsDealList orders deals → AreShares deals shares → All (IsShareOf orders) shares
 shares-inside orders deals shares list are = λ n s lt.
     let t = get_or shares n s in
-    let trades : 0 < pair deals t.bid t.ask = let q = are.quantities n s lt in let some = are.some n s lt in omega arith in
+    let trades : 0 < pair deals t.bid t.ask = let q = are.quantities n s lt in let some = are.positive n s lt in omega arith in
     let two = pair-inside orders deals t.bid t.ask list.named trades in
     record { bid_inside = two.0; ask_inside = two.1 }
 
@@ -140,7 +140,7 @@ module _ (orders : List Order) (deals : List Deal) where
         let s = get_or shares n s0 in
         let e : get_or (map ends shares) n p ≡ ends s = get_or-map ends shares n s0 p under in
         let inside = shares-inside orders deals shares list are n s0 under in
-        let trades : 0 < quantity s.bid s.ask = let q = are.quantities n s0 under in let some = are.some n s0 under in omega arith in
+        let trades : 0 < quantity s.bid s.ask = let q = are.quantities n s0 under in let some = are.positive n s0 under in omega arith in
         subst (λ q. Contains (map ends_of paired) q) (sym e ∙ at) ((pair_deals-are orders quantity no_price).complete s.bid s.ask inside.bid_inside inside.ask_inside trades)
 
     deal-has_share : (p : ℕ × ℕ) → Contains (map ends_of paired) p → Contains (map ends shares) p

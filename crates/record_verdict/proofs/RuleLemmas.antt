@@ -29,7 +29,7 @@ use Rattle.call_laws.proofs.VolumeLemmas.{early-offence, first-of_call}
 use Rattle.call_auction.specs.Audits.{IsCallOutcome, IsReachedBound}
 use Rattle.continuous_audit.specs.Audits as continuous
 use Rattle.record_verdict.specs.declared.questions.Question.{Question}
-use Rattle.record_verdict.specs.Judgements.{order_line_at, order_table_lines, AreOnlyQuantities, EachOnly, IsReportedBound}
+use Rattle.record_verdict.specs.RecordVerdicts.{order_line_at, order_table_lines, AreOnlyQuantities, EachOnly, IsReportedBound}
 use Rattle.record_verdict.specs.Stages.{VerdictFollowsDeals}
 use Rattle.record_verdict.specs.Tables.{line_of_order, lines_of, accepted_verdict, IsCallOutcomeForAnyCount, IsConformingUnderRule, IsOutcomeOfFault, IsRuleOutcome}
 

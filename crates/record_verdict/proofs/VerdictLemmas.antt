@@ -24,7 +24,7 @@ use Rattle.record_verdict.specs.declared.scopes.Admission.TheVariants as admissi
 use Rattle.record_verdict.specs.declared.questions.Question.{Question}
 use Rattle.record_verdict.specs.BeforeRule.{AreResolvedTradesInRange, IsResolvedWithoutFinding}
 use Rattle.record_verdict.specs.Laws.{SoundTradesHaveVerdict}
-use Rattle.record_verdict.specs.Judgements.{IsRecordVerdict, IsVerdictOfFinding}
+use Rattle.record_verdict.specs.RecordVerdicts.{IsRecordVerdict, IsOutcomeByFinding}
 use Rattle.record_verdict.specs.Scopes.{admission_of, finding_before_rule_in_scope, scope_of, unadmitted_order_finding}
 use Rattle.record_verdict.specs.Stages.{VerdictFollowsDeals, IsVerdictAfterStages}
 
@@ -101,8 +101,8 @@ sound_judged q entries paired resolved v numbers judged sound =
       found = judged.found;
       by_the_rules = by_rules;
       one = λ other others. one-verdict-of_deals q.rule q.symbol entries paired other judged.found (λ _. subst DealsInRange sound.deals numbers) others by_rules;
-      outcome = subst (λ (ds : List Deal). IsVerdictOfFinding q orders ds judged.found v) sound.deals
-          (subst (λ (os : List Order). IsVerdictOfFinding q os resolved.deals.items judged.found v) sound.orders judged.outcome);
+      outcome = subst (λ (ds : List Deal). IsOutcomeByFinding q orders ds judged.found v) sound.deals
+          (subst (λ (os : List Order). IsOutcomeByFinding q os resolved.deals.items judged.found v) sound.orders judged.outcome);
     }
 
 -- the verdict on sound trades is that of the logs
@@ -137,5 +137,5 @@ sound-trades q entries trades deals v none same numbers judged =
       found = judged.found;
       by_the_rules = by_rules;
       one = λ other others. one-verdict-of_deals q.rule q.symbol entries (Ok trades) other judged.found (λ _. subst DealsInRange same numbers) others by_rules;
-      outcome = subst (λ (ds : List Deal). IsVerdictOfFinding q orders ds judged.found v) same judged.outcome;
+      outcome = subst (λ (ds : List Deal). IsOutcomeByFinding q orders ds judged.found v) same judged.outcome;
     }

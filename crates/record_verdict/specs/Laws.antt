@@ -10,7 +10,7 @@ use Rattle.audit_base.specs.Trades.{deals_of_symbol}
 use Rattle.audit_base.specs.Verdicts.{finding_before_rule}
 use Rattle.audit_report.specs.declared.verdicts.Verdict.{Verdict}
 use Rattle.record_verdict.specs.declared.questions.Question.{Question}
-use Rattle.record_verdict.specs.Judgements.{IsRecordVerdict}
+use Rattle.record_verdict.specs.RecordVerdicts.{IsRecordVerdict}
 use Rattle.record_verdict.specs.Stages.{VerdictFollowsDeals}
 
 -- the records of two logs have one verdict on a question

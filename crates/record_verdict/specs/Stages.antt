@@ -20,7 +20,7 @@ use Rattle.record_verdict.specs.declared.before_rule.BeforeRule.TheVariants as b
 use Rattle.record_verdict.specs.declared.questions.Question.{Question}
 use Rattle.record_verdict.specs.BeforeRule.{IsBeforeRule}
 use Rattle.record_verdict.specs.Scopes.{scope_of}
-use Rattle.record_verdict.specs.Judgements.{IsRecordVerdict, IsVerdictOfFinding}
+use Rattle.record_verdict.specs.RecordVerdicts.{IsRecordVerdict, IsOutcomeByFinding}
 
 -- the rule decides where no stage before it has a finding
 abbrev pub IsFindingAfter : Option Finding → Question → List Order → List Deal → ℕ
@@ -35,7 +35,7 @@ pub record VerdictFollowsRecords (q : Question) (entries : List OrderRecord)
   pub found : Option Finding
   pub by_the_rules : IsRecordFinding q.rule q.symbol entries trades found
   pub outcome : let orders = order_list q.symbol entries in
-      IsVerdictOfFinding q orders
+      IsOutcomeByFinding q orders
       (deals_of_symbol orders q.symbol (paired_trades trades)) found the_verdict
 
 -- The same where the history is well-formed and these are its orders.
@@ -48,7 +48,7 @@ pub record VerdictFollowsHistory (q : Question) (orders : List Order)
       q orders (deals_of_symbol orders q.symbol (paired_trades trades))
       (length (paired_trades trades))
       found
-  pub outcome : IsVerdictOfFinding q orders (deals_of_symbol orders q.symbol (paired_trades trades))
+  pub outcome : IsOutcomeByFinding q orders (deals_of_symbol orders q.symbol (paired_trades trades))
       found the_verdict
 
 -- The same where these are the trades.
@@ -57,7 +57,7 @@ pub record VerdictFollowsTrades (q : Question) (orders : List Order) (trades : L
   pub found : Option Finding
   pub by_the_rules : IsFindingAfter (trades_finding orders q.symbol trades)
       q orders (deals_of_symbol orders q.symbol trades) (length trades) found
-  pub outcome : IsVerdictOfFinding q orders (deals_of_symbol orders q.symbol trades) found
+  pub outcome : IsOutcomeByFinding q orders (deals_of_symbol orders q.symbol trades) found
       the_verdict
 
 -- The same where the trades are sound and these are their deals.
@@ -65,7 +65,7 @@ pub record VerdictFollowsDeals (q : Question) (orders : List Order) (deals : Lis
     (the_verdict : Verdict) : Type 0 where
   pub found : Option Finding
   pub by_the_rule : IsRuleFinding q.rule orders deals count found
-  pub outcome : IsVerdictOfFinding q orders deals found the_verdict
+  pub outcome : IsOutcomeByFinding q orders deals found the_verdict
 
 -- The verdict on what two logs give before the rule is looked at: their first bad place, the
 -- finding, or that of the rule on sound trades; and so it is that on whatever records give this.

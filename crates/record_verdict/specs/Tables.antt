@@ -21,7 +21,7 @@ use Rattle.matching_core.specs.declared.outcomes.CheckFault.TheVariants as fault
 use Rattle.matching_core.specs.declared.outcomes.Reached.{Reached}
 use Rattle.record_verdict.specs.declared.questions.Question.{Question}
 use Rattle.canonical_form.specs.declared.shares.Share.{Share}
-use Rattle.record_verdict.specs.Judgements.{AreOnlyQuantities, IsReportedBound, table_lines}
+use Rattle.record_verdict.specs.RecordVerdicts.{AreOnlyQuantities, IsReportedBound, table_lines}
 
 -- the line of an order with what it traded
 abbrev pub line_of_order : Order → ℕ → Line

@@ -23,7 +23,7 @@ pub enum BeforeRule {
 impl BeforeRule {
     /// The first finding of trades that have been gathered, or that they are sound.
     pub fn of(resolved: ResolvedTrades) -> BeforeRule
-        requires few { resolved.count < 2 ^ 32 - 1 }
+        requires fits_places { resolved.count < 2 ^ 32 - 1 }
         requires counted { resolved.finding ≡ None
             → length resolved.deals.items ≤ resolved.count }
         requires deal_list { resolved.finding ≡ None

@@ -6,7 +6,7 @@ ghost use Rattle.audit_base.specs.Verdicts as spec;
 ghost use Rattle.audit_base.specs.Verdicts.{paired_trades};
 ghost use Rattle.audit_report.specs.Texts.{IsVerdictInRange};
 ghost use Rattle.fix_messages.specs.Pairings.{result_of_paired};
-ghost use Rattle.record_verdict.specs.Judgements.{question, IsRecordVerdict};
+ghost use Rattle.record_verdict.specs.RecordVerdicts.{question, IsRecordVerdict};
 ghost use Rattle.record_verdict.specs.Stages.{VerdictFollowsRecords, VerdictFollowsHistory, VerdictFollowsTrades};
 
 use crate::questions::Question;
@@ -52,7 +52,7 @@ fn judge_trades(
     history: &History,
     trades: &[TradeRecord],
 ) -> Result<Verdict, NoMemory>
-    requires few { length trades.now < 2 ^ 32 - 1 }
+    requires fits_places { length trades.now < 2 ^ 32 - 1 }
     ensures { IfOk result (VerdictFollowsTrades question.now history.now trades.now) }
 {
     match resolve(alloc, history, trades, &question.symbol) {
@@ -75,7 +75,7 @@ fn judge_history(
     history: &History,
     trades: &Paired,
 ) -> Result<Verdict, NoMemory>
-    requires few { length (paired_trades (result_of_paired trades.now)) < 2 ^ 32 - 1 }
+    requires fits_places { length (paired_trades (result_of_paired trades.now)) < 2 ^ 32 - 1 }
     ensures { IfOk result
         (VerdictFollowsHistory question.now history.now (result_of_paired trades.now)) }
 {
@@ -95,8 +95,8 @@ fn judge_records(
     entries: &[OrderRecord],
     trades: &Paired,
 ) -> Result<Verdict, NoMemory>
-    requires few_entries { length entries.now < 2 ^ 32 - 1 }
-    requires few_trades { length (paired_trades (result_of_paired trades.now)) < 2 ^ 32 - 1 }
+    requires entries_fit_places { length entries.now < 2 ^ 32 - 1 }
+    requires trades_fit_places { length (paired_trades (result_of_paired trades.now)) < 2 ^ 32 - 1 }
     ensures judged { IfOk result
         (VerdictFollowsRecords question.now entries.now (result_of_paired trades.now)) }
     ensures in_range { IfOk result IsVerdictInRange }
@@ -124,8 +124,8 @@ pub fn judge(
     entries: &[OrderRecord],
     trades: &Paired,
 ) -> Result<Verdict, NoMemory>
-    requires few_entries { length entries.now < 2 ^ 32 - 1 }
-    requires few_trades { length (paired_trades (result_of_paired trades.now)) < 2 ^ 32 - 1 }
+    requires entries_fit_places { length entries.now < 2 ^ 32 - 1 }
+    requires trades_fit_places { length (paired_trades (result_of_paired trades.now)) < 2 ^ 32 - 1 }
     ensures judged { IfOk result
         (IsRecordVerdict (question rule symbol.now table) entries.now
         (result_of_paired trades.now)) }

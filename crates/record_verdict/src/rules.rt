@@ -83,7 +83,7 @@ fn audit_greatest(
 ) -> Result<Outcome, NoMemory>
     requires order_list { IsOrderList orders.now }
     requires deal_list { IsDealList orders.now deals.now }
-    requires few { count < 2 ^ 32 - 1 }
+    requires fits_places { count < 2 ^ 32 - 1 }
     ensures { IfOk result (IsCallOutcome rule orders.now deals.now count) }
 {
     match rule {
@@ -102,7 +102,7 @@ fn audit_call(
 ) -> Result<Outcome, NoMemory>
     requires order_list { IsOrderList orders.now }
     requires deal_list { IsDealList orders.now deals.now }
-    requires few { count < 2 ^ 32 - 1 }
+    requires fits_places { count < 2 ^ 32 - 1 }
     ensures { IfOk result (IsRuleOutcome (rule_of_call rule) orders.now deals.now count) }
 {
     match rule {
@@ -123,7 +123,7 @@ fn audit(
     requires regular { Regular orders.now }
     requires order_list { IsOrderList orders.now }
     requires deal_list { IsDealList orders.now deals.now }
-    requires few { count < 2 ^ 32 - 1 }
+    requires fits_places { count < 2 ^ 32 - 1 }
     ensures { IfOk result (IsRuleOutcome rule orders.now deals.now count) }
 {
     match rule.call_rule() {
@@ -170,7 +170,7 @@ pub fn judge_deals(
     requires regular { Regular orders.now }
     requires order_list { IsOrderList orders.now }
     requires deal_list { IsDealList orders.now deals.now }
-    requires few { count < 2 ^ 32 - 1 }
+    requires fits_places { count < 2 ^ 32 - 1 }
     ensures { IfOk result (VerdictFollowsDeals question.now orders.now deals.now count) }
 {
     let outcome = audit(alloc, question.rule, orders, deals, count)?;

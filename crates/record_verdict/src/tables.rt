@@ -2,7 +2,7 @@
 //! under `continuous` what each pair of a bid and an ask did.
 ghost use Rattle.std.specs.Prelude.{◌≡◌, ◌<◌, ◌++◌, ◌∷◌, [], All, IfOk, OnOk, length};
 ghost use Rattle.audit_base.specs.Deals.{AreTotals, IsDealList};
-ghost use Rattle.record_verdict.specs.Judgements as table;
+ghost use Rattle.record_verdict.specs.RecordVerdicts as table;
 ghost use Rattle.record_verdict.specs.Tables as spec;
 
 use crate::questions::Question;

@@ -12,7 +12,7 @@ use Rattle.audit_base.proofs.ContinuousLemmas.{target-below}
 use Rattle.audit_base.proofs.SumLemmas.{sum_by-same}
 use Rattle.session_audit.specs.declared.phases.Phase.{Phase}
 use Rattle.session_audit.specs.Phases.{first_place, end_place}
-use Rattle.session_audit.specs.PhaseOrders.{RoleInPhase, target_takes_part, roles_in_phase, role_in_phase, role_in_phase_at, phase_order, order_count_upto, phase_list, traded_before_phase, chain_before_phase, left_after_phases, phase_list_at}
+use Rattle.session_audit.specs.PhaseOrders.{RoleInPhase, target_takes_part, roles_in_phase, role_in_phase, role_in_phase_at, phase_order, order_count_through, phase_list, traded_before_phase, chain_before_phase, left_after_phases, phase_list_at}
 use Rattle.session_audit.specs.Numbers.{number_at, WithinQuantities, total_of_chain, AreChainTotals}
 use Rattle.session_audit.specs.Entering.{amount_in_phase, role_of_amount, own_amount, target_has_amount, amount_by_earlier, amounts_below, phase_list_by_amounts}
 use Rattle.session_audit.specs.Progress.{IsDaySoFar}
@@ -99,13 +99,13 @@ module _ (phases : List Phase) (orders : List Order) (list : IsOrderList orders)
 
   -- the list that is made from the numbers is that of the phase
   pub list-is : (spent amounts_list : List ℕ) → AreChainTotals orders traded (length orders) spent
-      → amounts_list ≡ amounts_below orders (first_place phases k) rest spent (order_count_upto orders (end_place phases k))
+      → amounts_list ≡ amounts_below orders (first_place phases k) rest spent (order_count_through orders (end_place phases k))
       → phase_list_by_amounts orders (first_place phases k) (end_place phases k) amounts_list (length amounts_list) ≡ phase_list_at phases orders deals k
   unfolding phase_list
   list-is spent amounts_list totals are =
       let first : ℕ = first_place phases k in
       let last : ℕ = end_place phases k in
-      let n : ℕ = order_count_upto orders last in
+      let n : ℕ = order_count_through orders last in
       let rests : number_at rest ≡ left_after_phases phases orders deals k = λ j i. so_far.left_is i j in
       let chains : number_at spent ≡ chain_before_phase phases orders deals k = λ j i. spent-is spent totals i j in
       let there : ℕ → RoleInPhase = role_in_phase_at phases orders deals k in

@@ -8,7 +8,7 @@ use Rattle.audit_base.specs.Orders.{order_at, place_at, side_at, order_past_end,
 use Rattle.audit_base.specs.Histories.{Regular}
 use Rattle.audit_base.proofs.OrderLemmas.{place-rises, same_place}
 use Rattle.audit_base.proofs.OffenceLemmas.{get_or-default}
-use Rattle.session_audit.specs.PhaseOrders.{RoleInPhase, Carried, Own, Gone, takes_part, target_takes_part, roles_in_phase, role_in_phase, end_upto, phase_order, order_count_upto, phase_list}
+use Rattle.session_audit.specs.PhaseOrders.{RoleInPhase, Carried, Own, Gone, takes_part, target_takes_part, roles_in_phase, role_in_phase, end_through, phase_order, order_count_through, phase_list}
 use Rattle.session_audit.specs.Entering.{amount_in_phase}
 use Rattle.session_audit.proofs.ListBelowLemmas.{length-list_below, list_below-at}
 use Rattle.session_audit.proofs.InPhaseLemmas.{HasAmount, own-target, target-stays}
@@ -16,8 +16,8 @@ use Rattle.session_audit.proofs.InPhaseLemmas.{HasAmount, own-target, target-sta
 -- An order of the list of a phase, and what it keeps.
 
 pub keeps : {A : Type 0} (g : Order → A) → ((o : Order) (q : ℕ) (c t : Option ℕ) → g (record o { quantity = q; cancelled = c; target = t }) ≡ g o) → (last : ℕ) (o : Order) (x : RoleInPhase) → g (phase_order last o x) ≡ g o
-keeps g same last o (Carried left) = same o left (end_upto last o.cancelled) None
-keeps g same last o (Own quantity) = same o quantity (end_upto last o.cancelled) o.target
+keeps g same last o (Carried left) = same o left (end_through last o.cancelled) None
+keeps g same last o (Own quantity) = same o quantity (end_through last o.cancelled) o.target
 keeps g same last o Gone = same o o.quantity (Some o.place) None
 
 -- its quantity is its number, or the written one
@@ -32,7 +32,7 @@ quantity-some last o (Own quantity) some written = some
 quantity-some last o Gone some written = written
 
 -- an order that takes part is cancelled where it is in the day, if by `last`
-pub present-cancelled : (last : ℕ) (o : Order) (x : RoleInPhase) → takes_part x ≡ true → (phase_order last o x).cancelled ≡ end_upto last o.cancelled
+pub present-cancelled : (last : ℕ) (o : Order) (x : RoleInPhase) → takes_part x ≡ true → (phase_order last o x).cancelled ≡ end_through last o.cancelled
 present-cancelled last o (Carried left) e = refl
 present-cancelled last o (Own quantity) e = refl
 present-cancelled last o Gone e = absurd (cc)
@@ -49,15 +49,15 @@ order-target last o Gone t e = absurd (none-some t e)
 some-same : (a b : ℕ) → Some a ≡ Some b → a ≡ b
 some-same a b e = cc
 
-pub ended-is : (last c : ℕ) (o : Option ℕ) → end_upto last o ≡ Some c → (o ≡ Some c) × (c ≤ last)
+pub ended-is : (last c : ℕ) (o : Option ℕ) → end_through last o ≡ Some c → (o ≡ Some c) × (c ≤ last)
 ended-is last c None e = absurd (none-some c e)
 ended-is last c (Some x) e = elim (cases_Bool (nat_le x last)) [
   | inl t ↦ let same : x ≡ c = some-same x c (sym (cond-true (nat_le x last) (Some x) None t) ∙ e) in (ap Some same, (let le = leb-true x last t in omega arith))
   | inr f ↦ absurd (none-some c (sym (cond-false (nat_le x last) (Some x) None f) ∙ e))
 ]
 
-pub is-ended : (last c : ℕ) (o : Option ℕ) → o ≡ Some c → c ≤ last → end_upto last o ≡ Some c
-is-ended last c o e le = ap (end_upto last) e ∙ cond-true (nat_le c last) (Some c) None (le-leb _ _ le)
+pub is-ended : (last c : ℕ) (o : Option ℕ) → o ≡ Some c → c ≤ last → end_through last o ≡ Some c
+is-ended last c o e le = ap (end_through last) e ∙ cond-true (nat_le c last) (Some c) None (le-leb _ _ le)
 
 -- it is cancelled where the order is, and by `last`, or it is gone and cancelled at its own place
 pub order-cancelled : (last : ℕ) (o : Order) (x : RoleInPhase) (c : ℕ) → (phase_order last o x).cancelled ≡ Some c → ((o.cancelled ≡ Some c) × (c ≤ last)) ⊎ (c ≡ o.place)
@@ -71,17 +71,17 @@ Rises orders = (i j : ℕ) → i < j → j < length orders → place_at orders i
 
 module _ (orders : List Order) (last : ℕ) where
   -- the orders up to a place are those of at most this place
-  pub upto-inside : order_count_upto orders last ≤ length orders
+  pub upto-inside : order_count_through orders last ≤ length orders
   upto-inside = prefix_len-le-length (λ (o : Order). nat_le o.place last) orders
 
-  pub upto-below : (i : ℕ) → i < order_count_upto orders last → place_at orders i ≤ last
+  pub upto-below : (i : ℕ) → i < order_count_through orders last → place_at orders i ≤ last
   upto-below i lt = leb-true _ _ (prefix_len_passes (λ (o : Order). nat_le o.place last) orders i order_past_end lt)
 
-  pub below-upto : Rises orders → (i : ℕ) → i < length orders → place_at orders i ≤ last → i < order_count_upto orders last
-  below-upto rises i lt le = elim (cases_lt i (order_count_upto orders last)) [
+  pub below-upto : Rises orders → (i : ℕ) → i < length orders → place_at orders i ≤ last → i < order_count_through orders last
+  below-upto rises i lt le = elim (cases_lt i (order_count_through orders last)) [
     | inl below ↦ below
     | inr above ↦
-        let n : ℕ = order_count_upto orders last in
+        let n : ℕ = order_count_through orders last in
         let stops : nat_le (place_at orders n) last ≡ false = prefix_len_stops (λ (o : Order). nat_le o.place last) orders order_past_end (omega arith) in
         let rises : place_at orders n ≤ place_at orders i = elim (cases_order n i) [
           | inl e ↦ let s : place_at orders n ≡ place_at orders i = ap (place_at orders) e in omega arith
@@ -100,13 +100,13 @@ module _ (orders : List Order) (last : ℕ) where
     abbrev entry : ℕ → Order
     entry i = phase_order last (order_at orders i) (what i)
 
-    pub phase-length : length phase ≡ order_count_upto orders last
+    pub phase-length : length phase ≡ order_count_through orders last
     unfolding phase_list
-    phase-length = length-list_below entry (order_count_upto orders last)
+    phase-length = length-list_below entry (order_count_through orders last)
 
-    pub phase-get : (i : ℕ) (d : Order) → i < order_count_upto orders last → get_or phase i d ≡ entry i
+    pub phase-get : (i : ℕ) (d : Order) → i < order_count_through orders last → get_or phase i d ≡ entry i
     unfolding phase_list
-    phase-get i d lt = list_below-at entry (order_count_upto orders last) i d lt
+    phase-get i d lt = list_below-at entry (order_count_through orders last) i d lt
 
     pub phase-at : (i : ℕ) → i < length phase → order_at phase i ≡ entry i
     phase-at i lt = phase-get i order_past_end (let e = phase-length in omega arith)
@@ -180,7 +180,7 @@ module _ (orders : List Order) (last : ℕ) where
             let le = r.2 in
             let stays : takes_part (what t) ≡ true = sym (target-stays orders first rest spent i t less) ∙ sym (ap (target_takes_part (roles_in_phase orders first rest spent i)) p.2) ∙ own-target orders first rest spent i p.0 p.1 in
             let upto = phase-upto i lt in
-            let t_at : (order_at phase t).cancelled ≡ end_upto last (order_at orders t).cancelled = ap (λ (o : Order). o.cancelled) (phase-at t (omega arith)) ∙ present-cancelled last (order_at orders t) (what t) stays in
+            let t_at : (order_at phase t).cancelled ≡ end_through last (order_at orders t).cancelled = ap (λ (o : Order). o.cancelled) (phase-at t (omega arith)) ∙ present-cancelled last (order_at orders t) (what t) stays in
             let here = phase-place i lt in
             (r.0, t_at ∙ is-ended last r.0 (order_at orders t).cancelled r.1 (omega arith), omega arith);
       }

@@ -71,9 +71,9 @@ role_in_phase orders first left chain_traded i =
     (roles_in_phase orders first left chain_traded i) i
 
 -- the place of the record that ends an order, where it is at most `last`
-abbrev pub end_upto : ℕ → Option ℕ → Option ℕ
-end_upto last None = None
-end_upto last (Some c) = if nat_le c last then Some c else None
+abbrev pub end_through : ℕ → Option ℕ → Option ℕ
+end_through last None = None
+end_through last (Some c) = if nat_le c last then Some c else None
 
 -- An order in the list of the phase. A carried order has what is left of it as its quantity, and
 -- no target. An own order has its quantity there, and its target. Both have their `cancelled`
@@ -81,14 +81,14 @@ end_upto last (Some c) = if nat_le c last then Some c else None
 -- place as `cancelled`.
 abbrev pub phase_order : ℕ → Order → RoleInPhase → Order
 phase_order last o (Carried left) =
-    record o { quantity = left; cancelled = end_upto last o.cancelled; target = None }
+    record o { quantity = left; cancelled = end_through last o.cancelled; target = None }
 phase_order last o (Own quantity) =
-    record o { quantity = quantity; cancelled = end_upto last o.cancelled }
+    record o { quantity = quantity; cancelled = end_through last o.cancelled }
 phase_order last o Gone = record o { cancelled = Some o.place; target = None }
 
 -- how many orders, from the first on, have a place of at most `last`
-abbrev pub order_count_upto : List Order → ℕ → ℕ
-order_count_upto orders last = prefix_len (λ o. nat_le o.place last) orders
+abbrev pub order_count_through : List Order → ℕ → ℕ
+order_count_through orders last = prefix_len (λ o. nat_le o.place last) orders
 
 -- the list of f(0), f(1) and so on up to f(n - 1)
 abbrev pub list_below : {A : Type 0} → (ℕ → A) → ℕ → List A
@@ -99,7 +99,7 @@ list_below f (suc n) = list_below f n ++ f n ∷ []
 unfoldable pub phase_list : List Order → ℕ → ℕ → (ℕ → ℕ) → (ℕ → ℕ) → List Order
 phase_list orders first last left chain_traded = list_below
     (λ i. phase_order last (order_at orders i) (role_in_phase orders first left chain_traded i))
-    (order_count_upto orders last)
+    (order_count_through orders last)
 
 -- what a call leaves of the order at i, by the order list and the deals of the phase: what it
 -- has not traded, but nothing where a record cancels it

@@ -31,7 +31,7 @@ fn audit_phases(
     requires regular { Regular orders.now }
     requires phases { ArePhases phases.now }
     requires deal_list { IsDealList orders.now deals.now }
-    requires few { count < 2 ^ 32 - 1 }
+    requires fits_places { count < 2 ^ 32 - 1 }
     requires admitted { instant_finding phases.now orders.now deals.now ≡ None }
     ensures { IfOk result (IsDayOutcome phases.now orders.now deals.now count) }
 {
@@ -70,7 +70,7 @@ pub fn audit_session(
     requires phases { ArePhases phases.now }
     requires deal_list { IsDealList orders.now deals.now }
     requires counted { length deals.now ≤ count }
-    requires few { count < 2 ^ 32 - 1 }
+    requires fits_places { count < 2 ^ 32 - 1 }
     ensures { IfOk result (IsDayOutcome phases.now orders.now deals.now count) }
 {
     orders.in_range();

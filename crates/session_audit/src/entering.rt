@@ -28,8 +28,8 @@ pub fn was_placed(order: &ListedOrder<'_>) -> bool
 }
 
 /// How many orders, from the first on, have a place of at most `last`.
-pub fn order_count_upto(orders: &OrderList<'_>, last: u32) -> usize
-    ensures { result ≡ spec.order_count_upto orders.now last }
+pub fn order_count_through(orders: &OrderList<'_>, last: u32) -> usize
+    ensures { result ≡ spec.order_count_through orders.now last }
 {
     let mut count = 0;
     while count < orders.len() && orders.at(count).place() <= last {
@@ -121,8 +121,8 @@ pub fn amounts_of(
 }
 
 /// The place of the record that ends an order, where it is at most `last`.
-fn end_upto(cancelled: Option<u32>, last: u32) -> Option<u32>
-    ensures { result ≡ spec.end_upto last cancelled }
+fn end_through(cancelled: Option<u32>, last: u32) -> Option<u32>
+    ensures { result ≡ spec.end_through last cancelled }
 {
     match cancelled {
         Some(end) if end <= last => Some(end),
@@ -153,7 +153,7 @@ fn phase_terms(order: &ListedOrder<'_>, first: u32, last: u32, amount: u64) -> C
     match Quantity::of(amount) {
         Some(quantity) => ChangedTerms {
             quantity,
-            cancelled: end_upto(order.cancelled(), last),
+            cancelled: end_through(order.cancelled(), last),
             target: own_target(order, first),
         },
         None => ChangedTerms {

@@ -26,7 +26,7 @@ pub fn audit_phase(
 ) -> Result<Outcome, NoMemory>
     requires order_list { IsOrderList orders.now }
     requires deal_list { IsDealList orders.now deals.now }
-    requires few { count < 2 ^ 32 - 1 }
+    requires fits_places { count < 2 ^ 32 - 1 }
     ensures { IfOk result (IsPhaseOutcome (rule_of kind) orders.now deals.now count) }
 {
     match kind {

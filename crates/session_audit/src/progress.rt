@@ -14,7 +14,7 @@ ghost use Rattle.session_audit.specs.Phases as spec;
 ghost use Rattle.session_audit.specs.Progress.{AddsNumbers, AddsPhase, HasPhaseTotals, IsDaySoFar, left_numbers_after_phase};
 
 use super::chains::chain_totals;
-use super::entering::{amounts_of, list_orders, order_count_upto};
+use super::entering::{amounts_of, list_orders, order_count_through};
 use super::judging::audit_phase;
 use super::leaving::{leave_call, leave_continuous};
 use super::phases::{Phase, PhaseKind};
@@ -100,7 +100,7 @@ pub fn list_phase<'a>(
     let first = first_place(phases, index);
     let last = end_place(phases, index);
     let chain_traded = chain_totals(alloc, orders, &so_far.traded)?;
-    let count = order_count_upto(orders, last);
+    let count = order_count_through(orders, last);
     let amounts = amounts_of(alloc, orders, count, first, &so_far.left, &chain_traded)?;
     list_orders(alloc, orders, first, last, &amounts)
 }

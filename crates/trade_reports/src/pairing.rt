@@ -64,9 +64,9 @@ fn pair_by<K: Collector<Entry = TradeRecord>>(
     reports: &[Report],
 ) -> Result<Result<K, Finding>, NoMemory>
     requires empty { IsPairingDraft K.has_taken draft [] }
-    requires few { length reports.now < 2 ^ 32 - 1 }
+    requires fits_places { length reports.now < 2 ^ 32 - 1 }
     ensures pairs { IfOk result (IsPairedAs K.has_taken (pairing reports.now)) }
-    ensures few { IfOk result (λ paired. IfOk paired (HasPlace K.has_taken)) }
+    ensures fits_places { IfOk result (λ paired. IfOk paired (HasPlace K.has_taken)) }
 {
     for report in reports {
         draft.take(*report)?;
@@ -82,7 +82,7 @@ fn pair_by<K: Collector<Entry = TradeRecord>>(
 pub fn pair_reports(alloc: Global, reports: &[Report]) -> Result<Paired, NoMemory>
     requires { length reports.now < 2 ^ 32 - 1 }
     ensures pairs { IfOk result (λ paired. result_of_paired paired ≡ pairing reports.now) }
-    ensures few { IfOk result
+    ensures fits_places { IfOk result
         (λ paired. length (paired_trades (result_of_paired paired)) < 2 ^ 32 - 1) }
 {
     let draft = PairingDraft::over(alloc, HashSeed::fixed(), Vec::new(alloc));

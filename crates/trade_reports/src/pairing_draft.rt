@@ -155,7 +155,7 @@ impl<K: Collector<Entry = TradeRecord>> PairingDraft<K> {
     pub fn end(self) -> Result<K, Finding>
         ensures pairs { (reports : List Report) → IsPairingDraft K.has_taken self reports
             → IsPairedAs K.has_taken (pairing reports) result }
-        ensures few { HasPlace (IsPairingDraft K.has_taken) self
+        ensures fits_places { HasPlace (IsPairingDraft K.has_taken) self
             → IfOk result (HasPlace K.has_taken) }
     {
         let PairingDraft {

@@ -39,7 +39,7 @@ pub fn audit_uniform(
 ) -> Result<Outcome, NoMemory>
     requires order_list { IsOrderList orders.now }
     requires deal_list { IsDealList orders.now deals.now }
-    requires few { count < 2 ^ 32 - 1 }
+    requires fits_places { count < 2 ^ 32 - 1 }
     ensures { IfOk result (IsCallOutcome Uniform orders.now deals.now count) }
 {
     let most = greatest_of(alloc, orders)?;

@@ -84,7 +84,7 @@ module _ (orders : List Order) (units : ℕ → ℕ → ℕ) (price : DealPrice)
             let m = are.each k unit_pair_past_end (omega arith) in
             let q = pair-of_orders (unit_pair_at pairs k) m in
             subst (IsPairDeal quantity (λ bid ask. unit_pair_price orders price ask) (length orders)) (sym (deal-is k d lt))
-            (record { bid_inside = q.bid_stands.inside; ask_inside = q.ask_stands.inside; some = m.some; is = q.whole; at = refl });
+            (record { bid_inside = q.bid_stands.inside; ask_inside = q.ask_stands.inside; some = m.positive; is = q.whole; at = refl });
         in_order = λ i j d lt below.
             rw (deal-is i d (omega arith), deal-is j d below) (sorted i j unit_pair_past_end lt (omega arith));
         complete = λ bid ask hb ha some.

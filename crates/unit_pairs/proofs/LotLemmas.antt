@@ -23,7 +23,7 @@ module _ (orders : List Order) (ranks : List ℕ) (volume : ℕ) where
   pub none-filled : AreFilled orders ranks volume [] volume 0
   none-filled = record {
     count = refl;
-    are = record { few = omega arith; each = All-nil IsLot; first = λ k lt. absurd (omega arith) };
+    are = record { bounded = omega arith; each = All-nil IsLot; first = λ k lt. absurd (omega arith) };
     rest = omega arith;
   }
 
@@ -42,8 +42,8 @@ module _ (orders : List Order) (ranks : List ℕ) (volume : ℕ) where
       record {
         count = length_push lots l ∙ ap (λ k. k + 1) count;
         are = record {
-          few = omega (arith, length_push lots l);
-          each = All-push IsLot lots l old.each (record { some = some; most = most });
+          bounded = omega (arith, length_push lots l);
+          each = All-push IsLot lots l old.each (record { positive = some; bounded = most });
           first = λ k below. elim (cases_eq k (length lots)) [
             | inl e ↦
                 let same : k ≡ n = e ∙ count in
@@ -62,7 +62,7 @@ module _ (orders : List Order) (ranks : List ℕ) (volume : ℕ) where
   filled-before lots h zero le = omega arith
   filled-before lots h (suc k) le =
       let rest : lots_before lots k ≡ min volume (rank_quantity_before orders ranks k) = filled-before lots h k (omega arith) in
-      let few = h.few in
+      let few = h.bounded in
       let lot : (lot_at lots k).quantity ≡ min (quantity_at orders (get_or ranks k 0)) (volume - rank_quantity_before orders ranks k) = ap (λ (l : Lot). l.quantity) (h.first k (omega arith)) in
       let a : lots_before lots (k + 1) ≡ lots_before lots k + (lot_at lots k).quantity = sum_by_more (λ (l : Lot). l.quantity) lots k lot_past_end (omega arith) in
       let b : rank_quantity_before orders ranks (k + 1) ≡ rank_quantity_before orders ranks k + quantity_at orders (get_or ranks k 0) = sum_by_more (quantity_at orders) ranks k 0 (omega arith) in

@@ -73,7 +73,7 @@ progress-order lots p q a b le = elim (cases_lt q.lot p.lot) [
 progress-past : (lots : List Lot) → AreLots lots → (p q : Progress) → p.lot < length lots → IsProgress lots q → units_met lots q ≡ lots_before lots (p.lot + 1) → (p.lot < q.lot) × (q.met ≡ 0)
 progress-past lots are p q lt b met =
     let next : Progress = record { lot = p.lot + 1; met = 0 } in
-    let some : p.lot + 1 < length lots → 0 < (lot_at lots (p.lot + 1)).quantity = λ h. (are.each (p.lot + 1) lot_past_end h).some in
+    let some : p.lot + 1 < length lots → 0 < (lot_at lots (p.lot + 1)).quantity = λ h. (are.each (p.lot + 1) lot_past_end h).positive in
     let le : p.lot + 1 ≤ q.lot = progress-order lots next q (record { inside = omega arith; within = some }) b (omega arith) in
     (omega arith, omega (arith, before-rises lots (p.lot + 1) q.lot le b.inside))
 
@@ -88,8 +88,8 @@ same-lot lots are i k hi hk e = elim (cases_order i k) [
 module _ (bids asks : List Lot) where
   pub none-met : AreLots bids → AreLots asks → HaveMet bids asks (record { lot = 0; met = 0 }) (record { lot = 0; met = 0 }) []
   none-met b a = record {
-    bid_progress = record { inside = omega arith; within = λ lt. (b.each 0 lot_past_end lt).some };
-    ask_progress = record { inside = omega arith; within = λ lt. (a.each 0 lot_past_end lt).some };
+    bid_progress = record { inside = omega arith; within = λ lt. (b.each 0 lot_past_end lt).positive };
+    ask_progress = record { inside = omega arith; within = λ lt. (a.each 0 lot_past_end lt).positive };
     same = refl;
     one_fresh = inl refl;
     few = omega arith;
@@ -110,7 +110,7 @@ module _ (bids asks : List Lot) where
         each = All-push (IsEarly bids asks (n + quantity)) pairs p
             (All-weaker (IsEarly bids asks n) (IsEarly bids asks (n + quantity)) (λ q e. let early = e.early in record { pair = e.pair; early = omega arith }) pairs f.each)
             (record {
-              pair = record { bid_lot = i; ask_lot = j; bid_inside = hi; ask_inside = hj; bid_is = refl; ask_is = refl; some = some; most = most; is = omega arith };
+              pair = record { bid_lot = i; ask_lot = j; bid_inside = hi; ask_inside = hj; bid_is = refl; ask_is = refl; positive = some; bounded = most; is = omega arith };
               early = omega arith;
             });
         differ = all_pairs_push UnitPairsDiffer pairs p f.differ (λ k d lt bid_same ask_same.
@@ -146,7 +146,7 @@ module _ (bids asks : List Lot) where
       let few = h.few in
       let bid_in : bid.met < (lot_at bids bid.lot).quantity = h.bid_progress.within hi in
       let ask_in : ask.met < (lot_at asks ask.lot).quantity = h.ask_progress.within hj in
-      let most : (lot_at bids bid.lot).quantity ≤ 10 ^ 12 = (b.each bid.lot lot_past_end hi).most in
+      let most : (lot_at bids bid.lot).quantity ≤ 10 ^ 12 = (b.each bid.lot lot_past_end hi).bounded in
       let bid_end = before-more bids bid.lot hi in
       let ask_end = before-more asks ask.lot hj in
       let from : overlap_from bids asks bid.lot ask.lot ≡ n = elim h.one_fresh [ inl z ↦ omega arith | inr z ↦ omega arith ] in

@@ -53,7 +53,7 @@ module _ (orders : List Order) (list : IsOrderList orders) (side : Side) (ranks 
     lots-apart = record {
       each = are.each;
       apart = λ i j d lt below e.
-          let few = are.few in
+          let few = are.bounded in
           let one : (get_or lots i d).order ≡ get_or ranks i 0 = ap (λ (l : Lot). l.order) (get_or_default lots i d lot_past_end (omega arith)) ∙ order-is i (omega arith) in
           let two : (get_or lots j d).order ≡ get_or ranks j 0 = ap (λ (l : Lot). l.order) (get_or_default lots j d lot_past_end below) ∙ order-is j below in
           ranks-apart orders side ranks ranked' i j 0 lt (omega arith) (sym one ∙ e ∙ two);
@@ -61,14 +61,14 @@ module _ (orders : List Order) (list : IsOrderList orders) (side : Side) (ranks 
 
     rank-within : (k : ℕ) → k < length lots → rank_quantity_before orders ranks k < volume
     rank-within k lt =
-        let some : 0 < (lot_at lots k).quantity = (are.each k lot_past_end lt).some in
+        let some : 0 < (lot_at lots k).quantity = (are.each k lot_past_end lt).positive in
         let is : (lot_at lots k).quantity ≡ min (quantity_at orders (get_or ranks k 0)) (volume - rank_quantity_before orders ranks k) = ap (λ (l : Lot). l.quantity) (are.first k lt) in
         omega arith
 
     -- the units of an order are those after all better ones, as far as the volume goes
     pub lots-follow : lots_total lots ≡ volume → Follow orders side (total_quantity_ahead orders side) (λ i. min volume (total_quantity_ahead orders side i + quantity_at orders i)) lots
     lots-follow whole =
-        let few = are.few in
+        let few = are.bounded in
         record {
           stands = λ k lt. subst (IsUncancelledOn orders side) (sym (order-is k lt)) (ranked'.only k 0 (omega arith));
           starts = λ k lt.

@@ -33,8 +33,8 @@ lot_of orders ranks volume k = record {
 
 -- what the quantity of a lot may be: 1 to 10^12
 pub record IsLot (l : Lot) : Type 0 where
-  pub some : 0 < l.quantity
-  pub most : l.quantity ≤ 10 ^ 12
+  pub positive : 0 < l.quantity
+  pub bounded : l.quantity ≤ 10 ^ 12
 
 -- each lot has a quantity that a lot may have, and no two are of one order
 pub record AreLots (lots : List Lot) : Type 0 where
@@ -44,6 +44,6 @@ pub record AreLots (lots : List Lot) : Type 0 where
 -- the lots are those of the first of these orders
 pub record AreLotsOf (orders : List Order) (ranks : List ℕ) (volume : ℕ)
     (lots : List Lot) : Type 0 where
-  pub few : length lots ≤ length ranks
+  pub bounded : length lots ≤ length ranks
   pub each : All IsLot lots
   pub first : EachIndex lots (λ k. lot_at lots k ≡ lot_of orders ranks volume k)

@@ -10,7 +10,7 @@ pub record AreLotSides (bids asks : List Lot) : Type 0 where
   pub bids_are : AreLots bids
   pub asks_are : AreLots asks
   pub same_volume : lots_total bids ≡ lots_total asks
-  pub few : length bids + length asks < 2 ^ 32
+  pub fits_places : length bids + length asks < 2 ^ 32
 
 -- how many units come before the first that the bid lot at k and the ask lot at l
 -- could have in common
@@ -34,8 +34,8 @@ pub record IsUnitPair (bids asks : List Lot) (p : UnitPair) : Type 0 where
   pub ask_inside : ask_lot < length asks
   pub bid_is : p.bid ≡ (lot_at bids bid_lot).order
   pub ask_is : p.ask ≡ (lot_at asks ask_lot).order
-  pub some : 0 < p.quantity
-  pub most : p.quantity ≤ 10 ^ 12
+  pub positive : 0 < p.quantity
+  pub bounded : p.quantity ≤ 10 ^ 12
   pub is : p.quantity ≡ overlap bids asks bid_lot ask_lot
 
 -- each pair is of two lots that have units in common, and each two such lots are a pair

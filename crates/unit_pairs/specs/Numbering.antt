@@ -25,8 +25,8 @@ unit_pair_price orders AskLimit ask = limit_at orders ask
 -- a pair of an ask of the orders, of a quantity from 1 to 10^12
 pub record IsUnitPairInRange (orders : List Order) (p : UnitPair) : Type 0 where
   pub ask_inside : p.ask < length orders
-  pub some : 0 < p.quantity
-  pub most : p.quantity ≤ 10 ^ 12
+  pub positive : 0 < p.quantity
+  pub bounded : p.quantity ≤ 10 ^ 12
 
 -- the deal of a pair, with a number
 abbrev pub unit_pair_deal : List Order → DealPrice → ℕ → UnitPair → Deal
@@ -51,5 +51,5 @@ pub record AreLotDeals (orders : List Order) (price : DealPrice) (bids asks : Li
   pub pairs : List UnitPair
   pub are : AreUnitPairs bids asks pairs
   pub in_order : AllPairs UnitPairBefore pairs
-  pub few : length pairs ≤ length bids + length asks
+  pub bounded : length pairs ≤ length bids + length asks
   pub numbered : AreUnitPairDeals orders price pairs deals

@@ -64,7 +64,8 @@ fn meet(alloc: Global, bids: &[Lot], asks: &[Lot]) -> Result<Vec<UnitPair>, NoMe
     requires { AreLotSides bids.now asks.now }
     ensures pairs { IfOk result (λ pairs. AreUnitPairs bids.now asks.now pairs.items) }
     ensures differ { IfOk result (λ pairs. AllPairs UnitPairsDiffer pairs.items) }
-    ensures few { IfOk result (λ pairs. length pairs.items ≤ length bids.now + length asks.now) }
+    ensures bounded { IfOk result
+        (λ pairs. length pairs.items ≤ length bids.now + length asks.now) }
 {
     let mut pairs = Vec::with_capacity(alloc, bids.len() + asks.len())?;
     let mut bid_progress = Progress { lot: 0, met: 0 };
@@ -89,7 +90,8 @@ pub fn pairs_in_order(alloc: Global, bids: &[Lot], asks: &[Lot]) -> Result<Vec<U
     requires { AreLotSides bids.now asks.now }
     ensures pairs { IfOk result (λ pairs. AreUnitPairs bids.now asks.now pairs.items) }
     ensures in_order { IfOk result (λ pairs. AllPairs UnitPairBefore pairs.items) }
-    ensures few { IfOk result (λ pairs. length pairs.items ≤ length bids.now + length asks.now) }
+    ensures bounded { IfOk result
+        (λ pairs. length pairs.items ≤ length bids.now + length asks.now) }
 {
     let mut pairs = meet(alloc, bids, asks)?;
     pairs.sort()?;

@@ -1,6 +1,6 @@
 use Rattle.std.proofs.Common.{◌≡◌, refl}
 use Rattle.audit_report.specs.declared.verdicts.Verdict.TheVariants.{Malformed}
-use Rattle.record_verdict.specs.Judgements.{IsRecordVerdict}
+use Rattle.record_verdict.specs.RecordVerdicts.{IsRecordVerdict}
 use Rattle.log_verdict.specs.Steps.{reading_by}
 use Rattle.audit_run.specs.Deciding.{request_to_audit}
 use Rattle.audit_run.proofs.BothLogsLemmas.{both_stop, both_text}

@@ -1,7 +1,7 @@
 use Rattle.std.proofs.Common.{◌≡◌, refl, false}
 use Rattle.record_verdict.specs.declared.before_rule.BeforeRule.TheVariants.{Malformed}
 use Rattle.record_verdict.specs.BeforeRule.{IsBeforeRule}
-use Rattle.record_verdict.specs.Judgements.{question}
+use Rattle.record_verdict.specs.RecordVerdicts.{question}
 use Rattle.record_verdict.specs.Scopes.{scope_of}
 use Rattle.log_verdict.specs.Steps.{reading_by}
 use Rattle.audit_run.proofs.BothLogsLemmas.{both_stop, both_text}

@@ -13,8 +13,8 @@ match_records-requires-clause-endings c = subst (AreEndings c.args.orders.now) (
 pub match_records-requires-clause-matched : goal.match_records-requires-clause-matched
 match_records-requires-clause-matched c = λ deals is. matched-first c.args.orders.now c.requires.order_list c.in_ok-so_far.so_far (subst (λ (n : ℕ). AreTradesAtStart n c.in_ok-so_far.so_far) c.len.ensures c.in_ok-so_far.ensures) deals
 
-pub number_pairs-requires-clause-few : goal.number_pairs-requires-clause-few
-number_pairs-requires-clause-few c =
+pub number_pairs-requires-clause-fits_places : goal.number_pairs-requires-clause-fits_places
+number_pairs-requires-clause-fits_places c =
     let pairs = c.match_records.new.so_far.pairs.items in
     let sorted = c.sort_pairs.new.pairs.items in
     let same = sorted-length c.args.orders.now c.requires.order_list c.requires.regular pairs sorted c.in_ok-sort_pairs.ensures.moved c.in_ok-sort_pairs.ensures.sorted (λ deals is. (c.in_ok-match_records.ensures.matched deals is).pairs) c.in_ok-match_records.ensures.counted.dealt in

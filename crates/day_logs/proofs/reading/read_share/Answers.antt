@@ -2,7 +2,7 @@ use Rattle.std.proofs.Common.{◌≡◌, sym, subst}
 use Rattle.day_orders.specs.DayOrders.{HasOrders}
 use Rattle.day_symbols.specs.Shares.{DayShare}
 use Rattle.log_verdict.specs.Steps.{reading_by}
-use Rattle.day_logs.specs.declared.before_rule.DayBeforeRule.TheVariants as upto
+use Rattle.day_logs.specs.declared.before_rule.DayBeforeRule.TheVariants as before_rule
 use Rattle.day_logs.specs.DayBeforeRule.{IsDayBeforeRule}
 use Rattle.day_logs.proofs.JoinLemmas.{gives-after, keeps-both, later-after, stays-within, unread-within}
 use Rattle.day_logs.proofs.TradeLogLemmas.{orders-unread}
@@ -10,7 +10,7 @@ use Rattle.day_logs.proofs.reading.read_share.Goals as goal
 
 pub after_orders-requires-clause-some : goal.after_orders-requires-clause-some
 after_orders-requires-clause-some g c =
-    let place = c.in-Ok.ensures.few in
+    let place = c.in-Ok.ensures.fits_places in
     (place.entries, subst (λ (share : DayShare). HasOrders share c.end.result place.entries) (sym c.requires.share) (c.end.ensures place.entries place.has))
 
 pub returns-in-Ok-clause-logs : goal.returns-in-Ok-clause-logs
@@ -22,7 +22,7 @@ returns-in-Ok-clause-decides g c =
     let is = c.in-Ok.ensures.read in
     gives-after (reading_by c.args.orders.now g.F.Shelf c.args.shelf.now c.collect_orders.new.shelf) (reading_by c.args.trades.now g.F.Shelf c.collect_orders.new.shelf c.after_orders.new.shelf)
     (record { limit = sym c.requires.limit.same; tells = c.in-Ok.ensures.logs.tells; logs = c.in-Ok.ensures.logs.logs; trades = c.in-Ok.ensures.only.other; orders = c.after_orders.ensures.only.other })
-    (λ entries paired reached. IsDayBeforeRule c.args.share c.args.admission entries paired reached) (λ log bad reached. reached ≡ upto.Malformed log bad)
+    (λ entries paired given. IsDayBeforeRule c.args.share c.args.admission entries paired given) (λ log bad given. given ≡ before_rule.Malformed log bad)
     c.args.orders.now c.args.trades.now is.holds.entries c.after_orders.result
     (record { bytes = is.bytes; read = is.read; holds = is.holds.reads })
     (c.after_orders.ensures.decides is.holds.entries (subst (λ (share : DayShare). HasOrders share c.end.result is.holds.entries) (sym c.requires.share) (c.end.ensures is.holds.entries is.holds.has)))

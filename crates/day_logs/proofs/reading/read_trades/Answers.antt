@@ -9,10 +9,10 @@ returns-in-Ok-Trades-clause-decides g c = λ entries may.
     day-ended (reading_by c.args.trades.now g.F.Shelf c.args.shelf.now c.collect_trades.new.shelf) g.M.AuditedDay.share g.M.AuditedDay.admission c.args.trades.now entries
     (IsDayTrades g.M.AuditedDay.share g.M.AuditedDay.admission g.M.AuditedDay.may_have c.in-Ok-Trades.day) c.end.result read (λ ts has. c.end.ensures entries ts may has)
 
-pub returns-in-Ok-Trades-clause-few : goal.returns-in-Ok-Trades-clause-few
-returns-in-Ok-Trades-clause-few g c =
-    let place = rw c.in-Ok-Trades.field-0-is at c.in-Ok-Trades.ensures.few in
-    record { entries = place.has.entries; trades = place.entries; has = c.end.ensures place.has.entries place.entries place.has.has place.has; few = place.few }
+pub returns-in-Ok-Trades-clause-fits_places : goal.returns-in-Ok-Trades-clause-fits_places
+returns-in-Ok-Trades-clause-fits_places g c =
+    let place = rw c.in-Ok-Trades.field-0-is at c.in-Ok-Trades.ensures.fits_places in
+    record { entries = place.has.entries; trades = place.entries; has = c.end.ensures place.has.entries place.entries place.has.has place.has; fits_places = place.few }
 
 pub returns-in-Ok-Alone-clause-decides : goal.returns-in-Ok-Alone-clause-decides
 returns-in-Ok-Alone-clause-decides g c = λ entries may.

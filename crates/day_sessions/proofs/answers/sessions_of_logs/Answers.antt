@@ -1,10 +1,10 @@
 use Rattle.day_logs.proofs.AnswerLemmas.{reads-answer}
-use Rattle.day_sessions.specs.JudgedSessions.{JudgesDaySessions}
+use Rattle.day_sessions.specs.JudgedSessions.{AreSessionsOfDay}
 use Rattle.log_verdict.specs.Steps.{reading_by}
 use Rattle.record_verdict.specs.declared.scopes.Admission.TheVariants as admission
 use Rattle.day_sessions.proofs.answers.sessions_of_logs.Goals as goal
 
 pub returns-in_ok-sessions_after-in-Ok-clause-decides : goal.returns-in_ok-sessions_after-in-Ok-clause-decides
 returns-in_ok-sessions_after-in-Ok-clause-decides g c =
-    reads-answer (reading_by c.args.orders.now g.F.Shelf c.args.shelf.now c.read_day.new.shelf) c.args.share admission.All (JudgesDaySessions c.args.phases.now c.args.table c.args.share) c.args.orders.now c.args.trades.now c.in-Ok.reached
+    reads-answer (reading_by c.args.orders.now g.F.Shelf c.args.shelf.now c.read_day.new.shelf) c.args.share admission.All (AreSessionsOfDay c.args.phases.now c.args.table c.args.share) c.args.orders.now c.args.trades.now c.in-Ok.given
     c.in_ok-sessions_after-in-Ok.field-0 c.in-Ok.ensures.decides c.in_ok-sessions_after-in-Ok.ensures

@@ -7,8 +7,8 @@ use Rattle.day_trades.specs.declared.symbol_trades.SymbolTrades.{SymbolTrades}
 use Rattle.day_verdicts.proofs.VerdictSteps.{judged-all, judged-next, next-at, next-few, room-for}
 use Rattle.day_verdicts.proofs.day_verdicts.judge_day.Goals as goal
 
-pub judge-requires-clause-few : goal.judge-requires-clause-few
-judge-requires-clause-few c =
+pub judge-requires-clause-fits_places : goal.judge-requires-clause-fits_places
+judge-requires-clause-fits_places c =
     let symbols_trades : c.loop-symbol_trades.yielded ++ c.in-Some.symbol_trades ∷ c.next.new.self.rest.items ≡ c.args.ended.symbols_trades.items =
     ap (λ (xs : List SymbolTrades). c.loop-symbol_trades.yielded ++ xs) (sym c.in-Some.ensures.steps.0) ∙ c.loop-symbol_trades.invariant.0 in
     let got : slice_get (symbols_in c.args.share c.args.ended.symbols) c.loop-symbol_trades.share_index ≡ Some c.in-Some-symbol_at.symbol.now =

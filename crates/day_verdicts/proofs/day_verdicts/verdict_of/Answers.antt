@@ -5,5 +5,5 @@ use Rattle.day_verdicts.proofs.day_verdicts.verdict_of.Goals as goal
 
 pub returns-clause-judged : goal.returns-clause-judged
 returns-clause-judged c = IfOk-weaker c.verdict_after.result _ _
-    (λ v is entries trades known counted. is.of_records entries (Ok trades) (c.end-reached.ensures.gives (admission_of c.args.question.now.rule) entries trades c.args.question.now.symbol known counted))
+    (λ v is entries trades known counted. is.of_records entries (Ok trades) (c.end-given.ensures.gives (admission_of c.args.question.now.rule) entries trades c.args.question.now.symbol known counted))
     c.verdict_after.ensures.verdict

@@ -15,8 +15,8 @@ find_places-requires-clause-inside g c =
     let found = passed-header g.H.Headers.headers c.args.text.now (sym c.in_ok-header.ensures.tests) in
     omega (arith, header-inside g.H.Headers.headers c.args.text.now found, c.in_ok-header.ensures.size)
 
-pub find_places-requires-clause-few : goal.find_places-requires-clause-few
-find_places-requires-clause-few g c =
+pub find_places-requires-clause-bounded : goal.find_places-requires-clause-bounded
+find_places-requires-clause-bounded g c =
     let found = passed-header g.H.Headers.headers c.args.text.now (sym c.in_ok-header.ensures.tests) in
     omega (arith, header-few g.H.Headers.headers c.args.text.now c.are_headers.ensures found, c.in_ok-header.ensures.size)
 

@@ -20,16 +20,16 @@ pub returns-clause-records : goal.returns-clause-records
 returns-clause-records c = made c
 
 pub returns-clause-count : goal.returns-clause-count
-returns-clause-count c = ap length (made c) ∙ count-is c.args.start c.args.count c.requires.count.most
+returns-clause-count c = ap length (made c) ∙ count-is c.args.start c.args.count c.requires.count.bounded
 
 pub returns-clause-symbol : goal.returns-clause-symbol
-returns-clause-symbol c = subst (AreOfSymbol generated_symbol) (sym (made c)) (all-of-symbol c.args.start c.args.count c.requires.count.most)
+returns-clause-symbol c = subst (AreOfSymbol generated_symbol) (sym (made c)) (all-of-symbol c.args.start c.args.count c.requires.count.bounded)
 
 pub returns-clause-well_formed : goal.returns-clause-well_formed
-returns-clause-well_formed c = subst (WellFormed generated_symbol) (sym (made c)) (well_formed c.args.start c.args.count c.requires.count.most)
+returns-clause-well_formed c = subst (WellFormed generated_symbol) (sym (made c)) (well_formed c.args.start c.args.count c.requires.count.bounded)
 
 pub returns-clause-regular : goal.returns-clause-regular
-returns-clause-regular c = subst (λ entries. Regular (order_list generated_symbol entries)) (sym (made c)) (regular c.args.start c.args.count c.requires.count.most)
+returns-clause-regular c = subst (λ entries. Regular (order_list generated_symbol entries)) (sym (made c)) (regular c.args.start c.args.count c.requires.count.bounded)
 
 pub returns-clause-resting : goal.returns-clause-resting
-returns-clause-resting c = subst (λ entries. instant_order_finding (order_list generated_symbol entries) ≡ None) (sym (made c)) (all-rest c.args.start c.args.count c.requires.count.most)
+returns-clause-resting c = subst (λ entries. instant_order_finding (order_list generated_symbol entries) ≡ None) (sym (made c)) (all-rest c.args.start c.args.count c.requires.count.bounded)

@@ -24,13 +24,13 @@ returns-in-Ok-Alone-clause-decides g c = λ entries is.
 
 pub of-requires-clause-counted : goal.of-requires-clause-counted
 of-requires-clause-counted g c = λ none.
-    let place = rw c.in-Ok-Trades.field-0-is at c.in-Ok-Trades.ensures.few in
+    let place = rw c.in-Ok-Trades.field-0-is at c.in-Ok-Trades.ensures.fits_places in
     rw (c.end.ensures.deals place.entries place.has none, c.end.ensures.count place.entries place.has)
     (deals_counted g.M.AuditedHistory.orders g.M.AuditedHistory.symbol place.entries)
 
-pub of-requires-clause-few : goal.of-requires-clause-few
-of-requires-clause-few g c =
-    let place = rw c.in-Ok-Trades.field-0-is at c.in-Ok-Trades.ensures.few in
+pub of-requires-clause-fits_places : goal.of-requires-clause-fits_places
+of-requires-clause-fits_places g c =
+    let place = rw c.in-Ok-Trades.field-0-is at c.in-Ok-Trades.ensures.fits_places in
     rw (c.end.ensures.count place.entries place.has) place.few
 
 pub returns-in-Err-clause-decides : goal.returns-in-Err-clause-decides

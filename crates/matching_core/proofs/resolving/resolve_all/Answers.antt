@@ -12,4 +12,4 @@ returns-in-Some g c =
 pub returns : goal.returns
 returns g c =
     rw (c.requires.orders, c.requires.symbol)
-    (resolved-deals g.M.AuditedHistory.orders g.M.AuditedHistory.symbol c.args.trades.now c.in_ok-kept.field-0.kept.sound (flaw_finding c.in_ok-kept.field-0.kept.flaw) c.requires.few (ap flaw_finding c.in-None.is) c.in_ok-kept.ensures.kept.known)
+    (resolved-deals g.M.AuditedHistory.orders g.M.AuditedHistory.symbol c.args.trades.now c.in_ok-kept.field-0.kept.sound (flaw_finding c.in_ok-kept.field-0.kept.flaw) c.requires.fits_places (ap flaw_finding c.in-None.is) c.in_ok-kept.ensures.kept.known)

@@ -1,4 +1,4 @@
-use Rattle.record_verdict.specs.Judgements.{question}
+use Rattle.record_verdict.specs.RecordVerdicts.{question}
 use Rattle.record_verdict.proofs.JudgeLemmas.{ok-then, judged_once}
 use Rattle.record_verdict.proofs.judging.judge.Goals as goal
 

@@ -16,7 +16,7 @@ returns-in-None-2-clause-reads g c =
     let size : vec_len c.args.self.rest ≡ length c.args.self.rest.items = omega (arith, c.args.self.rest.ok.0) in
     rw (c.len.ensures, size) (ends-none _ _ _ _ _ _ _ _ _ _ _ _ c.in_default.is (c.in_ok-end_line.ensures.rest ∙ c.in_ok-last.ensures.rest) (last-kept g.R.CsvRecord.names g.R.CsvRecord.meaning g.K.Collector.has_taken c.args.self c.take_rest.new.self _ _ _ _ _ _ _ c.in_ok-last.ensures.others (c.deref.ensures.value ∙ c.in_ok-last.ensures.line) (c.in_ok-end_line.ensures.rest ∙ c.in_ok-last.ensures.rest) c.in_ok-end_line.ensures.taken) c.in-None.is c.if-self.false)
 
-pub returns-in-None-clause-few : goal.returns-in-None-clause-few
-returns-in-None-clause-few g c =
+pub returns-in-None-clause-fits_places : goal.returns-in-None-clause-fits_places
+returns-in-None-clause-fits_places g c =
     read-place g.R.CsvRecord.meaning g.R.CsvRecord.names g.K.Collector.has_taken _ c.requires.log c.requires.within
     (ends-good _ _ _ _ _ _ _ _ _ _ _ _ c.in_default.is (c.in_ok-end_line.ensures.rest ∙ c.in_ok-last.ensures.rest) (last-kept g.R.CsvRecord.names g.R.CsvRecord.meaning g.K.Collector.has_taken c.args.self c.take_rest.new.self _ _ _ _ _ _ _ c.in_ok-last.ensures.others (c.deref.ensures.value ∙ c.in_ok-last.ensures.line) (c.in_ok-end_line.ensures.rest ∙ c.in_ok-last.ensures.rest) c.in_ok-end_line.ensures.taken) c.in-None.is c.if-self.true c.requires.log c.requires.stands)

@@ -7,12 +7,12 @@ use Rattle.day_trades.proofs.symbol_trades.SymbolTrades.end.Goals as goal
 pub of-requires-clause-counted : goal.of-requires-clause-counted
 of-requires-clause-counted c = λ none.
     let is : IsSoundSymbol c.requires.admission c.requires.entries c.requires.trades c.requires.symbol c.in-Sound.sound =
-    subst (λ (known : SymbolTrades). IsSymbolTrades c.requires.admission c.requires.entries c.requires.trades c.requires.symbol known) c.in-Sound.is c.requires.is in
+    subst (λ (symbol_trades : SymbolTrades). IsSymbolTrades c.requires.admission c.requires.entries c.requires.trades c.requires.symbol symbol_trades) c.in-Sound.is c.requires.is in
     omega (arith, few-deals c.in-Sound.sound.history c.requires.symbol c.requires.trades, ap length (c.end.ensures.deals none c.requires.symbol c.requires.trades is.deals_are), c.end.ensures.count, c.requires.counted)
 
 pub returns-in-Found-clause-gives : goal.returns-in-Found-clause-gives
 returns-in-Found-clause-gives c = λ admission entries trades symbol is counted.
-    subst (λ (known : SymbolTrades). IsSymbolTrades admission entries trades symbol known) c.in-Found.is is (Ok trades)
+    subst (λ (symbol_trades : SymbolTrades). IsSymbolTrades admission entries trades symbol symbol_trades) c.in-Found.is is (Ok trades)
 
 pub returns-in-Sound-clause-gives : goal.returns-in-Sound-clause-gives
 returns-in-Sound-clause-gives c = λ admission entries trades symbol known counted.

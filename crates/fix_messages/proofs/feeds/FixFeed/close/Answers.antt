@@ -22,8 +22,8 @@ returns-in-Ok-clause-reads g c = λ log stood.
     ends-good g.K.Collector.has_taken g.R.FixRecord.meaning c.args.self c.take_messages.new.self c.in_default.is
     (after-ok c.take_messages.result _ (sym c.is_err.ensures.value ∙ c.if-is_err.false) c.take_messages.ensures) log c.in_default-bad.is (c.in-Ok.ensures.ok.0 refl) stood
 
-pub returns-in-Ok-clause-few : goal.returns-in-Ok-clause-few
-returns-in-Ok-clause-few g c =
+pub returns-in-Ok-clause-fits_places : goal.returns-in-Ok-clause-fits_places
+returns-in-Ok-clause-fits_places g c =
     ends-few g.K.Collector.has_taken g.R.FixRecord.meaning c.args.self c.take_messages.new.self c.in_default.is
     (after-ok c.take_messages.result _ (sym c.is_err.ensures.value ∙ c.if-is_err.false) c.take_messages.ensures) c.requires c.in_default-bad.is
 

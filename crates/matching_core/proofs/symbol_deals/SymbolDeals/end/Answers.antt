@@ -10,7 +10,7 @@ pub returns-clause-deals : goal.returns-clause-deals
 returns-clause-deals c = λ none symbol trades has. ends-deals _ _ trades c.args.self.sound (flaw_finding c.args.self.flaw) (sym c.finding_of.ensures ∙ none) has.known
 
 pub returns-clause-deal_list : goal.returns-clause-deal_list
-returns-clause-deal_list c = λ none. ends-list _ _ c.requires.trades c.args.self.sound (flaw_finding c.args.self.flaw) c.requires.few (sym c.finding_of.ensures ∙ none) c.requires.is.known
+returns-clause-deal_list c = λ none. ends-list _ _ c.requires.trades c.args.self.sound (flaw_finding c.args.self.flaw) c.requires.fits_places (sym c.finding_of.ensures ∙ none) c.requires.is.known
 
 pub returns-clause-numbers : goal.returns-clause-numbers
 returns-clause-numbers c = λ none. (resolved-known _ _ c.args.self.sound (flaw_finding c.args.self.flaw) (sym c.finding_of.ensures ∙ none) c.requires.is.known).numbers

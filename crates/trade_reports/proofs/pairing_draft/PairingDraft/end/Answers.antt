@@ -14,7 +14,7 @@ returns-in-Some-least-clause-pairs g c = λ reports is.
 pub returns-clause-pairs : goal.returns-clause-pairs
 returns-clause-pairs g c = λ reports is. ends-paired g.K.Collector.has_taken c.args.self reports is c.in_default.is c.in-None.ensures.none
 
-pub returns-clause-few : goal.returns-clause-few
-returns-clause-few g c = λ place.
+pub returns-clause-fits_places : goal.returns-clause-fits_places
+returns-clause-fits_places g c = λ place.
     let paired = ends-paired g.K.Collector.has_taken c.args.self place.entries place.has c.in_default.is c.in-None.ensures.none in
     trades-few g.K.Collector.has_taken c.args.self.trades place.entries place.few paired

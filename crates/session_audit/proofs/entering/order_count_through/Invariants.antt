@@ -1,7 +1,7 @@
 use Rattle.std.proofs.Common.{◌≡◌, ◌<◌, ◌≤◌, ◌-◌, ℕ, length, true}
 use Rattle.std.specs.Prelude.{nat_le}
 use Rattle.audit_base.specs.Orders.{place_at}
-use Rattle.session_audit.proofs.entering.order_count_upto.Given as goal
+use Rattle.session_audit.proofs.entering.order_count_through.Given as goal
 
 abbrev pub invariant-loop-count : goal.invariant-loop-count
 invariant-loop-count l = record {

@@ -104,9 +104,9 @@ IsAcceptance q orders deals (verdict.Rejected finding) = ⊥
 IsAcceptance q orders deals (verdict.Malformed log bad) = ⊥
 
 -- the verdict is this finding, or, where there is none, that the log is accepted
-abbrev pub IsVerdictOfFinding : Question → List Order → List Deal → Option Finding
+abbrev pub IsOutcomeByFinding : Question → List Order → List Deal → Option Finding
     → Verdict → Type 0
-IsVerdictOfFinding q orders deals found the_verdict =
+IsOutcomeByFinding q orders deals found the_verdict =
     MatchOption found (IsAcceptance q orders deals the_verdict)
     (λ finding. the_verdict ≡ verdict.Rejected finding)
 
@@ -119,5 +119,5 @@ pub record IsRecordVerdict (q : Question) (entries : List OrderRecord)
   pub one : (other : Option Finding) → IsRecordFinding q.rule q.symbol entries trades other
       → other ≡ found
   pub outcome : let orders = order_list q.symbol entries in
-      IsVerdictOfFinding q orders
+      IsOutcomeByFinding q orders
       (deals_of_symbol orders q.symbol (paired_trades trades)) found the_verdict

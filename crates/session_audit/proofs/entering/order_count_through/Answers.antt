@@ -4,7 +4,7 @@ use Rattle.std.proofs.lemmas.Bool.{cases_Bool, leb-true}
 use Rattle.std.proofs.lemmas.List.Sums.{prefix_len_is}
 use Rattle.audit_base.specs.declared.orders.Order.{Order}
 use Rattle.audit_base.specs.Orders.{place_at, order_past_end}
-use Rattle.session_audit.proofs.entering.order_count_upto.Goals as goal
+use Rattle.session_audit.proofs.entering.order_count_through.Goals as goal
 
 above : (a b : ℕ) → b < a → nat_le a b ≡ false
 above a b lt = elim (cases_Bool (nat_le a b)) [ inl t ↦ (let le = leb-true a b t in absurd (omega arith)) | inr f ↦ f ]

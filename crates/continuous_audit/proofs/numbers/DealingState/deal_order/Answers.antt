@@ -6,7 +6,7 @@ use Rattle.continuous_audit.specs.Flaws.{IsFindingOfFlaw}
 use Rattle.continuous_audit.specs.Records.{AreLeftBefore, conservation_at}
 use Rattle.continuous_audit.specs.Scans.{AreTotalsSmall, number_in}
 use Rattle.continuous_audit.proofs.NumberLemmas.{before-more, chain_ended-more, left-after_deals, numbers-bounded, arrival, running-small, sizes-more, traded-now}
-use Rattle.continuous_audit.proofs.numbers.Numbers.deal_order.Goals as goal
+use Rattle.continuous_audit.proofs.numbers.DealingState.deal_order.Goals as goal
 
 pub arrive_order-arrival-requires-clause-traded : goal.arrive_order-arrival-requires-clause-traded
 arrive_order-arrival-requires-clause-traded c = subst (AreTotalsSmall c.args.market.now.orders.now) (sym c.deref.ensures.value)
