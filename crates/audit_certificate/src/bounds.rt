@@ -64,7 +64,7 @@ fn price_in_text(text: &[u8]) -> u64
     }
 }
 
-/// The price that a line 2 has behind `bound,`; of any other line some price.
+/// The price that a line 2 has after `bound,`; of any other line some price.
 fn named_price(line: &[u8]) -> u64
     ensures same { result ≡ bound.named_price line.now }
     ensures in_range { result ≤ 10 ^ 18 }

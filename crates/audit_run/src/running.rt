@@ -44,10 +44,11 @@ fn run_request<F: Shelf, K: Sink>(
 /// Runs a command: reads the words, then the logs that they name from the shelf, and writes the
 /// text of the answer to them, or one line. The status is answered.
 ///
-/// The words are those of the command line without the program's name. `Usage` comes exactly where
-/// they are not well-formed, `ReadFault` only where a log could not be read, `TooLong` where one
-/// has more than 67,108,864 bytes, `WriteFault` only where the sink's faults rose, and `Memory`
-/// where memory ran out, with nothing written. What the shelf has under its names stays as it was.
+/// The words are those of the command line without the program's name. `Usage` comes only where
+/// they are not well-formed (`WriteFault` where the usage line could not be written), `ReadFault`
+/// only where a log could not be read, `TooLong` where one has more than 67,108,864 bytes,
+/// `WriteFault` only where the sink's faults rose, and `Memory` where memory ran out, with nothing
+/// written. What the shelf has under its names stays as it was.
 ///
 /// The hashes by which names are found begin with the fixed seed: see `run_seeded` for logs whose
 /// names may have been chosen to make this slow.

@@ -27,7 +27,7 @@ fn share_of_part(part: DealPart) -> Share
     }
 }
 
-/// Puts a share behind the others.
+/// Adds a share after the others.
 fn push_share(shares: &mut Vec<Share>, share: Share) -> Result<(), NoMemory>
     ensures { OnOk result (shares.new.items ≡ shares.old.items ++ share ∷ []) }
 {
@@ -36,7 +36,7 @@ fn push_share(shares: &mut Vec<Share>, share: Share) -> Result<(), NoMemory>
 }
 
 /// The share that is made after a part: the one so far, if the part is of its pair, or else the
-/// next one. The one so far is then put behind the finished ones.
+/// next one. The one so far is then added to the finished ones.
 fn merge_part(shares: &mut Vec<Share>, share: Share, part: DealPart) -> Result<Share, NoMemory>
     requires fits { share.quantity + part.quantity < 2 ^ 128 }
     ensures next { IfOk result (λ next. next ≡ next_share share part) }

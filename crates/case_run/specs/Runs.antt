@@ -104,14 +104,15 @@ HasPlayLogs logs (command.File wanted ∷ commands) =
 HasPlayLogs logs (command.List filter ∷ commands) = HasPlayLogs logs commands
 HasPlayLogs logs (command.Show label ∷ commands) = HasPlayLogs logs commands
 
--- No fault of shelf, sink or keeper was counted from one state to another.
+-- No fault of shelf, sink or keeper was counted from one state to another, and no count of faults
+-- is at its greatest value.
 pub record HasNoFault (from to : RunState) : Type 0 where
   pub slots : (log : Which) → ¬ RoseOrIsFull (from.slots log).faults (to.slots log).faults
   pub sink : ¬ RoseOrIsFull from.sink.faults to.sink.faults
   pub keeper : ¬ RoseOrIsFull from.keeper.faults to.keeper.faults
 
 -- All that Play over the commands needs is there: the logs and the cases are known, the shelf has
--- the logs, and no fault was counted.
+-- the logs, no fault was counted, and no count of faults is at its greatest value.
 pub record IsReadyToPlay (known : KnownLogs) (from to : RunState) (commands : List Command)
     (cases : List Case) : Type 0 where
   pub knows : KnowsLogsAndCases known from cases
@@ -119,7 +120,8 @@ pub record IsReadyToPlay (known : KnownLogs) (from to : RunState) (commands : Li
   pub no_fault : HasNoFault from to
 
 -- the headline: where all is there, status, text and cases are Play's, unless memory ran out; for
--- words that are not well-formed the status is 2, unless the sink failed or memory ran out
+-- words that are not well-formed the status is 2, unless the sink failed, its count of faults is at
+-- its greatest value, or memory ran out
 abbrev pub AnswersWhereReady : KnownLogs → RunState → RunState → Option (List Command) → CaseStatus
     → Type 0
 AnswersWhereReady known from to (Some commands) answer =

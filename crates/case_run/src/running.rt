@@ -54,13 +54,15 @@ fn run_commands<F: Shelf, K: Sink, B: Keeper>(
 ///
 /// The words are one or more commands with the word `then` between them: `file LABEL RULE SYMBOL
 /// FORM ORDERS TRADES`, `list`, `list SYMBOL`, `list SYMBOL RESULT`, `show LABEL`. `Usage` comes
-/// exactly where they are not well-formed. `file` audits two logs and files the verdict under the
-/// label, unless that has a case, which is then written (`Refused`). `ReadFault` comes only where a
-/// log that the last command names could not be read, `TooLong` where it has more than 67,108,864
-/// bytes, `KeeperFault` only where the book's faults rose, `WriteFault` only where the sink's did,
-/// and `Memory` where memory ran out. A command's text is made before the book is changed, and
-/// written after: where writing fails, the case stays filed; after `Memory` and `KeeperFault` the
-/// last command has filed none. What commands leave is one (`one_play`).
+/// only where they are not well-formed (`WriteFault` where the usage line could not be written,
+/// `Memory` where memory ran out while the words were read). `file` audits two logs and files the
+/// verdict under the label, unless that has a case, which is then written (`Refused`). `ReadFault`
+/// comes only where a log that the last command names could not be read, `TooLong` where it has
+/// more than 67,108,864 bytes, `KeeperFault` only where the book's faults rose, `WriteFault` only
+/// where the sink's did, and `Memory` where memory ran out. A command's text is made before the
+/// book is changed, and written after: where writing fails, the case stays filed; after `Memory`
+/// and `KeeperFault` the last command has filed none. What the commands answer, and which cases
+/// they leave, is one (`one_play`).
 ///
 /// The hashes by which names are found begin with the fixed seed: see `run_case_seeded` for logs
 /// whose names may have been chosen to make this slow.

@@ -184,7 +184,7 @@ fn show_command(words: &[String]) -> Option<Command>
 
 /// The command that the words ask for: `file LABEL RULE SYMBOL FORM ORDERS TRADES`, `list`, `list
 /// SYMBOL`, `list SYMBOL RESULT`, or `show LABEL`. RESULT is `accepted` or the word of a property.
-/// `Usage` comes exactly where they are not well-formed.
+/// `Usage` comes only where they are not well-formed.
 fn read_command(alloc: Global, words: &[String]) -> Result<Command, WordsFault>
     ensures command { IfOk result
         (λ command. spec.command_of (map string_bytes words.now) ≡ Some command) }

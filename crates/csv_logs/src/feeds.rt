@@ -66,7 +66,7 @@ impl<R: CsvRecord, K: Collector<Entry = R>> CsvFeed<K> {
         }
     }
 
-    // Goes behind a line that is not empty and has been taken, given where it starts, how many
+    // Goes on after a line that is not empty and has been taken, given where it starts, how many
     // bytes it has with its LF, and what its result was.
     fn move_on(&mut self, start: u64, size: usize, outcome: Result<(), Reason>)
         requires place { IfErr outcome (λ why. HasPlace K.has_taken self.old.entries) }
@@ -196,7 +196,7 @@ impl<R: CsvRecord, K: Collector<Entry = R>> CsvFeed<K> {
     }
 
     // Takes a closed line that has ended, without its LF, from a reader that is at it, and closed
-    // lines from the start of the text behind it, as far as there are such, and gives the rest.
+    // lines from the start of the text after it, as far as there are such, and gives the rest.
     fn read_on<'p, I: Read>(
         &mut self,
         reader: &mut Reader<I>,
@@ -221,7 +221,7 @@ impl<R: CsvRecord, K: Collector<Entry = R>> CsvFeed<K> {
     }
 
     // Takes a line that has ended, without its LF, and closed lines from the start of the text
-    // behind it, as far as there are such, and gives the rest. Where the line is closed too, one
+    // after it, as far as there are such, and gives the rest. Where the line is closed too, one
     // reader reads all of them.
     fn take_lines<'p>(&mut self, line: &[u8], text: &'p [u8]) -> Result<&'p [u8], NoMemory>
         requires good { self.old.bad ≡ None }
@@ -244,7 +244,7 @@ impl<R: CsvRecord, K: Collector<Entry = R>> CsvFeed<K> {
     }
 
     // Takes the end of a line whose front is in `rest`, without its LF, and closed lines from the
-    // start of the text behind it, and gives the rest of that.
+    // start of the text after it, and gives the rest of that.
     fn end_rest<'p>(&mut self, end: &[u8], text: &'p [u8]) -> Result<&'p [u8], NoMemory>
         requires good { self.old.bad ≡ None }
         requires room { let line = self.old.rest.items ++ end.now in

@@ -62,7 +62,7 @@ fn read_trades<M: AuditedDay, F: Shelf>(
     }
 }
 
-/// What is known where the order log has been read: the trade log is read behind it.
+/// What is known where the order log has been read: the trade log is read after it.
 fn after_orders<M: AuditedDay, F: Shelf>(
     alloc: Global,
     shelf: &mut F,

@@ -35,7 +35,7 @@ fn entries_of<R: FixRecord>(alloc: Global, bytes: &[u8]) -> Result<Vec<R>, LogFa
 ///
 /// The answer is `Bad` exactly where the log is bad: its place is one more than the number of
 /// records before the first bad message, over all symbols; its offset is that of the message's
-/// first byte, behind CR and LF bytes; its reason is the first test that the message fails: the
+/// first byte, after CR and LF bytes; its reason is the first test that the message fails: the
 /// tests of its frame, of its fields, and of the table of its type. Each log is good with one
 /// list or bad at one place, and never both. A market order has the market price of its side. The
 /// answer is `Memory` where there was too little. Each record has at least nine bytes of the log,

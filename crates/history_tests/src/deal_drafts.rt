@@ -77,7 +77,7 @@ const ROWS: [Row; 5] = [
     ),
     // Of another symbol nothing is asked.
     (&["T1 A b9 B s1 Y", "T1 A b9 B s1 Y"], &[], None),
-    // The first finding stays, whatever comes behind it.
+    // The first finding stays, whatever comes after it.
     (
         &["T1 A b1 B s1 Z", "T1 A b1 B s1 Z", "T2 A b9 B s1 Z"],
         &[],

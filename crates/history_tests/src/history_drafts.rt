@@ -74,7 +74,7 @@ const DRAFTED: [Row; 5] = [
     ),
     // Of another symbol nothing is asked.
     (&["N A b1 - 5 Y B", "N A b1 - 4 Y B"], &[], None),
-    // The first finding stays, whatever comes behind it.
+    // The first finding stays, whatever comes after it.
     (
         &["N A b1 - 5 Z B", "N A b2 - 4 Z B", "N A b1 - 3 Z B"],
         &[],

@@ -14,8 +14,8 @@ use fix_messages::pairing::{Paired, TradeList, pair_reports};
 use std::alloc::Global;
 
 /// The records of an order log of at most 67,108,864 bytes, in order. `Bad` comes exactly where the
-/// log is bad, with its first bad place. There are as few records as `judge` asks for, also of a
-/// trade log.
+/// log is bad, with its first bad place. There are fewer records than 2^32 - 1, as `judge` asks
+/// for, also of a trade log.
 pub fn decode_orders(alloc: Global, form: Form, bytes: &[u8]) -> Result<Vec<OrderRecord>, LogFault>
     requires within { length bytes.now ≤ longest_log }
     ensures says { MatchResult result

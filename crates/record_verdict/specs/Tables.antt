@@ -48,7 +48,7 @@ pub record IsShareOf (orders : List Order) (s : Share) : Type 0 where
   pub bid_inside : s.bid < length orders
   pub ask_inside : s.ask < length orders
 
--- the verdict that deals are accepted, with what they reached
+-- the verdict that deals are accepted, with the volume and the bound
 abbrev pub accepted_verdict : Question → List Order → List Deal → Reached → Verdict
 accepted_verdict q orders deals conforming = verdict.Accepted (record {
   rule = q.rule;

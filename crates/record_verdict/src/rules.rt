@@ -132,7 +132,7 @@ fn audit(
     }
 }
 
-/// The verdict that the deals conform, with what they reached.
+/// The verdict that the deals conform, with what each order trades, the volume and the bound.
 fn accept(
     alloc: Global,
     question: &Question,
