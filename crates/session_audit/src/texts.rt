@@ -45,7 +45,7 @@ fn append_rest(alloc: Global, phases: &[Phase], out: &mut Vec<u8>) -> Result<(),
 }
 
 /// Appends the phases, joined by commas.
-fn append_phases(alloc: Global, phases: &[Phase], out: &mut Vec<u8>) -> Result<(), NoMemory>
+pub fn append_phases(alloc: Global, phases: &[Phase], out: &mut Vec<u8>) -> Result<(), NoMemory>
     ensures { OnOk result (out.new.items ≡ out.old.items ++ text.phases_text phases.now) }
 {
     if phases.is_empty() {
