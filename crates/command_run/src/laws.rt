@@ -14,9 +14,11 @@ use audit_report::statuses::Status;
 
 /// Where the shelf holds all the logs that a command needs, each within the limit, and nothing
 /// fails, whatever was answered with its cause is the command's answer to these logs, written
-/// whole, or memory ran out.
+/// whole, or memory ran out. And where it is known what the shelf has, the answer to the logs that
+/// were read is that to the logs that it holds.
 pub fn held_logs_are_answered<P: Program>()
-    ensures { (request : P.Request) → HeldLogsAreAnswered (P.command request) }
+    ensures written { (request : P.Request) → HeldLogsAreAnswered (P.command request) }
+    ensures read { (request : P.Request) → HeldLogsAreRead (P.command request) }
 {}
 
 /// Where a command has one answer to the same logs, two calls that wrote an answer to them answered
