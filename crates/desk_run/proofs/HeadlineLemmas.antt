@@ -34,7 +34,7 @@ use Rattle.log_verdict.specs.LogVerdicts.{Log, log_in, records_of_order_log, tra
 use Rattle.log_verdict.specs.Steps.{Reading}
 use Rattle.session_audit.specs.declared.phases.Phase.{Phase}
 use Rattle.session_audit.specs.Texts.{phases_text}
-use Rattle.desk_run.specs.Requests.{day_question, desk_command_of, IsAnswerTo, IsDayAnswer, next_log, share_or_whole}
+use Rattle.desk_run.specs.Requests.{day_question, desk_command_of, IsDeskAnswer, IsDayAnswer, next_desk_log, share_or_whole}
 use Rattle.desk_run.specs.TopCall.{AnswersDay, AnswersDayOfPhases, AnswersDayOfRule, logs_named, WroteDay, WroteSessions, WroteSymbols, WroteVerdict, WroteVerdicts}
 
 -- counts and lines that are these, by what is written of them

@@ -34,13 +34,13 @@ day_question rule table share =
 -- the log that a command starts after those that it has read, whose bytes these are: its slot and
 -- its name; nothing where it needs no more. `audit` and `session` start both logs, `help` and
 -- `--version` none
-abbrev pub next_log : DeskRequest → List (List ℕ) → Option (Which × List ℕ)
-next_log (Audit rule logs table share) bytes =
+abbrev pub next_desk_log : DeskRequest → List (List ℕ) → Option (Which × List ℕ)
+next_desk_log (Audit rule logs table share) bytes =
     next_of_both_logs logs.orders logs.trades logs.orders_form bytes
-next_log (Session phases logs table share) bytes =
+next_desk_log (Session phases logs table share) bytes =
     next_of_both_logs logs.orders logs.trades logs.orders_form bytes
-next_log (Help about) bytes = None
-next_log Version bytes = None
+next_desk_log (Help about) bytes = None
+next_desk_log Version bytes = None
 
 -- The answer is that to a day of two logs: its text, with what the symbols were judged by in its
 -- first line, and its status.
@@ -53,19 +53,19 @@ pub record IsDayAnswer (meaning : DayMeaning) (judged_by : List ℕ) (orders tra
 -- what a command answers to the logs that it has read, its status and its text: to `audit` and
 -- `session` that of the day, of the symbols of the share that is asked for; to `help` and
 -- `--version` a text of their own
-abbrev pub IsAnswerTo : DeskRequest → List (List ℕ) → Status → List ℕ → Type 0
-IsAnswerTo (Audit rule logs table share) bytes status text =
+abbrev pub IsDeskAnswer : DeskRequest → List (List ℕ) → Status → List ℕ → Type 0
+IsDeskAnswer (Audit rule logs table share) bytes status text =
     IsDayAnswer (AreVerdictsOfDay (day_question rule table share)) (rule_word rule)
     (log_in logs.orders_form (log_read_at bytes 0))
     (log_in logs.trades_form (log_read_at bytes 1)) status text
-IsAnswerTo (Session phases logs table share) bytes status text =
+IsDeskAnswer (Session phases logs table share) bytes status text =
     IsDayAnswer (AreSessionsOfDay phases table (share_or_whole share)) (phases_text phases)
     (log_in logs.orders_form (log_read_at bytes 0))
     (log_in logs.trades_form (log_read_at bytes 1)) status text
-IsAnswerTo (Help about) bytes status text = IsAnswerWith Accepted (help_text about) status text
-IsAnswerTo Version bytes status text = IsAnswerWith Accepted version_text status text
+IsDeskAnswer (Help about) bytes status text = IsAnswerWith Accepted (help_text about) status text
+IsDeskAnswer Version bytes status text = IsAnswerWith Accepted version_text status text
 
 -- the command that a request asks for
 abbrev pub desk_command_of : DeskRequest → Command
 desk_command_of request =
-    record { next = next_log request; is_answer = IsAnswerTo request }
+    record { next = next_desk_log request; is_answer = IsDeskAnswer request }
