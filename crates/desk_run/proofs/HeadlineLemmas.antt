@@ -1,40 +1,34 @@
 -- What a day is answered by, on the logs that the shelf holds, is what the headline says was written.
-use Rattle.std.proofs.Common.{◌≡◌, ◌⊎◌, ◌∙◌, ap, sym, subst, refl, inl, inr, ⊎_elim, ℕ, List, [], ◌∷◌, ◌++◌, Option, None, Some, Result, Ok, Err}
-use Rattle.std.specs.Prelude.{Bool, MatchResult, nat_lt, if◌then◌else◌}
+use Rattle.std.proofs.Common.{◌≡◌, ◌⊎◌, ◌∙◌, subst, refl, inl, inr, ⊎_elim, ℕ, List, [], ◌∷◌, Option, Result, Ok, Err}
+use Rattle.std.specs.Prelude.{MatchResult}
 use Rattle.std.specs.Io.KnownBytes.{Appends}
 use Rattle.audit_base.specs.declared.faults.BadPlace.{BadPlace}
 use Rattle.audit_base.specs.declared.findings.Finding.{Finding}
 use Rattle.audit_base.specs.declared.records.OrderRecord.{OrderRecord}
 use Rattle.audit_base.specs.declared.records.TradeRecord.{TradeRecord}
-use Rattle.audit_base.specs.declared.terms.Rule.{Rule}
 use Rattle.audit_base.specs.declared.terms.Which.TheVariants.{Orders, Trades}
 use Rattle.audit_base.specs.Words.{rule_word}
 use Rattle.audit_report.specs.declared.statuses.Status.{Status}
-use Rattle.audit_report.specs.declared.statuses.Status.TheVariants.{Accepted, Rejected}
 use Rattle.audit_report.specs.declared.verdicts.Verdict.TheVariants as verdict
 use Rattle.command_run.specs.Commands.{Command, log_read_at, next_of_both_logs}
 use Rattle.command_run.specs.Runs.{AllIsThere, AnswersHeldLogs, HoldsLog, HoldsNeededLogs, HoldsNext, NothingFails, RunsOutOfMemory, WritesAnswer, WritesWhole}
 use Rattle.day_logs.specs.declared.answers.DayAnswer.{DayAnswer}
 use Rattle.day_logs.specs.declared.answers.DayAnswer.TheVariants as answer
-use Rattle.day_logs.specs.declared.answers.DayQuestion.{DayQuestion}
 use Rattle.day_logs.specs.DayAnswers.{AreVerdictsOfDay, DayMeaning, IsAnswerToRecords}
 use Rattle.day_logs.specs.DayAnswerTexts.{day_answer_status, day_answer_text}
 use Rattle.day_report.specs.declared.day_line.DayCounts.{DayCounts}
-use Rattle.day_report.specs.DayTexts.{day_line}
 use Rattle.day_sessions.specs.JudgedSessions.{AreSessionsOfDay, session_counts, session_lines}
-use Rattle.day_symbols.specs.Shares.{DayShare, symbols_in}
+use Rattle.day_symbols.specs.Shares.{symbols_in}
 use Rattle.day_symbols.specs.Symbols.{symbols_of_day}
 use Rattle.day_verdicts.specs.declared.day_verdicts.JudgedSymbols.{JudgedSymbols}
 use Rattle.day_verdicts.specs.DayVerdicts.{counts_of, day_lines_of}
-use Rattle.desk_words.specs.declared.requests.DayLogs.{DayLogs}
 use Rattle.desk_words.specs.declared.requests.DeskRequest.{DeskRequest}
 use Rattle.desk_words.specs.declared.requests.DeskRequest.TheVariants.{Audit, Session}
 use Rattle.log_source.specs.Sinks.{SinkState}
 use Rattle.log_verdict.specs.LogVerdicts.{Log, log_in, records_of_order_log, trades_of_trade_log}
 use Rattle.log_verdict.specs.Steps.{Reading}
-use Rattle.session_audit.specs.declared.phases.Phase.{Phase}
 use Rattle.session_audit.specs.Texts.{phases_text}
-use Rattle.desk_run.specs.Requests.{day_question, desk_command_of, IsDeskAnswer, IsDayAnswer, next_desk_log, share_or_whole}
+use Rattle.desk_run.specs.Requests.{day_question, desk_command_of, IsDayAnswer, share_or_whole}
 use Rattle.desk_run.specs.TopCall.{AnswersDay, AnswersDayOfPhases, AnswersDayOfRule, logs_named, WroteDay, WroteSessions, WroteSymbols, WroteVerdict, WroteVerdicts}
 
 -- counts and lines that are these, by what is written of them

@@ -14,7 +14,6 @@ use Rattle.day_logs.specs.DayAnswers.{DayMeaning, IsAnswerToLogs, AreVerdictsOfD
 use Rattle.day_logs.specs.DayAnswerTexts.{day_answer_status, day_answer_text}
 use Rattle.day_sessions.specs.JudgedSessions.{AreSessionsOfDay}
 use Rattle.day_symbols.specs.Shares.{DayShare, whole_day}
-use Rattle.desk_words.specs.declared.requests.DayLogs.{DayLogs}
 use Rattle.desk_words.specs.declared.requests.DeskRequest.{DeskRequest}
 use Rattle.desk_words.specs.declared.requests.DeskRequest.TheVariants.{Audit, Session, Help, Version}
 use Rattle.desk_words.specs.Texts.{help_text, version_text}
