@@ -1,0 +1,10 @@
+-- Part 1. What a reader must believe: the public contracts and laws cite these.
+-- what is read of a framed day, what its feed stands for, and what it answers
+pub mod Framed
+pub mod Answers
+pub mod Feeds
+-- what holds of every day
+pub mod Laws
+-- Part 2. What the private functions pass on to one another.
+pub mod Messages
+pub mod Starts

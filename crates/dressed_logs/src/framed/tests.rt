@@ -1,0 +1,148 @@
+ghost use Rattle.std.specs.Prelude.{◌≤◌, length};
+
+use super::*;
+use crate::faults::BadMessage;
+use crate::joined::Joined;
+use audit_base::terms::Which;
+use fix_framing::frames::FrameFault;
+use log_source::limits::LONGEST_READ;
+use log_source::memory_shelf::MemoryShelf;
+use log_source::pump::pump;
+use std::process::Abort;
+
+/// A day, and the bodies that are read of it, each with `;` behind it.
+const GOOD: [(&[u8], &[u8]); 6] = [
+    (b"", b""),
+    (b"\xEF\xBB\xBF", b""),
+    (b"\r\n\n", b""),
+    (b"8=FIX.4.4\x019=5\x0135=0\x0110=163\x01", b"35=0\x01;"),
+    (
+        b"\xEF\xBB\xBF8=FIX.4.4\x019=5\x0135=0\x0110=163\x01",
+        b"35=0\x01;",
+    ),
+    (
+        b"\xEF\xBB\xBF\r\n8=FIX.4.2\x019=5\x0135=0\x0110=161\x01\r\n8=FIXT.1.1\x019=14\x0135=1\x01112=TEST\x0110=052\x018=FIX.4.0\x019=5\x0135=0\x0110=159\x01\n",
+        b"35=0\x01;35=1\x01112=TEST\x01;35=0\x01;",
+    ),
+];
+
+/// A day, and its first bad message: its place, its offset and its fault.
+const BAD: [(&[u8], u32, u64, FrameFault); 11] = [
+    // A mark in the middle, a second one, and one that isn't all there.
+    (
+        b"8=FIX.4.2\x019=5\x0135=0\x0110=161\x01\xEF\xBB\xBF8=FIX.4.4\x019=5\x0135=0\x0110=163\x01",
+        2,
+        26,
+        FrameFault::Begin,
+    ),
+    (
+        b"\xEF\xBB\xBF\xEF\xBB\xBF8=FIX.4.4\x019=5\x0135=0\x0110=163\x01",
+        1,
+        3,
+        FrameFault::Begin,
+    ),
+    (b"\xEF\xBB", 1, 0, FrameFault::Begin),
+    (
+        b"\xEF\xBB8=FIX.4.4\x019=5\x0135=0\x0110=163\x01",
+        1,
+        0,
+        FrameFault::Begin,
+    ),
+    (
+        b"\n\xEF\xBB\xBF8=FIX.4.4\x019=5\x0135=0\x0110=163\x01",
+        1,
+        1,
+        FrameFault::Begin,
+    ),
+    // Behind a mark, offsets count its bytes.
+    (
+        b"\xEF\xBB\xBF8=FIX.4.4\x019=5\x0135=0\x0110=163\x01\n8=FIX.4.5\x019=5",
+        2,
+        30,
+        FrameFault::Begin,
+    ),
+    (
+        b"\xEF\xBB\xBF8=FIX.4.4\x019=5\x0135=0\x0110=163\x01\r\n8=FIX.4.2\x019=5\x0135=0\x0110=161",
+        2,
+        31,
+        FrameFault::Truncated,
+    ),
+    (b"8=", 1, 0, FrameFault::Truncated),
+    (b"\r8=FIX.4.1\x019=x", 1, 1, FrameFault::Length),
+    (
+        b"8=FIX.4.4\x019=4\x0135=0\x0110=163\x01",
+        1,
+        0,
+        FrameFault::Trailer,
+    ),
+    (
+        b"8=FIX.4.4\x019=5\x0135=0\x0110=163\x018=FIXT.1.1\x019=5\x0135=0\x0110=240\x01\x01",
+        2,
+        26,
+        FrameFault::Checksum,
+    ),
+];
+
+/// The bodies of the day, read in pieces of this size.
+fn read_in_pieces(alloc: Global, day: &[u8], piece: usize) -> Result<Vec<u8>, DayFault>
+    requires { 1 ≤ piece }
+{
+    let mut shelf = MemoryShelf::new(alloc, piece, Vec::new(alloc));
+    let Ok(bytes) = Vec::from_slice(alloc, day) else {
+        return Err(DayFault::Memory);
+    };
+    shelf.put(String::new(alloc), bytes)?;
+    let mut feed = FramedFeed::over(alloc, Joined::new(alloc));
+    if pump(&mut shelf, Which::Orders, "", LONGEST_READ, &mut feed).is_err() {
+        return Err(DayFault::Memory);
+    }
+    let bodies = feed.close()?;
+    Ok(bodies.text)
+}
+
+/// The bodies of the day, read in two pieces.
+fn read_cut(alloc: Global, day: &[u8], cut: usize) -> Result<Vec<u8>, DayFault>
+    requires within { cut ≤ length day.now }
+    requires short { length day.now ≤ 1000 }
+{
+    let mut feed = FramedFeed::over(alloc, Joined::new(alloc));
+    feed.feed(&day[..cut])?;
+    feed.feed(&day[cut..])?;
+    let bodies = feed.close()?;
+    Ok(bodies.text)
+}
+
+#[test]
+fn good_days_are_read_in_pieces_of_every_size(rt: HostRuntime) {
+    for &(day, want) in &GOOD {
+        for piece in 1..65 {
+            let read = read_in_pieces(rt.alloc(), day, piece);
+            assert!(rt; matches!(&read, Ok(text) if text.as_slice() == want));
+        }
+    }
+}
+
+#[test]
+fn bad_days_are_refused_in_pieces_of_every_size(rt: HostRuntime) {
+    for &(day, place, offset, fault) in &BAD {
+        let bad = BadMessage {
+            place,
+            offset,
+            fault,
+        };
+        for piece in 1..65 {
+            let read = read_in_pieces(rt.alloc(), day, piece);
+            assert!(rt; matches!(&read, Err(fault) if *fault == DayFault::Bad(bad)));
+        }
+    }
+}
+
+#[test]
+fn a_day_is_read_wherever_it_is_cut(rt: HostRuntime) {
+    let (day, want) = GOOD[5];
+    assert!(rt; day.len() <= 1000);
+    for cut in 0..=day.len() {
+        let read = read_cut(rt.alloc(), day, cut);
+        assert!(rt; matches!(&read, Ok(text) if text.as_slice() == want));
+    }
+}

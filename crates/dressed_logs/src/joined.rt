@@ -1,0 +1,30 @@
+//! The taker of the tests, and their messages.
+use crate::bodies::Bodies;
+use audit_base::faults::NoMemory;
+use std::alloc::Global;
+
+/// The bodies, each with `;` behind it.
+#[derive(Drop)]
+pub struct Joined {
+    pub text: Vec<u8>,
+}
+
+impl Joined {
+    pub fn new(alloc: Global) -> Self {
+        Joined {
+            text: Vec::new(alloc),
+        }
+    }
+}
+
+impl Bodies for Joined {
+    ghost use Rattle.std.specs.Prelude.{⊤};
+
+    ghost has_taken = { λ _ _. ⊤ };
+
+    fn take(&mut self, body: &[u8]) -> Result<(), NoMemory> {
+        self.text.extend_from_slice(body)?;
+        self.text.push(b';')?;
+        Ok(())
+    }
+}

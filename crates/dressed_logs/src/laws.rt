@@ -1,0 +1,20 @@
+//! Laws of days, apart from the code. Nothing is computed here: a law is a function's contract, so
+//! that the check proves it.
+ghost use Rattle.dressed_logs.specs.Laws.{FixLogsAreDays, FramedDaysAreReadOnce, WrittenDaysAreRead};
+
+/// Each day that is read as framed, however long, has one reading: a list of bodies, or a first bad
+/// message, and never both.
+pub fn days_have_one_reading()
+    ensures framed { FramedDaysAreReadOnce }
+{}
+
+/// A FIX log whose messages are all of FIX 4.4 is read, as framed, as the bodies of its messages.
+pub fn fix_logs_are_days()
+    ensures { FixLogsAreDays }
+{}
+
+/// Messages that are written with any bodies of at most 1,048,576 bytes, one on a line, are read
+/// back as these bodies.
+pub fn written_days_are_read_again()
+    ensures framed { WrittenDaysAreRead }
+{}

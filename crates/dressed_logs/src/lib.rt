@@ -1,0 +1,15 @@
+//! The messages of a day in a dress that FIX logs often have: FIX 4.0 to 4.4 and FIXT 1.1, message
+//! by message, from pieces to bodies.
+//!
+//! `framed` reads messages one after another, as in a FIX log, behind a byte order mark. It hands
+//! each body to a taker (`bodies`), and says at the end that this was all, or which message is the
+//! first bad one (`faults`). `laws` has what holds of every day.
+#![tactic(auto)]
+
+pub mod bodies;
+pub mod faults;
+pub mod framed;
+#[cfg(test)]
+mod joined;
+pub mod laws;
+mod messages;
