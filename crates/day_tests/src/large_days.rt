@@ -1,4 +1,6 @@
 //! Days of many symbols, and of one symbol with many records.
+ghost use Rattle.std.specs.Prelude.{◌<◌};
+
 use crate::day_texts::{ORDERS, TRADES, check_text, day_shelf, log_of, share_of, share_text};
 use day_symbols::shares::Share;
 use log_source::memory_shelf::MemoryShelf;
@@ -62,41 +64,33 @@ fn check_day(alloc: Global, text: &[u8]) -> Result<(), Fail> {
     check_text("what is behind them", line_at(&lines, 20_001), b"")
 }
 
-/// Fails where a text does not begin with this line, or has another number of lines.
-fn check_size(alloc: Global, text: &[u8], first: &str, count: usize) -> Result<(), Fail> {
-    let lines = lines_of(alloc, text)?;
-    if lines.len() != count {
-        return Err(Fail::new("a share with another number of lines"));
-    }
+/// Fails where the text of a share of three does not begin with this line, does not have this many
+/// symbols, or has a line that is not that of its symbol in the day. The first symbol of the share
+/// is at the index `from` of the day.
+fn check_third(
+    alloc: Global,
+    day: &[u8],
+    share: &[u8],
+    from: usize,
+    first: &str,
+    symbols: usize,
+) -> Result<(), Fail>
+    requires from { from < 3 }
+    requires symbols { symbols < 4000 }
+{
+    let day = lines_of(alloc, day)?;
+    let share = lines_of(alloc, share)?;
     check_text(
         "the first line of a share",
-        line_at(&lines, 0),
+        line_at(&share, 0),
         first.as_bytes(),
-    )
-}
-
-/// The text of a share of three, which has to begin with this line and to have this many.
-fn share_of_three(
-    alloc: Global,
-    shelf: &mut MemoryShelf,
-    number: u32,
-    first: &str,
-    count: usize,
-) -> Result<Vec<u8>, Fail> {
-    let text = share_text(alloc, shelf, share_of(number, 3)?)?;
-    check_size(alloc, &text, first, count)?;
-    Ok(text)
-}
-
-/// Fails where a line of the day is not that of its symbol in one of three shares, which the
-/// symbols are in by turns.
-fn check_merged(day: &[&[u8]], shares: &[&[&[u8]]; 3]) -> Result<(), Fail> {
-    for index in 0..20_000usize {
-        let symbol = index / 2;
-        let in_share = line_at(shares[symbol % 3], 1 + symbol / 3 * 2 + index % 2);
-        check_text("a line of a share", in_share, line_at(day, 1 + index))?;
+    )?;
+    for index in 0..2 * symbols {
+        let symbol = index / 2 * 3 + from;
+        let in_day = line_at(&day, 1 + 2 * symbol + index % 2);
+        check_text("a line of a share", line_at(&share, 1 + index), in_day)?;
     }
-    Ok(())
+    check_text("what is behind them", line_at(&share, 1 + 2 * symbols), b"")
 }
 
 #[test]
@@ -112,17 +106,12 @@ fn three_shares_of_ten_thousand_symbols(rt: HostRuntime) -> Result<(), Fail> {
     let alloc = rt.alloc();
     let mut shelf = day_shelf(alloc, &many_orders(alloc)?, &many_trades(alloc)?)?;
     let day = share_text(alloc, &mut shelf, Share::whole())?;
-    let first = share_of_three(alloc, &mut shelf, 1, "day,3334,3300,34,matching\n", 6_669)?;
-    let second = share_of_three(alloc, &mut shelf, 2, "day,3333,3300,33,matching\n", 6_667)?;
-    let third = share_of_three(alloc, &mut shelf, 3, "day,3333,3300,33,matching\n", 6_667)?;
-    let first = lines_of(alloc, &first)?;
-    let second = lines_of(alloc, &second)?;
-    let third = lines_of(alloc, &third)?;
-    let day = lines_of(alloc, &day)?;
-    check_merged(
-        &day,
-        &[first.as_slice(), second.as_slice(), third.as_slice()],
-    )
+    let share = share_text(alloc, &mut shelf, share_of(1, 3)?)?;
+    check_third(alloc, &day, &share, 0, "day,3334,3300,34,matching\n", 3_334)?;
+    let share = share_text(alloc, &mut shelf, share_of(2, 3)?)?;
+    check_third(alloc, &day, &share, 1, "day,3333,3300,33,matching\n", 3_333)?;
+    let share = share_text(alloc, &mut shelf, share_of(3, 3)?)?;
+    check_third(alloc, &day, &share, 2, "day,3333,3300,33,matching\n", 3_333)
 }
 
 /// An order log of 500 bids and 500 asks of Z, and of these records behind them.
