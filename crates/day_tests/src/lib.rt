@@ -3,8 +3,20 @@
 #![tactic(auto)]
 
 #[cfg(test)]
+mod day_texts;
+#[cfg(test)]
 mod days;
 #[cfg(test)]
+mod each_symbol;
+#[cfg(test)]
+mod large_days;
+#[cfg(test)]
+mod one_fix_log;
+#[cfg(test)]
 mod sessions;
+#[cfg(test)]
+mod symbol_names;
+#[cfg(test)]
+mod symbol_order;
 #[cfg(test)]
 mod two_logs;
