@@ -79,7 +79,8 @@ fn tell<F: Shelf>(rt: &HostRuntime, status: Status, shelf: &NotedShelf<F>, last:
 /// Runs the command over files and standard output.
 fn answer(rt: HostRuntime) -> Status
     ensures { let shelf = ⟦<NotedShelf<FileShelf<HostRuntime>> as Shelf>⟧ in
-        AnswersUnknownWords (DeskAnswersWords shelf) status.Memory (BeginsOverUnknown shelf) result }
+        AnswersUnknownWords (DeskAnswersWords shelf) status.Memory
+        (BeginsOverUnknown shelf) result }
 {
     let Ok(files) = rt.clone() else {
         return Status::Memory;

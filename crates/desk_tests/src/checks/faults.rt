@@ -26,12 +26,17 @@ pub(crate) struct ShelfRow {
     pub(crate) calls: u32,
 }
 
+/// What a row answers over a shelf whose call of this number fails.
+fn answer_in_calls(alloc: Global, row: &Row, fails: u32) -> Result<Answer, NoMemory> {
+    let failing = Vec::from_slice(alloc, &[fails])?;
+    let mut shelf = memory_shelf(alloc, row, PIECE, failing)?;
+    answer_of(alloc, row.words, &mut shelf)
+}
+
 /// Checks a row whose call of this number fails: the log at which it fails is named, and a call
 /// that is not made changes nothing.
 fn check_call(alloc: Global, row: &ShelfRow, fails: u32) -> Result<(), RowFault> {
-    let failing = Vec::from_slice(alloc, &[fails])?;
-    let mut shelf = memory_shelf(alloc, &row.row, PIECE, failing)?;
-    let answered = answer_of(alloc, row.row.words, &mut shelf)?;
+    let answered = answer_in_calls(alloc, &row.row, fails)?;
     let number = fails as usize;
     if fails <= row.order_calls {
         return answered.check(alloc, row.row.name, number, 4, b"readfault,orders\n");
