@@ -105,7 +105,15 @@ pub fn judge_sessions(
         let Some(symbol) = share.symbol_at(&symbols, place) else {
             unreachable!();
         };
-        judge_symbol(alloc, &mut judged, symbol, phases, table, symbol_trades, count)?;
+        judge_symbol(
+            alloc,
+            &mut judged,
+            symbol,
+            phases,
+            table,
+            symbol_trades,
+            count,
+        )?;
         place += 1;
     }
     Ok(judged)
