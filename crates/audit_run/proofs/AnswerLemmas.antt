@@ -12,7 +12,7 @@ use Rattle.audit_base.specs.declared.terms.Which.{Which}
 use Rattle.audit_base.specs.declared.terms.Which.TheVariants.{Orders, Trades}
 use Rattle.audit_base.specs.Histories.{history_finding, order_list, WellFormed}
 use Rattle.audit_base.specs.Trades.{deals_of_symbol}
-use Rattle.record_verdict.specs.Scopes.{call_scope, day_scope, finding_before_rule_in_scope}
+use Rattle.record_verdict.specs.Scopes.{call_scope, session_scope, finding_before_rule_in_scope}
 use Rattle.audit_base.specs.Verdicts.{instant_finding_of_rule, paired_trades}
 use Rattle.audit_report.specs.declared.statuses.Status.{Status}
 use Rattle.audit_report.specs.declared.statuses.Status.TheVariants as status
@@ -104,7 +104,7 @@ session-status symbol phases table orders trades s text is = of_said (records_of
         (λ bad. IsVerdictAnswer (verdict.Malformed Orders bad) s text) → IsStatusOfLogs s
     of_said (Ok entries) (Ok paired) is =
         days-status symbol phases table (order_list symbol entries) (deals_of_symbol (order_list symbol entries) symbol (paired_trades paired)) (length (paired_trades paired))
-        (finding_before_rule_in_scope (day_scope symbol) entries paired) s text is
+        (finding_before_rule_in_scope (session_scope symbol) entries paired) s text is
     of_said (Ok entries) (Err bad) is = verdict-status (verdict.Malformed Trades bad) s text is
     of_said (Err bad) second is = verdict-status (verdict.Malformed Orders bad) s text is
 

@@ -45,7 +45,7 @@ use Rattle.log_verdict.specs.LogVerdicts.{HaveRecords, Log, OfLogs, log_in, reco
 use Rattle.log_verdict.specs.Ranges.{TradeLogsAreInRange}
 use Rattle.record_verdict.specs.declared.questions.Question.{Question}
 use Rattle.record_verdict.specs.RecordVerdicts.{question}
-use Rattle.record_verdict.specs.Scopes.{call_scope, day_scope, finding_before_rule_in_scope, unadmitted_order_finding}
+use Rattle.record_verdict.specs.Scopes.{call_scope, session_scope, finding_before_rule_in_scope, unadmitted_order_finding}
 use Rattle.session_audit.specs.declared.phases.Phase.{Phase}
 use Rattle.session_audit.specs.OneOffence.{DayOffenceIsOne}
 use Rattle.session_audit.specs.Texts.{day_text}
@@ -204,16 +204,16 @@ module _ (laws : Laws) where
     abbrev count : ℕ
     count = length (paired_trades paired)
 
-    sound : finding_before_rule_in_scope (day_scope symbol) entries paired ≡ None → trades_finding history symbol (paired_trades paired) ≡ None
+    sound : finding_before_rule_in_scope (session_scope symbol) entries paired ≡ None → trades_finding history symbol (paired_trades paired) ≡ None
     sound none =
         let last = trades_finding history symbol (paired_trades paired) in
-        let admitted = unadmitted_order_finding (day_scope symbol).admission history in
+        let admitted = unadmitted_order_finding (session_scope symbol).admission history in
         let first = option_or-parts (history_finding symbol entries) (first_answer (admitted ∷ pairing_finding paired ∷ last ∷ [])) none in
         let second = option_or-parts admitted (first_answer (pairing_finding paired ∷ last ∷ [])) first.1 in
         let third = option_or-parts (pairing_finding paired) (first_answer (last ∷ [])) second.1 in
         (option_or-parts last None third.1).0
 
-    judged-one : finding_before_rule_in_scope (day_scope symbol) entries paired ≡ None → JudgesDayDeals symbol phases table history deals count s a → JudgesDayDeals symbol phases table history deals count t b → Same s t a b
+    judged-one : finding_before_rule_in_scope (session_scope symbol) entries paired ≡ None → JudgesDayDeals symbol phases table history deals count s a → JudgesDayDeals symbol phases table history deals count t b → Same s t a b
     judged-one none (inl x) (inl y) = done-one (IsDayText symbol phases table history deals) (day-text-one symbol phases table history deals) s t a b x y
     judged-one none (inl x) (inr y) = absurd (y.broken.fails x.is.conforms.conforms)
     judged-one none (inr x) (inl y) = absurd (x.broken.fails y.is.conforms.conforms)
@@ -223,7 +223,7 @@ module _ (laws : Laws) where
         refused-one (Rejected y.finding) s t a b (subst (λ (f : Finding). IsVerdictAnswer (Rejected f) s a) same x.answer) y.answer
 
     day-one : JudgesDayRecords symbol phases table entries paired s a → JudgesDayRecords symbol phases table entries paired t b → Same s t a b
-    day-one x y = by-option (finding_before_rule_in_scope (day_scope symbol) entries paired) (JudgesDayDeals symbol phases table history deals count s a) (JudgesDayDeals symbol phases table history deals count t b)
+    day-one x y = by-option (finding_before_rule_in_scope (session_scope symbol) entries paired) (JudgesDayDeals symbol phases table history deals count s a) (JudgesDayDeals symbol phases table history deals count t b)
         (λ finding. IsVerdictAnswer (Rejected finding) s a) (λ finding. IsVerdictAnswer (Rejected finding) t b) (Same s t a b)
         judged-one (λ finding. refused-one (Rejected finding) s t a b) x y
 

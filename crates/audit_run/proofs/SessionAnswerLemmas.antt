@@ -16,7 +16,7 @@ use Rattle.matching_core.specs.declared.deals_draft.ResolvedTrades.{ResolvedTrad
 use Rattle.session_audit.specs.declared.phases.Phase.{Phase}
 use Rattle.record_verdict.specs.declared.before_rule.BeforeRule.TheVariants as before_rule
 use Rattle.command_run.specs.declared.answers.Answer.{Answer}
-use Rattle.record_verdict.specs.Scopes.{day_scope}
+use Rattle.record_verdict.specs.Scopes.{session_scope}
 use Rattle.command_run.specs.Deciding.{IsAnswerOfKind}
 use Rattle.audit_run.specs.JudgedAnswers.{IsSessionAnswerOn}
 use Rattle.audit_run.specs.Sessions.{JudgesDayDeals, JudgesDayRecords}
@@ -28,7 +28,7 @@ module _ (symbol : List ℕ) (phases : List Phase) (table : Bool) (answer : Answ
   -- a bad place is answered, whatever the phases are
   pub malformed_day : (log : Which) (bad : BadPlace) → IsAnswerOfKind (IsVerdictAnswer (verdict.Malformed log bad)) answer → IsAnswerOfKind (IsSessionAnswerOn symbol phases table (before_rule.Malformed log bad)) answer
   malformed_day log bad made orders trades come =
-      of_logs (λ entries paired. IsBeforeRule (day_scope symbol) entries paired (before_rule.Malformed log bad)) (λ entries paired. JudgesDayRecords symbol phases table entries paired answer.status answer.text.items)
+      of_logs (λ entries paired. IsBeforeRule (session_scope symbol) entries paired (before_rule.Malformed log bad)) (λ entries paired. JudgesDayRecords symbol phases table entries paired answer.status answer.text.items)
       (λ other place. before_rule.Malformed log bad ≡ before_rule.Malformed other place) (λ other place. IsVerdictAnswer (verdict.Malformed other place) answer.status answer.text.items)
       (λ entries paired is. absurd is)
       (λ other place e. subst (λ (v : Verdict). IsVerdictAnswer v answer.status answer.text.items) (same other place e) made)
@@ -40,7 +40,7 @@ module _ (symbol : List ℕ) (phases : List Phase) (table : Bool) (answer : Answ
   -- so is a finding
   pub found_day : (finding : Finding) → IsAnswerOfKind (IsVerdictAnswer (verdict.Rejected finding)) answer → IsAnswerOfKind (IsSessionAnswerOn symbol phases table (before_rule.Found finding)) answer
   found_day finding made orders trades come =
-      of_logs (λ entries paired. IsBeforeRule (day_scope symbol) entries paired (before_rule.Found finding)) (λ entries paired. JudgesDayRecords symbol phases table entries paired answer.status answer.text.items)
+      of_logs (λ entries paired. IsBeforeRule (session_scope symbol) entries paired (before_rule.Found finding)) (λ entries paired. JudgesDayRecords symbol phases table entries paired answer.status answer.text.items)
       (λ other place. before_rule.Found finding ≡ before_rule.Malformed other place) (λ other place. IsVerdictAnswer (verdict.Malformed other place) answer.status answer.text.items)
       (λ entries paired is. rw is made)
       (λ other place e. absurd (apart other place e)) orders trades come
@@ -52,14 +52,14 @@ module _ (symbol : List ℕ) (phases : List Phase) (table : Bool) (answer : Answ
   pub sound_day : (resolved : ResolvedTrades) → IsAnswerOfKind (JudgesDayDeals symbol phases table resolved.history resolved.deals.items resolved.count) answer
       → IsAnswerOfKind (IsSessionAnswerOn symbol phases table (before_rule.Sound resolved)) answer
   sound_day resolved is orders trades come =
-      of_logs (λ entries paired. IsBeforeRule (day_scope symbol) entries paired (before_rule.Sound resolved)) (λ entries paired. JudgesDayRecords symbol phases table entries paired answer.status answer.text.items)
+      of_logs (λ entries paired. IsBeforeRule (session_scope symbol) entries paired (before_rule.Sound resolved)) (λ entries paired. JudgesDayRecords symbol phases table entries paired answer.status answer.text.items)
       (λ other place. before_rule.Sound resolved ≡ before_rule.Malformed other place) (λ other place. IsVerdictAnswer (verdict.Malformed other place) answer.status answer.text.items)
       (λ entries paired sound. of_sound entries paired sound) (λ other place e. absurd (apart other place e)) orders trades come
     where
       apart : (other : Which) (place : BadPlace) → before_rule.Sound resolved ≡ before_rule.Malformed other place → ⊥
       apart other place e = cc
 
-      of_sound : (entries : List OrderRecord) (paired : Result (List TradeRecord) Finding) → IsResolvedWithoutFinding (day_scope symbol) entries paired resolved → JudgesDayRecords symbol phases table entries paired answer.status answer.text.items
+      of_sound : (entries : List OrderRecord) (paired : Result (List TradeRecord) Finding) → IsResolvedWithoutFinding (session_scope symbol) entries paired resolved → JudgesDayRecords symbol phases table entries paired answer.status answer.text.items
       of_sound entries paired sound =
           let history : List Order = order_list symbol entries in
           rw sound.none

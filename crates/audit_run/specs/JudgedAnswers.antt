@@ -11,7 +11,7 @@ use Rattle.audit_run.specs.Certificates.{IsCertifyAnswer, IsVerifyAnswer}
 use Rattle.audit_run.specs.Sessions.{IsSessionAnswer}
 use Rattle.log_verdict.specs.LogVerdicts.{Log, OfLogs}
 use Rattle.record_verdict.specs.BeforeRule.{IsBeforeRule}
-use Rattle.record_verdict.specs.Scopes.{call_scope, day_scope, scope_of}
+use Rattle.record_verdict.specs.Scopes.{call_scope, session_scope, scope_of}
 use Rattle.record_verdict.specs.declared.scopes.Scope.{Scope}
 
 -- two logs give this before the rule is looked at: their first bad place, or what their records
@@ -37,7 +37,7 @@ IsVerifyAnswerOn symbol given certificate status text =
 abbrev pub IsSessionAnswerOn : List ℕ → List Phase → Bool → BeforeRule → Status → List ℕ
     → Type 0
 IsSessionAnswerOn symbol phases table given status text =
-    (orders trades : Log) → LogsReach (day_scope symbol) orders trades given
+    (orders trades : Log) → LogsReach (session_scope symbol) orders trades given
     → IsSessionAnswer symbol phases table orders trades status text
 
 -- The text is the certificate of these deals, which agrees.

@@ -9,7 +9,7 @@ use Rattle.audit_base.specs.declared.records.TradeRecord.{TradeRecord}
 use Rattle.audit_base.specs.Deals.{DealsInRange}
 use Rattle.audit_base.specs.Histories.{order_list}
 use Rattle.audit_base.specs.Trades.{deals_of_symbol}
-use Rattle.record_verdict.specs.Scopes.{finding_before_rule_in_scope, day_scope}
+use Rattle.record_verdict.specs.Scopes.{finding_before_rule_in_scope, session_scope}
 use Rattle.audit_base.specs.Verdicts.{paired_trades}
 use Rattle.audit_report.specs.declared.statuses.Status.{Status}
 use Rattle.audit_report.specs.declared.verdicts.Verdict.TheVariants.{Rejected, Malformed}
@@ -60,7 +60,7 @@ abbrev pub JudgesDayRecords : List ℕ → List Phase → Bool → List OrderRec
     → Result (List TradeRecord) Finding → Status → List ℕ → Type 0
 JudgesDayRecords symbol phases table entries paired status text =
     let orders = order_list symbol entries in
-    MatchOption (finding_before_rule_in_scope (day_scope symbol) entries paired)
+    MatchOption (finding_before_rule_in_scope (session_scope symbol) entries paired)
     (JudgesDayDeals symbol phases table orders
     (deals_of_symbol orders symbol (paired_trades paired))
     (length (paired_trades paired)) status text)

@@ -11,7 +11,7 @@ use Rattle.day_trades.specs.SymbolTrades.{IsSymbolTrades}
 use Rattle.record_verdict.specs.declared.before_rule.BeforeRule.{BeforeRule}
 use Rattle.record_verdict.specs.declared.scopes.Admission.TheVariants as admission
 use Rattle.record_verdict.specs.BeforeRule.{IsBeforeRule}
-use Rattle.record_verdict.specs.Scopes.{day_scope}
+use Rattle.record_verdict.specs.Scopes.{session_scope}
 use Rattle.session_audit.specs.declared.phases.Phase.{Phase}
 
 -- the status of a session that conforms or does not
@@ -32,7 +32,7 @@ IsSessionOfRecords phases table entries trades symbol session =
 abbrev pub IsSessionOfReached : List ℕ → List Phase → Bool → BeforeRule → SymbolSession → Type 0
 IsSessionOfReached symbol phases table reached session =
     (entries : List OrderRecord) (trades : List TradeRecord)
-    → IsBeforeRule (day_scope symbol) entries (Ok trades) reached
+    → IsBeforeRule (session_scope symbol) entries (Ok trades) reached
     → IsSessionOfRecords phases table entries trades symbol session
 
 -- the same of whatever records this is known of

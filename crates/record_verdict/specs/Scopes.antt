@@ -40,10 +40,12 @@ finding_before_rule_in_scope scope entries trades =
     ∷ pairing_finding trades
     ∷ trades_finding orders scope.symbol (paired_trades trades) ∷ [])
 
--- what a reading needs to know of a question under a rule of a call,
--- and of one that admits all orders
+-- what a reading needs to know for a rule of a call: the symbol, and that orders which rest are
+-- admitted
 abbrev pub call_scope : List ℕ → Scope
 call_scope symbol = record { symbol = symbol; admission = admission.Resting }
 
-abbrev pub day_scope : List ℕ → Scope
-day_scope symbol = record { symbol = symbol; admission = admission.All }
+-- what it needs to know for a session: all orders are admitted, since an order that does not rest
+-- is found by the phase that it is in, where that is a call
+abbrev pub session_scope : List ℕ → Scope
+session_scope symbol = record { symbol = symbol; admission = admission.All }

@@ -1,13 +1,13 @@
 use Rattle.std.proofs.Common.{refl}
 use Rattle.log_verdict.specs.Steps.{reading_by}
-use Rattle.record_verdict.specs.Scopes.{day_scope}
+use Rattle.record_verdict.specs.Scopes.{session_scope}
 use Rattle.audit_run.specs.Deciding.{request_to_judge_day}
 use Rattle.audit_run.proofs.AnswerLemmas.{session-status}
 use Rattle.audit_run.proofs.sessions.answer_session.Goals as goal
 
 pub returns-in_ok-session_answer-in-Ok-clause-decides : goal.returns-in_ok-session_answer-in-Ok-clause-decides
 returns-in_ok-session_answer-in-Ok-clause-decides g c =
-    c.both_logs_decide.ensures.answers (request_to_judge_day c.args.symbol.now c.args.phases.now c.args.table c.args.orders.now c.args.trades.now) (day_scope c.args.symbol.now, c.in-Ok.given)
+    c.both_logs_decide.ensures.answers (request_to_judge_day c.args.symbol.now c.args.phases.now c.args.table c.args.orders.now c.args.trades.now) (session_scope c.args.symbol.now, c.in-Ok.given)
     (reading_by c.args.orders.now g.F.Shelf c.args.shelf.now c.read_both.new.shelf) c.args.orders.now c.args.trades.now _ _ c.in-Ok.ensures.later
     (record {
       starts = record { first = refl; second = λ bytes. refl };
