@@ -51,8 +51,8 @@ const SHELF_ROWS: [ShelfRow; 3] = [
             status: 3,
             report: "malformed,orders,1,0,header\n",
         },
-        order_calls: 2,
-        calls: 2,
+        order_calls: 3,
+        calls: 3,
     },
 ];
 
