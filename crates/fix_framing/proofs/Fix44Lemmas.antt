@@ -1,11 +1,12 @@
 -- What is proved of any headers, of that of FIX 4.4.
-use Rattle.std.proofs.Common.{◌≡◌, ℕ, Some, None, true, List, ◌++◌, length, take, ap, ◌∙◌, arith}
+use Rattle.std.proofs.Common.{◌≡◌, ℕ, Some, None, true, List, ◌++◌, length, take, refl, ap, ◌∙◌, arith}
+use Rattle.std.specs.Prelude.{Contains}
 use Rattle.std.specs.List.{list_all}
 use Rattle.fix_framing.specs.declared.framer.Framer.{Framer}
 use Rattle.fix_framing.specs.declared.frames.FrameFault.TheVariants.{Truncated}
 use Rattle.fix_framing.specs.Breaks.{is_line_end_byte, after_breaks}
-use Rattle.fix_framing.specs.Headers.{header, fix44}
-use Rattle.fix_framing.specs.Frames.{IsFrame, before_checksum, checksum_field, frame_fault, frame_size, body_of, longest_frame, longest_frame_with}
+use Rattle.fix_framing.specs.Headers.{header, fix44, any_version}
+use Rattle.fix_framing.specs.Frames.{IsFrame, IsFrameWith, before_checksum, checksum_field, frame_fault, frame_size, body_of, longest_frame, longest_frame_with}
 use Rattle.fix_framing.specs.Framing.{IsUnfinished, next_text}
 use Rattle.fix_framing.proofs.HeaderLemmas.{length-header, fix44-headers, fix44-head}
 use Rattle.fix_framing.proofs.TestLemmas.{NoFault-from_none}
@@ -28,6 +29,25 @@ IsFrame-body_of f b more frame = IsFrameWith-body_of fix44 f b more fix44-header
 
 pub IsFrame-size : (f b more : List ℕ) → IsFrame f b → frame_size (f ++ more) ≡ length f
 IsFrame-size f b more frame = IsFrameWith-size fix44 f b more fix44-headers frame
+
+-- and it is a message of any version
+header-any : Contains any_version header
+unfolding any_version header
+header-any = (4, omega arith, refl)
+
+pub IsFrame-any : (f b : List ℕ) → IsFrame f b → IsFrameWith any_version f b
+IsFrame-any f b frame = record {
+  head = frame.head;
+  known = rw (fix44-head frame.head frame.known) header-any;
+  length_digits = frame.length_digits;
+  sum_digits = frame.sum_digits;
+  whole = frame.whole;
+  few = frame.few;
+  counted = frame.counted;
+  bounded = frame.bounded;
+  three = frame.three;
+  summed = frame.summed;
+}
 
 -- where nothing is at fault, a message begins
 pub IsFrame-from_none : (r : List ℕ) → frame_fault r ≡ None → IsFrame (take (frame_size r) r) (body_of r)

@@ -37,6 +37,7 @@ pub struct Framer<H> {
     base: u64,
     /// How many of the bytes held are framed.
     next: usize,
+    /// What the messages may begin with.
     headers: PhantomData<H>,
     ghost within: { next ≤ vec_len bytes },
     ghost countable: { base + vec_len bytes < 2 ^ 64 },

@@ -109,8 +109,7 @@ fn is_length_of(text: &[u8], header: usize, digits: usize) -> bool
 
 /// The number that these digits behind the header write.
 fn size_of(text: &[u8], header: usize, digits: usize) -> usize
-    requires inside { header ≤ length text.now }
-    requires field { IsLengthField (drop header text.now) digits }
+    requires { IsLengthField (drop header text.now) digits }
     ensures { result ≡ digits_value 10 (take digits (drop header text.now)) }
 {
     let rest = &text[header..];

@@ -29,8 +29,8 @@ pub trait Headers {
     /// The headers.
     ghost headers: { List (List ℕ) };
 
-    /// Each has from 1 to 13 bytes, and none is a prefix of another. This call does nothing: it
-    /// only has its contract.
+    /// There is one or more, each has from 1 to 13 bytes, and none is a prefix of another. This
+    /// call does nothing: it only has its contract.
     fn are_headers()
         ensures { AreHeaders headers };
 

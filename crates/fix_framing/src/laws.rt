@@ -2,20 +2,22 @@
 //! hold of FIX 4.4, and of every list of headers of which none is a prefix of another.
 ghost use Rattle.std.specs.Prelude.{◌≡◌, ◌≢◌, ℕ, List, [], ◌++◌, Some, None};
 ghost use Rattle.fix_framing.specs.Headers.{AreHeaders, fix44, any_version};
-ghost use Rattle.fix_framing.specs.Frames.{IsFrameWith, frame_fault_with};
+ghost use Rattle.fix_framing.specs.Frames.{IsFrame, IsFrameWith, frame_fault_with};
 ghost use Rattle.fix_framing.specs.declared.frames.FrameFault.{FrameFault};
 
 use crate::frames::FrameFault;
-use crate::headers::{AnyVersion, Fix44, Headers};
 
 /// No header of FIX 4.4 is a prefix of another, nor one of any version.
+#[tactic(auto, unfolding(crate::specs::Headers::header, crate::specs::Headers::any_version))]
 pub fn no_header_begins_another()
     ensures one { AreHeaders fix44 }
     ensures any { AreHeaders any_version }
-{
-    Fix44::are_headers();
-    AnyVersion::are_headers();
-}
+{}
+
+/// A message of FIX 4.4 is one of any version, with the same body.
+pub fn one_version_is_of_any()
+    ensures { (frame body : List ℕ) → IsFrame frame body → IsFrameWith any_version frame body }
+{}
 
 /// Unique reading: no message begins another, since the length comes before the body.
 pub fn frames_have_one_reading()

@@ -1,9 +1,10 @@
-//! FIX 4.4 messages on the bytes of a log. A message is in a frame: `8=FIX.4.4`, the length of
-//! its body, the body, and a checksum. This crate finds the frames of a log exactly, whole or
-//! piece by piece, and names the first test that a broken one fails.
+//! FIX messages on the bytes of a log. A message is in a frame: its version, as `8=FIX.4.4`, the
+//! length of its body, the body, and a checksum. This crate finds the frames of a log exactly,
+//! whole or piece by piece, and names the first test that a broken one fails.
 //!
-//! `frames` looks at bytes that are all there, `framer` at bytes that come in pieces, `breaks` at
-//! the line ends between messages, and `writing` makes a frame.
+//! `headers` has the versions that a log may have: FIX 4.4 alone, or any. `frames` looks at bytes
+//! that are all there, `framer` at bytes that come in pieces, `breaks` at the line ends between
+//! messages, and `writing` makes a frame of FIX 4.4.
 #![tactic(auto)]
 
 pub mod breaks;
