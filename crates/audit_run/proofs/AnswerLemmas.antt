@@ -1,5 +1,5 @@
 -- The statuses of answers, what `expect` answers to records, and readings of at most 64 MiB.
-use Rattle.std.proofs.Common.{◌≡◌, sym, subst, refl, inl, inr, ⊎_elim, ℕ, ◌≤◌, Bool, List, [], ◌∷◌, length, Option, None, Some, Result, Ok, Err, arith}
+use Rattle.std.proofs.Common.{◌≡◌, sym, subst, refl, inl, inr, ⊎_elim, ℕ, ◌≤◌, Bool, true, false, List, [], ◌∷◌, length, Option, None, Some, Result, Ok, Err, arith}
 use Rattle.std.specs.Prelude.{MatchOption, MatchResult}
 use Rattle.audit_base.specs.declared.faults.BadPlace.{BadPlace}
 use Rattle.audit_base.specs.declared.findings.Finding.{Finding}
@@ -12,7 +12,7 @@ use Rattle.audit_base.specs.declared.terms.Which.{Which}
 use Rattle.audit_base.specs.declared.terms.Which.TheVariants.{Orders, Trades}
 use Rattle.audit_base.specs.Histories.{history_finding, order_list, WellFormed}
 use Rattle.audit_base.specs.Trades.{deals_of_symbol}
-use Rattle.record_verdict.specs.Scopes.{call_scope, session_scope, finding_before_rule_in_scope}
+use Rattle.record_verdict.specs.Scopes.{call_scope, finding_before_rule_in_scope}
 use Rattle.audit_base.specs.Verdicts.{instant_finding_of_rule, paired_trades}
 use Rattle.audit_report.specs.declared.statuses.Status.{Status}
 use Rattle.audit_report.specs.declared.statuses.Status.TheVariants as status
@@ -36,12 +36,13 @@ use Rattle.command_run.specs.Deciding.{DecidesBytes, DecidesUnread, IsStatusOfLo
 use Rattle.audit_run.specs.OtherTexts.{orders_finding, ConvertsTrades, ExpectsRecords, IsConvertAnswer, IsExpectedLog}
 use Rattle.audit_run.specs.Requests.{next_log, IsAnswerTo}
 use Rattle.command_run.specs.Runs.{IsAnswerToReadLogs, ReadingDecides, ReadsThenStarts}
-use Rattle.audit_run.specs.Sessions.{IsDayText, IsSessionAnswer, JudgesDayDeals, JudgesDayRecords}
+use Rattle.audit_run.specs.Sessions.{IsSessionAnswer, IsSessionAnswerToRecords}
 use Rattle.command_run.specs.VerdictAnswers.{IsAnswerWith, IsAuditAnswer, IsDone, IsVerdictAnswer}
 use Rattle.log_verdict.specs.BothLogs.{StaysWithin, StaysWithinAt}
 use Rattle.log_verdict.specs.Collecting.{step_of, IsUnread, TouchesOnly}
 use Rattle.csv_logs.specs.Written.{csv_orders_text, csv_trades_text}
 use Rattle.session_audit.specs.declared.phases.Phase.{Phase}
+use Rattle.session_verdict.specs.Sessions.{session_status}
 use Rattle.log_verdict.specs.LogVerdicts.{Log, records_of_order_log, trades_of_trade_log}
 use Rattle.log_verdict.specs.declared.sources.Source.{Source}
 use Rattle.log_verdict.specs.Steps.{Reading, LogStep, BeginsWithin, StepsLead, FaultsNeverFall, with_slot, reading, reading_by, reading_within}
@@ -90,21 +91,21 @@ verify-status symbol orders trades certificate s text is = of_said (records_of_o
     of_said (Ok entries) (Err bad) is = verdict-status (verdict.Malformed Trades bad) s text is
     of_said (Err bad) second is = verdict-status (verdict.Malformed Orders bad) s text is
 
-days-status : (symbol : List ℕ) (phases : List Phase) (table : Bool) (orders : List Order) (deals : List Deal) (count : ℕ) (found : Option Finding) (s : Status) (text : List ℕ)
-    → MatchOption found (JudgesDayDeals symbol phases table orders deals count s text) (λ finding. IsVerdictAnswer (verdict.Rejected finding) s text) → IsStatusOfLogs s
-days-status symbol phases table orders deals count None s text (inl is) = done-status (IsDayText symbol phases table orders deals) s text is
-days-status symbol phases table orders deals count None s text (inr is) = verdict-status (verdict.Rejected is.finding) s text is.answer
-days-status symbol phases table orders deals count (Some finding) s text is = verdict-status (verdict.Rejected finding) s text is
+records-status : (symbol : List ℕ) (phases : List Phase) (table : Bool) (entries : List OrderRecord) (paired : Result (List TradeRecord) Finding) (s : Status) (text : List ℕ)
+    → IsSessionAnswerToRecords symbol phases table entries paired s text → IsStatusOfLogs s
+records-status symbol phases table entries paired s text is = subst IsStatusOfLogs (sym is.status_is) (one is.conforms)
+  where
+    one : (conforms : Bool) → IsStatusOfLogs (session_status conforms)
+    one true = tt
+    one false = tt
 
 pub session-status : (symbol : List ℕ) (phases : List Phase) (table : Bool) (orders trades : Log) (s : Status) (text : List ℕ) → IsSessionAnswer symbol phases table orders trades s text → IsStatusOfLogs s
 session-status symbol phases table orders trades s text is = of_said (records_of_order_log orders.form orders.bytes) (trades_of_trade_log trades.form trades.bytes) is
   where
     of_said : (first : Result (List OrderRecord) BadPlace) (second : Result (Result (List TradeRecord) Finding) BadPlace)
-        → MatchResult first (λ entries. MatchResult second (λ paired. JudgesDayRecords symbol phases table entries paired s text) (λ bad. IsVerdictAnswer (verdict.Malformed Trades bad) s text))
+        → MatchResult first (λ entries. MatchResult second (λ paired. IsSessionAnswerToRecords symbol phases table entries paired s text) (λ bad. IsVerdictAnswer (verdict.Malformed Trades bad) s text))
         (λ bad. IsVerdictAnswer (verdict.Malformed Orders bad) s text) → IsStatusOfLogs s
-    of_said (Ok entries) (Ok paired) is =
-        days-status symbol phases table (order_list symbol entries) (deals_of_symbol (order_list symbol entries) symbol (paired_trades paired)) (length (paired_trades paired))
-        (finding_before_rule_in_scope (session_scope symbol) entries paired) s text is
+    of_said (Ok entries) (Ok paired) is = records-status symbol phases table entries paired s text is
     of_said (Ok entries) (Err bad) is = verdict-status (verdict.Malformed Trades bad) s text is
     of_said (Err bad) second is = verdict-status (verdict.Malformed Orders bad) s text is
 

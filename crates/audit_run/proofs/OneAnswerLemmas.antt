@@ -45,10 +45,11 @@ use Rattle.log_verdict.specs.LogVerdicts.{HaveRecords, Log, OfLogs, log_in, reco
 use Rattle.log_verdict.specs.Ranges.{TradeLogsAreInRange}
 use Rattle.record_verdict.specs.declared.questions.Question.{Question}
 use Rattle.record_verdict.specs.RecordVerdicts.{question}
-use Rattle.record_verdict.specs.Scopes.{call_scope, session_scope, finding_before_rule_in_scope, unadmitted_order_finding}
+use Rattle.record_verdict.specs.Scopes.{call_scope, finding_before_rule_in_scope, session_scope, unadmitted_order_finding}
 use Rattle.session_audit.specs.declared.phases.Phase.{Phase}
 use Rattle.session_audit.specs.OneOffence.{DayOffenceIsOne}
 use Rattle.session_audit.specs.Texts.{day_text}
+use Rattle.session_verdict.specs.Sessions.{session_status, IsRejectedSession, IsSessionOfDeals, IsSessionOfRecords, IsSessionText}
 use Rattle.verdict_laws.specs.Histories.{ExpectedTradesAreOne}
 use Rattle.command_run.specs.Laws.{CallsAgree}
 use Rattle.command_words.specs.declared.requests.Request.{Request}
@@ -57,7 +58,7 @@ use Rattle.audit_run.specs.AnswerIsOne.{AnswerIsOne, RunsAgree}
 use Rattle.audit_run.specs.Certificates.{IsCertificateOf, IsCertifyAnswer, IsVerdictAnswerWith, IsVerifyAnswer, VerifiesDeals, VerifiesRecords}
 use Rattle.audit_run.specs.OtherTexts.{orders_finding, ConvertsTrades, ExpectsRecords, IsCallLine, IsContinuousLine, IsConvertAnswer, IsExpectAnswer, IsExpectedLog, IsGeneratedSummary}
 use Rattle.command_run.specs.Commands.{log_read_at}
-use Rattle.audit_run.specs.Sessions.{IsDayText, IsSessionAnswer, JudgesDayDeals, JudgesDayRecords}
+use Rattle.audit_run.specs.Sessions.{IsSessionAnswer, IsSessionAnswerToRecords}
 use Rattle.command_run.specs.VerdictAnswers.{IsAnswerWith, IsAuditAnswer, IsDone, IsVerdictAnswer}
 
 -- the laws on which this rests
@@ -184,8 +185,8 @@ module _ (laws : Laws) where
       (λ log bad. refused-one (Malformed log bad) s t a b) x y
 
   -- `session`
-  day-text-one : (symbol : List ℕ) (phases : List Phase) (table : Bool) (orders : List Order) (deals : List Deal) (a b : List ℕ) → IsDayText symbol phases table orders deals a → IsDayText symbol phases table orders deals b → a ≡ b
-  day-text-one symbol phases table orders deals a b x y =
+  session-text-one : (symbol : List ℕ) (phases : List Phase) (table : Bool) (orders : List Order) (deals : List Deal) (a b : List ℕ) → IsSessionText symbol phases table orders deals a → IsSessionText symbol phases table orders deals b → a ≡ b
+  session-text-one symbol phases table orders deals a b x y =
       let of_x = x.conforms.totals_are in
       let of_y = y.conforms.totals_are in
       let listed : x.totals.0 ≡ y.totals.0 = same_number_lists x.totals.0 y.totals.0 (of_x.count ∙ sym of_y.count) (λ i lt.
@@ -194,7 +195,7 @@ module _ (laws : Laws) where
       x.text_is ∙ (λ i. day_text symbol phases orders (listed i, whole i) (length deals) table) ∙ sym y.text_is
 
   module _ (symbol : List ℕ) (phases : List Phase) (table : Bool) (entries : List OrderRecord) (paired : Result (List TradeRecord) Finding) (ranges : TradesInRange (paired_trades paired))
-      (s t : Status) (a b : List ℕ) where
+      (c d : Bool) (a b : List ℕ) where
     abbrev history : List Order
     history = order_list symbol entries
 
@@ -213,25 +214,34 @@ module _ (laws : Laws) where
         let third = option_or-parts (pairing_finding paired) (first_answer (last ∷ [])) second.1 in
         (option_or-parts last None third.1).0
 
-    judged-one : finding_before_rule_in_scope (session_scope symbol) entries paired ≡ None → JudgesDayDeals symbol phases table history deals count s a → JudgesDayDeals symbol phases table history deals count t b → Same s t a b
-    judged-one none (inl x) (inl y) = done-one (IsDayText symbol phases table history deals) (day-text-one symbol phases table history deals) s t a b x y
+    rejected-one : (finding : Finding) → IsRejectedSession (Rejected finding) c a → IsRejectedSession (Rejected finding) d b → (c ≡ d) × (a ≡ b)
+    rejected-one finding x y = (x.conforms_is ∙ sym y.conforms_is, x.text_is ∙ sym y.text_is)
+
+    judged-one : finding_before_rule_in_scope (session_scope symbol) entries paired ≡ None → IsSessionOfDeals symbol phases table history deals count c a → IsSessionOfDeals symbol phases table history deals count d b → (c ≡ d) × (a ≡ b)
+    judged-one none (inl x) (inl y) = (x.conforms_is ∙ sym y.conforms_is, session-text-one symbol phases table history deals a b x.is y.is)
     judged-one none (inl x) (inr y) = absurd (y.broken.fails x.is.conforms.conforms)
     judged-one none (inr x) (inl y) = absurd (x.broken.fails y.is.conforms.conforms)
     judged-one none (inr x) (inr y) =
         let same = laws.day phases history deals count x.finding y.finding (order_list-rising symbol entries) (sound-names history symbol (paired_trades paired) (sound none))
         (deals-ranges history symbol (paired_trades paired) ranges) x.broken.offence y.broken.offence in
-        refused-one (Rejected y.finding) s t a b (subst (λ (f : Finding). IsVerdictAnswer (Rejected f) s a) same x.answer) y.answer
+        rejected-one y.finding (subst (λ (f : Finding). IsRejectedSession (Rejected f) c a) same x.is) y.is
 
-    day-one : JudgesDayRecords symbol phases table entries paired s a → JudgesDayRecords symbol phases table entries paired t b → Same s t a b
-    day-one x y = by-option (finding_before_rule_in_scope (session_scope symbol) entries paired) (JudgesDayDeals symbol phases table history deals count s a) (JudgesDayDeals symbol phases table history deals count t b)
-        (λ finding. IsVerdictAnswer (Rejected finding) s a) (λ finding. IsVerdictAnswer (Rejected finding) t b) (Same s t a b)
-        judged-one (λ finding. refused-one (Rejected finding) s t a b) x y
+    session-of-records-one : IsSessionOfRecords symbol phases table entries paired c a → IsSessionOfRecords symbol phases table entries paired d b → (c ≡ d) × (a ≡ b)
+    session-of-records-one x y = by-option (finding_before_rule_in_scope (session_scope symbol) entries paired) (IsSessionOfDeals symbol phases table history deals count c a) (IsSessionOfDeals symbol phases table history deals count d b)
+        (λ finding. IsRejectedSession (Rejected finding) c a) (λ finding. IsRejectedSession (Rejected finding) d b) ((c ≡ d) × (a ≡ b))
+        judged-one rejected-one x y
+
+  session-answer-one : (symbol : List ℕ) (phases : List Phase) (table : Bool) (entries : List OrderRecord) (paired : Result (List TradeRecord) Finding) → TradesInRange (paired_trades paired) → (s t : Status) (a b : List ℕ)
+      → IsSessionAnswerToRecords symbol phases table entries paired s a → IsSessionAnswerToRecords symbol phases table entries paired t b → Same s t a b
+  session-answer-one symbol phases table entries paired ranges s t a b x y =
+      let same = session-of-records-one symbol phases table entries paired ranges x.conforms y.conforms a b x.is y.is in
+      (x.status_is ∙ ap session_status same.0 ∙ sym y.status_is, same.1)
 
   session-one : (symbol : List ℕ) (phases : List Phase) (table : Bool) (orders trades : Log) (s t : Status) (a b : List ℕ) → IsSessionAnswer symbol phases table orders trades s a → IsSessionAnswer symbol phases table orders trades t b → Same s t a b
   session-one symbol phases table orders trades s t a b x y =
-      of-logs orders trades (λ entries paired. JudgesDayRecords symbol phases table entries paired s a) (λ entries paired. JudgesDayRecords symbol phases table entries paired t b)
+      of-logs orders trades (λ entries paired. IsSessionAnswerToRecords symbol phases table entries paired s a) (λ entries paired. IsSessionAnswerToRecords symbol phases table entries paired t b)
       (λ log bad. IsVerdictAnswer (Malformed log bad) s a) (λ log bad. IsVerdictAnswer (Malformed log bad) t b) (Same s t a b)
-      (λ entries paired have. day-one symbol phases table entries paired (known (trades_of_trade_log trades.form trades.bytes) (λ p. TradesInRange (paired_trades p)) paired (laws.ranges trades.form trades.bytes) have.trades_are) s t a b)
+      (λ entries paired have. session-answer-one symbol phases table entries paired (known (trades_of_trade_log trades.form trades.bytes) (λ p. TradesInRange (paired_trades p)) paired (laws.ranges trades.form trades.bytes) have.trades_are) s t a b)
       (λ log bad. refused-one (Malformed log bad) s t a b) x y
 
   -- `expect`

@@ -31,7 +31,7 @@ abbrev pub request_to_verify : List ℕ → Source → Source → List ℕ → R
 request_to_verify symbol orders trades certificate =
     Verify symbol orders.name.now trades.name.now certificate orders.form trades.form
 
--- the request to judge a day of these logs
-abbrev pub request_to_judge_day : List ℕ → List Phase → Bool → Source → Source → Request
-request_to_judge_day symbol phases table orders trades =
+-- the request to judge the session of these logs
+abbrev pub request_to_judge_session : List ℕ → List Phase → Bool → Source → Source → Request
+request_to_judge_session symbol phases table orders trades =
     Session symbol phases orders.name.now trades.name.now orders.form trades.form table

@@ -11,7 +11,7 @@ use Rattle.audit_run.specs.Certificates.{IsCertifyAnswer, IsVerifyAnswer}
 use Rattle.audit_run.specs.Sessions.{IsSessionAnswer}
 use Rattle.log_verdict.specs.LogVerdicts.{Log, OfLogs}
 use Rattle.record_verdict.specs.BeforeRule.{IsBeforeRule}
-use Rattle.record_verdict.specs.Scopes.{call_scope, session_scope, scope_of}
+use Rattle.record_verdict.specs.Scopes.{call_scope, scope_of, session_scope}
 use Rattle.record_verdict.specs.declared.scopes.Scope.{Scope}
 
 -- two logs give this before the rule is looked at: their first bad place, or what their records

@@ -1,78 +1,41 @@
 //! The command `session`: whether a day of phases conforms, over two logs.
-ghost use Rattle.std.specs.Prelude.{IfOk};
-ghost use Rattle.audit_base.specs.Deals.{DealsInRange};
-ghost use Rattle.audit_base.specs.Histories.{Regular};
-ghost use Rattle.audit_base.specs.Orders.{IsOrderList};
+ghost use Rattle.std.specs.Prelude.{◌≡◌, IfOk};
 ghost use Rattle.log_verdict.specs.BothLogs.{HaveOneLimit, StaysWithin};
 ghost use Rattle.command_run.specs.Deciding.{IsAnswerOfKind};
-ghost use Rattle.audit_run.specs.Deciding.{request_to_judge_day, DecidesAnswer};
+ghost use Rattle.audit_run.specs.Deciding.{request_to_judge_session, DecidesAnswer};
 ghost use Rattle.audit_run.specs.JudgedAnswers.{IsSessionAnswerOn};
-ghost use Rattle.audit_run.specs.Sessions.{AreOnlyOfDay, JudgesDayDeals};
 ghost use Rattle.log_verdict.specs.Steps.{reading_by, KeepsShelfLogs, FaultsNeverFall};
-ghost use Rattle.record_verdict.specs.BeforeRule.{AreResolvedTradesInRange, IsJudgeable};
-ghost use Rattle.session_audit.specs.Days.{ConformsDay};
+ghost use Rattle.record_verdict.specs.BeforeRule.{IsJudgeable};
 ghost use Rattle.session_audit.specs.Phases.{ArePhases};
+ghost use Rattle.session_verdict.specs.Sessions.{session_status};
 
 use super::given_logs::GivenBeforeRule;
 use super::program::Auditor;
 use audit_base::faults::NoMemory;
 use audit_base::names::Name;
-use audit_base::orders::Deal;
-use command_run::answers::{Answer, done_answer, finding_answer, malformed_answer};
+use command_run::answers::{Answer, malformed_answer};
 use command_run::laws::both_logs_decide;
 use log_source::shelf::Shelf;
 use log_verdict::both_logs::read_both;
 use log_verdict::sources::Source;
 use log_verdict::stops::Stop;
-use matching_core::deals_draft::ResolvedTrades;
-use order_list::lists::OrderList;
 use record_verdict::before_rule::BeforeRule;
 use record_verdict::scopes::{Admission, Scope};
-use session_audit::auditing::audit_session;
-use session_audit::days::Day;
-use session_audit::laws::day_uniqueness;
 use session_audit::phases::Phase;
-use session_audit::texts::session_text;
+use session_verdict::sessions::{Session, session_after};
 use std::alloc::Global;
 
-/// The quantities of a day that conforms are the only ones: the law of days, over these deals.
-fn only_of_day(orders: &OrderList<'_>, phases: &[Phase], deals: &[Deal])
-    requires order_list { IsOrderList orders.now }
-    requires regular { Regular orders.now }
-    requires numbers { DealsInRange deals.now }
-    requires conforms { ConformsDay phases.now orders.now deals.now }
-    ensures { AreOnlyOfDay phases.now orders.now deals.now }
+/// The answer that a session is: its status, and its text as it is.
+fn answer_of_session(session: Session) -> Answer
+    ensures status { result.status ≡ session_status session.conforms }
+    ensures text { result.text.items ≡ session.text.items }
 {
-    day_uniqueness();
+    let status = session.status();
+    let Session { text, .. } = session;
+    Answer { status, text }
 }
 
-/// The answer to a day over sound trades.
-fn answer_day(
-    alloc: Global,
-    symbol: &Name,
-    phases: &[Phase],
-    table: bool,
-    resolved: &ResolvedTrades,
-) -> Result<Answer, NoMemory>
-    requires phases { ArePhases phases.now }
-    requires judgeable { AreResolvedTradesInRange resolved.now }
-    ensures { IfOk result (IsAnswerOfKind (JudgesDayDeals symbol.now phases.now table
-        resolved.now.history resolved.now.deals.items resolved.now.count)) }
-{
-    let orders = resolved.history.orders();
-    let deals = &resolved.deals;
-    match audit_session(alloc, &orders, phases, deals, resolved.count)? {
-        Day::Conforms(totals) => {
-            only_of_day(&orders, phases, deals);
-            let trades = deals.len() as u32;
-            let text = session_text(alloc, symbol, phases, &orders, &totals, trades, table)?;
-            Ok(done_answer(text))
-        }
-        Day::Broken(finding) => finding_answer(alloc, finding),
-    }
-}
-
-/// The answer to a day over logs that give this before the rule.
+/// The answer to `session` over logs that give this before the phases are looked at.
 fn session_answer(
     alloc: Global,
     symbol: &Name,
@@ -85,11 +48,11 @@ fn session_answer(
     ensures { IfOk result (IsAnswerOfKind
         (IsSessionAnswerOn symbol.now phases.now table given.now)) }
 {
-    match given {
-        BeforeRule::Malformed { log, bad } => malformed_answer(alloc, *log, bad),
-        BeforeRule::Found(finding) => finding_answer(alloc, *finding),
-        BeforeRule::Sound(resolved) => answer_day(alloc, symbol, phases, table, resolved),
+    if let BeforeRule::Malformed { log, bad } = given {
+        return malformed_answer(alloc, *log, bad);
     }
+    let session = session_after(alloc, symbol, phases, table, given)?;
+    Ok(answer_of_session(session))
 }
 
 /// The answer to `session`. The reading admits every order: whether a call admits its own orders
@@ -108,7 +71,7 @@ pub(crate) fn answer_session<F: Shelf>(
     ensures logs { KeepsShelfLogs F.Shelf shelf.old shelf.new }
     ensures later { FaultsNeverFall (reading_by orders.now F.Shelf shelf.old shelf.new) }
     ensures decides { DecidesAnswer (reading_by orders.now F.Shelf shelf.old shelf.new)
-        (request_to_judge_day symbol.now phases.now table orders.now trades.now) result }
+        (request_to_judge_session symbol.now phases.now table orders.now trades.now) result }
     ensures within { StaysWithin (reading_by orders.now F.Shelf shelf.old shelf.new) result }
 {
     both_logs_decide::<Auditor, GivenBeforeRule>();

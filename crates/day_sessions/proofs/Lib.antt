@@ -1,3 +1,2 @@
-mod SessionLemmas
 mod SessionSteps
 mod SessionAnswerLemmas

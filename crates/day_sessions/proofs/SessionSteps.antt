@@ -9,9 +9,9 @@ use Rattle.audit_base.specs.declared.records.TradeRecord.{TradeRecord}
 use Rattle.day_logs.specs.DayBeforeRule.{DayTradesFitPlaces}
 use Rattle.day_report.specs.declared.day_line.DayCounts.{DayCounts}
 use Rattle.day_report.specs.DayTexts.{symbol_lines}
-use Rattle.day_sessions.specs.declared.symbol_sessions.SymbolSession.{SymbolSession}
+use Rattle.session_verdict.specs.declared.sessions.Session.{Session}
 use Rattle.day_sessions.specs.JudgedSessions.{AreSessions, session_counts, AreJudgedSessions, AreJudgedSessionsUpTo, AreJudgedSessionsOfShare, AddsSessionOfSymbol, session_lines, with_session}
-use Rattle.day_sessions.specs.SymbolSessions.{IsSessionOfRecords}
+use Rattle.day_sessions.specs.SymbolSessions.{IsSymbolSession}
 use Rattle.day_symbols.specs.Shares.{DayShare, symbols_in}
 use Rattle.day_trades.specs.declared.day_trades.EndedTrades.{EndedTrades}
 use Rattle.day_trades.specs.declared.symbol_trades.SymbolTrades.{SymbolTrades}
@@ -24,7 +24,7 @@ use Rattle.record_verdict.specs.declared.scopes.Admission.TheVariants as admissi
 use Rattle.session_audit.specs.declared.phases.Phase.{Phase}
 
 -- the lines of one symbol more come last
-lines-more : (symbols : List (List ℕ)) (sessions : List SymbolSession) (symbol : List ℕ) (v : SymbolSession) → length sessions ≡ length symbols
+lines-more : (symbols : List (List ℕ)) (sessions : List Session) (symbol : List ℕ) (v : Session) → length sessions ≡ length symbols
     → session_lines (symbols ++ symbol ∷ []) (sessions ++ v ∷ []) ≡ session_lines symbols sessions ++ symbol_lines symbol v.text.items
 lines-more [] [] symbol v same = append-nil (symbol_lines symbol v.text.items)
 lines-more [] (w ∷ ws) symbol v same = absurd (omega (arith, same))
@@ -35,23 +35,23 @@ lines-more (s ∷ ss) (w ∷ ws) symbol v same =
     ∙ sym (append_assoc (symbol_lines s w.text.items) (session_lines ss ws) (symbol_lines symbol v.text.items))
 
 -- the counts of one session more
-accepted-more : (sessions : List SymbolSession) (v : SymbolSession) → count_by (λ (w : SymbolSession). w.conforms) (sessions ++ v ∷ []) ≡ count_by (λ (w : SymbolSession). w.conforms) sessions + (if v.conforms then 1 else 0)
+accepted-more : (sessions : List Session) (v : Session) → count_by (λ (w : Session). w.conforms) (sessions ++ v ∷ []) ≡ count_by (λ (w : Session). w.conforms) sessions + (if v.conforms then 1 else 0)
 accepted-more sessions v =
     let one : ℕ = if v.conforms then 1 else 0 in
     let alone : 0 + one ≡ one = omega arith in
-    sum_by-append (λ (w : SymbolSession). cond w.conforms 1 0) sessions (v ∷ []) ∙ ap (λ (k : ℕ). count_by (λ (w : SymbolSession). w.conforms) sessions + k) alone
+    sum_by-append (λ (w : Session). cond w.conforms 1 0) sessions (v ∷ []) ∙ ap (λ (k : ℕ). count_by (λ (w : Session). w.conforms) sessions + k) alone
 
 flipped : (b : Bool) → 0 + cond (not b) 1 0 ≡ cond b 0 1
 flipped true = refl
 flipped false = refl
 
-rejected-more : (sessions : List SymbolSession) (v : SymbolSession)
-    → count_by (λ (w : SymbolSession). not w.conforms) (sessions ++ v ∷ []) ≡ count_by (λ (w : SymbolSession). not w.conforms) sessions + (if v.conforms then 0 else 1)
+rejected-more : (sessions : List Session) (v : Session)
+    → count_by (λ (w : Session). not w.conforms) (sessions ++ v ∷ []) ≡ count_by (λ (w : Session). not w.conforms) sessions + (if v.conforms then 0 else 1)
 rejected-more sessions v =
-    sum_by-append (λ (w : SymbolSession). cond (not w.conforms) 1 0) sessions (v ∷ [])
-    ∙ ap (λ (k : ℕ). count_by (λ (w : SymbolSession). not w.conforms) sessions + k) (flipped v.conforms)
+    sum_by-append (λ (w : Session). cond (not w.conforms) 1 0) sessions (v ∷ [])
+    ∙ ap (λ (k : ℕ). count_by (λ (w : Session). not w.conforms) sessions + k) (flipped v.conforms)
 
-counts-more : (sessions : List SymbolSession) (v : SymbolSession) → session_counts (sessions ++ v ∷ []) ≡ with_session (session_counts sessions) v
+counts-more : (sessions : List Session) (v : Session) → session_counts (sessions ++ v ∷ []) ≡ with_session (session_counts sessions) v
 counts-more sessions v = λ i. record {
   symbols = length-append sessions (v ∷ []) i;
   accepted = accepted-more sessions v i;
@@ -82,12 +82,12 @@ sessions-next phases table share ended n symbol_trades symbol old new next one i
     let symbols : List (List ℕ) = shared_symbols share entries trades in
     let got : slice_get symbols n ≡ Some symbol = ap (λ (s : List (List ℕ)). slice_get (symbols_in share s) n) (sym has.symbols_are) ∙ next.symbol_there in
     let before = is entries trades has in
-    let judged : IsSessionOfRecords phases table entries trades symbol one.one = one.is entries trades (next-known share ended n symbol_trades symbol next entries trades has) has.count in
+    let judged : IsSymbolSession phases table entries trades symbol one.one = one.is entries trades (next-known share ended n symbol_trades symbol next entries trades has) has.count in
     let more : take (n + 1) symbols ≡ take n symbols ++ symbol ∷ [] = take_more symbols n [] (slice_get_within symbols n symbol got) ∙ ap (λ (s : List ℕ). take n symbols ++ s ∷ []) (get_or_from_slice_get symbols n symbol [] got) in
     record {
       sessions = before.sessions ++ one.one ∷ [];
       sessions_are = subst (λ (ss : List (List ℕ)). AreSessions phases table entries trades ss (before.sessions ++ one.one ∷ [])) (sym more)
-          (for-each-more (IsSessionOfRecords phases table entries trades) (take n symbols) before.sessions symbol one.one before.sessions_are judged);
+          (for-each-more (IsSymbolSession phases table entries trades) (take n symbols) before.sessions symbol one.one before.sessions_are judged);
       counts_are = one.adds.counts_are ∙ ap (λ (counts : DayCounts). with_session counts one.one) before.counts_are ∙ sym (counts-more before.sessions one.one);
       lines_are = one.adds.lines_are ∙ ap (λ (text : List ℕ). text ++ symbol_lines symbol one.one.text.items) before.lines_are
           ∙ sym (lines-more (take n symbols) before.sessions symbol one.one before.sessions_are.same_length)
@@ -102,12 +102,12 @@ room-for-session phases table share ended n judged lt few_parts few is =
     let symbols : List (List ℕ) = shared_symbols share few.entries few.trades in
     let count : length (take n symbols) ≡ n = length-take-le n symbols (omega (arith, lt, few.has.symbols_trades_are.same_length)) in
     let symbols_are : judged.counts.symbols ≡ length before.sessions = ap (λ (counts : DayCounts). counts.symbols) before.counts_are in
-    let accepted_are : judged.counts.accepted ≡ count_by (λ (w : SymbolSession). w.conforms) before.sessions = ap (λ (counts : DayCounts). counts.accepted) before.counts_are in
-    let rejected_are : judged.counts.rejected ≡ count_by (λ (w : SymbolSession). not w.conforms) before.sessions = ap (λ (counts : DayCounts). counts.rejected) before.counts_are in
+    let accepted_are : judged.counts.accepted ≡ count_by (λ (w : Session). w.conforms) before.sessions = ap (λ (counts : DayCounts). counts.accepted) before.counts_are in
+    let rejected_are : judged.counts.rejected ≡ count_by (λ (w : Session). not w.conforms) before.sessions = ap (λ (counts : DayCounts). counts.rejected) before.counts_are in
     record {
       symbols_few = omega (arith, symbols_are, before.sessions_are.same_length, count, lt, few_parts);
-      accepted_few = omega (arith, symbols_are, accepted_are, count_by-le-length (λ (w : SymbolSession). w.conforms) before.sessions);
-      rejected_few = omega (arith, symbols_are, rejected_are, count_by-le-length (λ (w : SymbolSession). not w.conforms) before.sessions);
+      accepted_few = omega (arith, symbols_are, accepted_are, count_by-le-length (λ (w : Session). w.conforms) before.sessions);
+      rejected_few = omega (arith, symbols_are, rejected_are, count_by-le-length (λ (w : Session). not w.conforms) before.sessions);
     }
 
 -- all symbols were judged

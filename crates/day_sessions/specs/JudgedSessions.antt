@@ -5,8 +5,8 @@ use Rattle.audit_base.specs.declared.records.TradeRecord.{TradeRecord}
 use Rattle.day_logs.specs.DayAnswers.{DayMeaning}
 use Rattle.day_report.specs.declared.day_line.DayCounts.{DayCounts}
 use Rattle.day_report.specs.DayTexts.{symbol_lines}
-use Rattle.day_sessions.specs.declared.symbol_sessions.SymbolSession.{SymbolSession}
-use Rattle.day_sessions.specs.SymbolSessions.{IsSessionOf, IsSessionOfRecords}
+use Rattle.session_verdict.specs.declared.sessions.Session.{Session}
+use Rattle.day_sessions.specs.SymbolSessions.{IsSessionOfSymbol, IsSymbolSession}
 use Rattle.day_symbols.specs.Kept.{AreForEach}
 use Rattle.day_symbols.specs.Shares.{DayShare, symbols_in}
 use Rattle.day_symbols.specs.Symbols.{symbols_of_day}
@@ -19,12 +19,12 @@ use Rattle.session_audit.specs.declared.phases.Phase.{Phase}
 
 -- of each of these symbols this is what `session` answers for it over these records
 abbrev pub AreSessions : List Phase → Bool → List OrderRecord → List TradeRecord → List (List ℕ)
-    → List SymbolSession → Type 0
+    → List Session → Type 0
 AreSessions phases table entries trades symbols sessions =
-    AreForEach (IsSessionOfRecords phases table entries trades) symbols sessions
+    AreForEach (IsSymbolSession phases table entries trades) symbols sessions
 
 -- how many symbols have these sessions, how many of them conform, and how many do not
-abbrev pub session_counts : List SymbolSession → DayCounts
+abbrev pub session_counts : List Session → DayCounts
 session_counts sessions = record {
   symbols = length sessions;
   accepted = count_by (λ session. session.conforms) sessions;
@@ -32,7 +32,7 @@ session_counts sessions = record {
 }
 
 -- the lines of each symbol, one after another: those of its session, with the symbol before each
-abbrev pub session_lines : List (List ℕ) → List SymbolSession → List ℕ
+abbrev pub session_lines : List (List ℕ) → List Session → List ℕ
 session_lines [] sessions = []
 session_lines (symbol ∷ symbols) [] = []
 session_lines (symbol ∷ symbols) (session ∷ sessions) =
@@ -42,7 +42,7 @@ session_lines (symbol ∷ symbols) (session ∷ sessions) =
 pub record AreJudgedSessions (phases : List Phase) (table : Bool) (entries : List OrderRecord)
     (trades : List TradeRecord) (symbols : List (List ℕ)) (judged : JudgedSymbols)
     : Type 0 where
-  pub sessions : List SymbolSession
+  pub sessions : List Session
   pub sessions_are : AreSessions phases table entries trades symbols sessions
   pub counts_are : judged.counts ≡ session_counts sessions
   pub lines_are : judged.lines.items ≡ session_lines symbols sessions
@@ -50,7 +50,7 @@ pub record AreJudgedSessions (phases : List Phase) (table : Bool) (entries : Lis
 -- What functions pass on: one symbol after another.
 
 -- the counts with one session more
-abbrev pub with_session : DayCounts → SymbolSession → DayCounts
+abbrev pub with_session : DayCounts → Session → DayCounts
 with_session counts session = record {
   symbols = counts.symbols + 1;
   accepted = counts.accepted + (if session.conforms then 1 else 0);
@@ -58,7 +58,7 @@ with_session counts session = record {
 }
 
 -- One session more is counted and written.
-pub record AddsSession (old new : JudgedSymbols) (symbol : List ℕ) (session : SymbolSession)
+pub record AddsSession (old new : JudgedSymbols) (symbol : List ℕ) (session : Session)
     : Type 0 where
   pub counts_are : new.counts ≡ with_session old.counts session
   pub lines_are : new.lines.items ≡ old.lines.items ++ symbol_lines symbol session.text.items
@@ -66,8 +66,8 @@ pub record AddsSession (old new : JudgedSymbols) (symbol : List ℕ) (session : 
 -- The session of a symbol is counted and written.
 pub record AddsSessionOfSymbol (symbol : List ℕ) (phases : List Phase) (table : Bool) (count : ℕ)
     (symbol_trades : SymbolTrades) (old new : JudgedSymbols) : Type 0 where
-  pub one : SymbolSession
-  pub is : IsSessionOf symbol phases table count symbol_trades one
+  pub one : Session
+  pub is : IsSessionOfSymbol symbol phases table count symbol_trades one
   pub adds : AddsSession old new symbol one
 
 -- whatever records the day has, these are the counts and lines of the sessions of this many first

@@ -8,7 +8,7 @@ ghost use Rattle.day_verdicts.specs.DayVerdicts.{HasRoomForOne, IsNothingJudged}
 ghost use Rattle.record_verdict.specs.declared.scopes.Admission.TheVariants.{All as AdmitsAll};
 ghost use Rattle.session_audit.specs.Phases.{ArePhases};
 
-use crate::symbol_sessions::{SymbolSession, session_of};
+use crate::symbol_sessions::session_of;
 use audit_base::faults::NoMemory;
 use audit_base::names::Name;
 use day_report::day_line::DayCounts;
@@ -18,6 +18,7 @@ use day_trades::day_trades::EndedTrades;
 use day_trades::symbol_trades::SymbolTrades;
 use day_verdicts::day_verdicts::JudgedSymbols;
 use session_audit::phases::Phase;
+use session_verdict::sessions::Session;
 use std::alloc::Global;
 
 /// No symbols.
@@ -35,7 +36,7 @@ fn no_sessions(alloc: Global) -> JudgedSymbols
 }
 
 /// How many there are with one more.
-fn count_session(counts: &mut DayCounts, session: &SymbolSession)
+fn count_session(counts: &mut DayCounts, session: &Session)
     requires { HasRoomForOne counts.old }
     ensures { counts.new ≡ with_session counts.old session.now }
 {
@@ -48,11 +49,7 @@ fn count_session(counts: &mut DayCounts, session: &SymbolSession)
 }
 
 /// One symbol more, with its session.
-fn add_session(
-    judged: &mut JudgedSymbols,
-    symbol: &Name,
-    session: &SymbolSession,
-) -> Result<(), NoMemory>
+fn add_session(judged: &mut JudgedSymbols, symbol: &Name, session: &Session) -> Result<(), NoMemory>
     requires { HasRoomForOne judged.old.counts }
     ensures { OnOk result (AddsSession judged.old judged.new symbol.now session.now) }
 {

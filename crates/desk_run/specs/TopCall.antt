@@ -17,7 +17,6 @@ use Rattle.command_run.specs.Runs.{AnswersHeldLogs, AnswersTooLong, AnswersWithC
 use Rattle.day_logs.specs.declared.answers.DayQuestion.{DayQuestion}
 use Rattle.day_report.specs.declared.day_line.DayCounts.{DayCounts}
 use Rattle.day_report.specs.DayTexts.{day_line}
-use Rattle.day_sessions.specs.declared.symbol_sessions.SymbolSession.{SymbolSession}
 use Rattle.day_sessions.specs.JudgedSessions.{AreSessions, session_counts, session_lines}
 use Rattle.day_symbols.specs.Shares.{DayShare, symbols_in}
 use Rattle.day_symbols.specs.Symbols.{symbols_of_day}
@@ -33,6 +32,7 @@ use Rattle.log_verdict.specs.LogVerdicts.{Log, OfLogs}
 use Rattle.log_verdict.specs.Steps.{reading_within, FaultsNeverFall, KeepsShelfLogs, Reading}
 use Rattle.session_audit.specs.declared.phases.Phase.{Phase}
 use Rattle.session_audit.specs.Texts.{phases_text}
+use Rattle.session_verdict.specs.declared.sessions.Session.{Session as SymbolSession}
 use Rattle.desk_run.specs.Requests.{day_question, desk_command_of, share_or_whole}
 
 -- what a call of `desk` knows of a shelf: a log may have 34,359,738,368 bytes

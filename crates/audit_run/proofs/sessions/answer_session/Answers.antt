@@ -1,13 +1,13 @@
 use Rattle.std.proofs.Common.{refl}
 use Rattle.log_verdict.specs.Steps.{reading_by}
 use Rattle.record_verdict.specs.Scopes.{session_scope}
-use Rattle.audit_run.specs.Deciding.{request_to_judge_day}
+use Rattle.audit_run.specs.Deciding.{request_to_judge_session}
 use Rattle.audit_run.proofs.AnswerLemmas.{session-status}
 use Rattle.audit_run.proofs.sessions.answer_session.Goals as goal
 
 pub returns-in_ok-session_answer-in-Ok-clause-decides : goal.returns-in_ok-session_answer-in-Ok-clause-decides
 returns-in_ok-session_answer-in-Ok-clause-decides g c =
-    c.both_logs_decide.ensures.answers (request_to_judge_day c.args.symbol.now c.args.phases.now c.args.table c.args.orders.now c.args.trades.now) (session_scope c.args.symbol.now, c.in-Ok.given)
+    c.both_logs_decide.ensures.answers (request_to_judge_session c.args.symbol.now c.args.phases.now c.args.table c.args.orders.now c.args.trades.now) (session_scope c.args.symbol.now, c.in-Ok.given)
     (reading_by c.args.orders.now g.F.Shelf c.args.shelf.now c.read_both.new.shelf) c.args.orders.now c.args.trades.now _ _ c.in-Ok.ensures.later
     (record {
       starts = record { first = refl; second = λ bytes. refl };
@@ -18,5 +18,5 @@ returns-in_ok-session_answer-in-Ok-clause-decides g c =
 
 pub returns-in-Err-clause-decides : goal.returns-in-Err-clause-decides
 returns-in-Err-clause-decides g c =
-    c.both_logs_decide.ensures.stops (request_to_judge_day c.args.symbol.now c.args.phases.now c.args.table c.args.orders.now c.args.trades.now) (reading_by c.args.orders.now g.F.Shelf c.args.shelf.now c.read_both.new.shelf) c.args.orders.now c.args.trades.now c.in-Err.stop
+    c.both_logs_decide.ensures.stops (request_to_judge_session c.args.symbol.now c.args.phases.now c.args.table c.args.orders.now c.args.trades.now) (reading_by c.args.orders.now g.F.Shelf c.args.shelf.now c.read_both.new.shelf) c.args.orders.now c.args.trades.now c.in-Err.stop
     c.in-Err.ensures.later (record { first = refl; second = λ bytes. refl }) c.in-Err.ensures.decides

@@ -1,0 +1,2 @@
+-- What a reader must believe: the session of one symbol.
+pub mod Sessions
