@@ -374,7 +374,7 @@ module _ (symbol : List ℕ) (entries : List OrderRecord) where
   pub order_list-is : length entries < 2 ^ 32 → IsOrderList orders
   order_list-is small = record {
     rising = order_list-rising;
-    few = let le = orders-few in omega arith;
+    fits_indices = let le = orders-few in omega arith;
     targets = order_list-targets;
     resting = λ i t lt. (order-from i lt).fields.resting t;
   }

@@ -96,4 +96,4 @@ module _ (orders : List Order) (symbol : List ℕ) (trades : List TradeRecord) w
       let b = length-filter test (enumerate_from 1 trades) in
       let c = count_by-le-length test (enumerate_from 1 trades) in
       let e = length-enumerate_from 1 trades in
-      record { named = sound-names sound; rising = deals-rising; few = omega arith }
+      record { named = sound-names sound; rising = deals-rising; fits_indices = omega arith }

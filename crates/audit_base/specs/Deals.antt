@@ -17,6 +17,10 @@ quantity_traded_by order d = if names_order order d then d.quantity else 0
 abbrev pub traded : List Deal → ℕ → ℕ
 traded deals order = sum_by (quantity_traded_by order) deals
 
+-- of a list with a number for each order: the number at an index, or 0 past its end
+abbrev pub number_at : List ℕ → ℕ → ℕ
+number_at numbers order = slice_index_or numbers order 0
+
 -- the numbers are what each order of the list trades in these deals
 pub record AreTotals (orders : List Order) (deals : List Deal) (totals : List ℕ) : Type 0 where
   pub count : length totals ≡ length orders
@@ -53,7 +57,7 @@ pub record NamesOrders (orders : List Order) (d : Deal) : Type 0 where
 pub record IsDealList (orders : List Order) (deals : List Deal) : Type 0 where
   pub named : All (NamesOrders orders) deals
   pub rising : AllPairs (λ d e. d.place < e.place) deals
-  pub few : length deals < 2 ^ 32
+  pub fits_indices : length deals < 2 ^ 32
 
 -- what the numbers of a deal may be: a quantity from 1 to 10^12, and a price from 0 to 10^18 - 1
 pub record DealInRange (d : Deal) : Type 0 where

@@ -70,7 +70,7 @@ limit_at orders order = (order_at orders order).limit
 -- index of the same side, and the life of an order with a target is always Rests
 pub record IsOrderList (orders : List Order) : Type 0 where
   pub rising : AllPairs (λ first second. first.place < second.place) orders
-  pub few : length orders < 2 ^ 32
+  pub fits_indices : length orders < 2 ^ 32
   pub targets : (order target : ℕ) → order < length orders
       → (order_at orders order).target ≡ Some target
       → (target < order) × (side_at orders target ≡ side_at orders order)

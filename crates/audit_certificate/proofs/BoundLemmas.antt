@@ -39,8 +39,8 @@ above-more orders traded n price next o here o_is here_is here_most next_is so_f
       in_range = omega arith;
     }
 
-pub price-behind : (line : List ℕ) → 6 ≤ length line → price_in_text (before_comma (take (length line - 6) (drop 6 line))) ≡ named_price line
-price-behind line long =
+pub price-after : (line : List ℕ) → 6 ≤ length line → price_in_text (before_comma (take (length line - 6) (drop 6 line))) ≡ named_price line
+price-after line long =
     ap (λ (t : List ℕ). price_in_text (before_comma t)) (take_all (length line - 6) (drop 6 line) (omega (arith, length-drop 6 line)))
     ∙ sym (cond-false (nat_lt (length line) 6) (10 ^ 18) (price_in_text (before_comma (drop 6 line))) (le-ltb (length line) 6 long))
 

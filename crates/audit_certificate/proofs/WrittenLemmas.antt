@@ -22,9 +22,9 @@ use Rattle.audit_base.specs.Orders.{place_at, quantity_at}
 use Rattle.audit_base.specs.Deals.{traded, volume}
 use Rattle.audit_base.proofs.UnquotedLemmas.{price_is_unquoted}
 use Rattle.audit_certificate.specs.Texts.{head_text, bound_text, last_words, place_or_none, last_text, order_line_text}
-use Rattle.audit_certificate.specs.Lines.{is_line_end, ended_line, behind_size, behind_line, behind_lines, BeginsWith}
+use Rattle.audit_certificate.specs.Lines.{is_line_end, ended_line, after_size, after_line, after_lines, BeginsWith}
 use Rattle.audit_certificate.specs.Agreement.{IsHeadLine, IsBoundLine, IsLastOf, IsLastLine, IsOrderLine, IsOrderLineOrEnd, ShowsNoGreaterVolume, Agrees, order_lines_text, certificate_text}
-use Rattle.audit_certificate.proofs.LineLemmas.{behind-first, behind-both}
+use Rattle.audit_certificate.proofs.LineLemmas.{after-first, after-both}
 
 -- Texts with no line end.
 
@@ -47,11 +47,11 @@ one-name : (text : List ℕ) → list_all is_name_byte text ≡ true → IsOneLi
 one-name [] are = refl
 one-name (c ∷ text) are = and_from _ _ (name_byte-plain c (first_so (is_name_byte c) (list_all is_name_byte text) are)) (one-name text (second_so (is_name_byte c) (list_all is_name_byte text) are))
 
-one-digits : (most number : ℕ) (behind : List ℕ) → IsOneLine behind → IsOneLine (digits_onto most 10 false number behind)
-one-digits zero number behind are = are
-one-digits (suc most) number behind are =
-    let more : IsOneLine (digit_glyph false (number % 10) ∷ behind) = and_from _ _ (glyph (number % 10)) are in
-    cond_both (number / 10 == 0) _ _ IsOneLine (λ _. more) (λ _. one-digits most (number / 10) (digit_glyph false (number % 10) ∷ behind) more)
+one-digits : (most number : ℕ) (after : List ℕ) → IsOneLine after → IsOneLine (digits_onto most 10 false number after)
+one-digits zero number after are = are
+one-digits (suc most) number after are =
+    let more : IsOneLine (digit_glyph false (number % 10) ∷ after) = and_from _ _ (glyph (number % 10)) are in
+    cond_both (number / 10 == 0) _ _ IsOneLine (λ _. more) (λ _. one-digits most (number / 10) (digit_glyph false (number % 10) ∷ after) more)
   where
     glyph : (d : ℕ) → is_plain (digit_glyph false d) ≡ true
     glyph d = cond_both (nat_lt d 10) (48 + d) (87 + d) (λ c. is_plain c ≡ true) (λ _. ap not (ne_eqb (48 + d) 10 (λ e. absurd (omega arith)))) (λ _. ap not (ne_eqb (87 + d) 10 (λ e. absurd (omega arith))))
@@ -82,8 +82,8 @@ end-at text rest are =
 line-first : (text rest : List ℕ) → IsOneLine text → ended_line (text ++ 10 ∷ rest) ≡ Some text
 line-first text rest are = ap (option_map (λ size. take size (text ++ 10 ∷ rest))) (end-at text rest are) ∙ ap (λ (t : List ℕ). Some t) (take-append_seam text (10 ∷ rest))
 
-line-behind : (text rest : List ℕ) → IsOneLine text → behind_line (text ++ 10 ∷ rest) ≡ rest
-line-behind text rest are = ap (behind_size (text ++ 10 ∷ rest)) (end-at text rest are) ∙ drop-append-add text (10 ∷ rest) 1
+line-after : (text rest : List ℕ) → IsOneLine text → after_line (text ++ 10 ∷ rest) ≡ rest
+line-after text rest are = ap (after_size (text ++ 10 ∷ rest)) (end-at text rest are) ∙ drop-append-add text (10 ∷ rest) 1
 
 begins-written : (Test : List ℕ → Type 0) (text rest bytes : List ℕ) → IsOneLine text → bytes ≡ text ++ 10 ∷ rest → Test text → BeginsWith Test bytes
 begins-written Test text rest bytes are is passes = subst (λ (line : Option (List ℕ)). IsSomeAnd line Test) (sym (ap ended_line is ∙ line-first text rest are)) passes
@@ -125,22 +125,22 @@ module _ (orders : List Order) (deals : List Deal) where
   one-at i = one-order (place_at orders i) (traded deals i)
 
   -- behind the first k of them are those from k on
-  behind-orders : (k n from : ℕ) → from + n ≤ length orders → k ≤ n → behind_lines k (order_lines_text orders deals from n) ≡ order_lines_text orders deals (from + k) (n - k)
-  unfolding behind_lines
-  behind-orders zero n from inside le = let a : from ≡ from + 0 = omega arith in let b : n ≡ n - 0 = omega arith in (λ i. order_lines_text orders deals (a i) (b i))
-  behind-orders (suc k) zero from inside le = absurd (omega arith)
-  behind-orders (suc k) (suc n) from inside le =
+  after-orders : (k n from : ℕ) → from + n ≤ length orders → k ≤ n → after_lines k (order_lines_text orders deals from n) ≡ order_lines_text orders deals (from + k) (n - k)
+  unfolding after_lines
+  after-orders zero n from inside le = let a : from ≡ from + 0 = omega arith in let b : n ≡ n - 0 = omega arith in (λ i. order_lines_text orders deals (a i) (b i))
+  after-orders (suc k) zero from inside le = absurd (omega arith)
+  after-orders (suc k) (suc n) from inside le =
       let a : from + 1 + k ≡ from + suc k = omega arith in
       let b : n - k ≡ suc n - suc k = omega arith in
-      behind-first k (order_lines_text orders deals from (suc n))
-      ∙ ap (behind_lines k) (ap behind_line (order-cons orders deals from n) ∙ line-behind (order_line_text (place_at orders from) (traded deals from)) (order_lines_text orders deals (from + 1) n) (one-at from))
-      ∙ behind-orders k n (from + 1) (omega arith) (omega arith)
+      after-first k (order_lines_text orders deals from (suc n))
+      ∙ ap (after_lines k) (ap after_line (order-cons orders deals from n) ∙ line-after (order_line_text (place_at orders from) (traded deals from)) (order_lines_text orders deals (from + 1) n) (one-at from))
+      ∙ after-orders k n (from + 1) (omega arith) (omega arith)
       ∙ (λ i. order_lines_text orders deals (a i) (b i))
 
-  order-passes : ((i : ℕ) → i < length orders → traded deals i ≤ quantity_at orders i) → (k : ℕ) → k ≤ length orders → (rest : List ℕ) → rest ≡ behind_lines k (order_lines_text orders deals 0 (length orders)) → IsOrderLineOrEnd orders deals k rest
+  order-passes : ((i : ℕ) → i < length orders → traded deals i ≤ quantity_at orders i) → (k : ℕ) → k ≤ length orders → (rest : List ℕ) → rest ≡ after_lines k (order_lines_text orders deals 0 (length orders)) → IsOrderLineOrEnd orders deals k rest
   order-passes within k le rest rest_is =
       let zero_k : 0 + k ≡ k = omega arith in
-      let at : rest ≡ order_lines_text orders deals k (length orders - k) = rest_is ∙ behind-orders k (length orders) 0 (omega arith) le ∙ ap (λ (i : ℕ). order_lines_text orders deals i (length orders - k)) zero_k in
+      let at : rest ≡ order_lines_text orders deals k (length orders - k) = rest_is ∙ after-orders k (length orders) 0 (omega arith) le ∙ ap (λ (i : ℕ). order_lines_text orders deals i (length orders - k)) zero_k in
       record {
         line = λ lt.
             let more : length orders - k ≡ suc (length orders - k - 1) = omega arith in
@@ -195,30 +195,30 @@ module _ (the_rule : VolumeRule) (symbol : List ℕ) (orders : List Order) (deal
   whole : bytes ≡ head_line ++ 10 ∷ (bound_line ++ 10 ∷ (bid_line ++ 10 ∷ (ask_line ++ 10 ∷ rest)))
   whole = four-lines head_line bound_line bid_line ask_line rest
 
-  rest1 : behind_lines 1 bytes ≡ bound_line ++ 10 ∷ (bid_line ++ 10 ∷ (ask_line ++ 10 ∷ rest))
-  unfolding behind_lines
-  rest1 = ap behind_line whole ∙ line-behind head_line (bound_line ++ 10 ∷ (bid_line ++ 10 ∷ (ask_line ++ 10 ∷ rest))) (one-head the_rule symbol is.named)
+  rest1 : after_lines 1 bytes ≡ bound_line ++ 10 ∷ (bid_line ++ 10 ∷ (ask_line ++ 10 ∷ rest))
+  unfolding after_lines
+  rest1 = ap after_line whole ∙ line-after head_line (bound_line ++ 10 ∷ (bid_line ++ 10 ∷ (ask_line ++ 10 ∷ rest))) (one-head the_rule symbol is.named)
 
-  rest2 : behind_lines 2 bytes ≡ bid_line ++ 10 ∷ (ask_line ++ 10 ∷ rest)
-  unfolding behind_lines
-  rest2 = ap behind_line rest1 ∙ line-behind bound_line (bid_line ++ 10 ∷ (ask_line ++ 10 ∷ rest)) (one-bound price (volume deals) is.in_range)
+  rest2 : after_lines 2 bytes ≡ bid_line ++ 10 ∷ (ask_line ++ 10 ∷ rest)
+  unfolding after_lines
+  rest2 = ap after_line rest1 ∙ line-after bound_line (bid_line ++ 10 ∷ (ask_line ++ 10 ∷ rest)) (one-bound price (volume deals) is.in_range)
 
-  rest3 : behind_lines 3 bytes ≡ ask_line ++ 10 ∷ rest
-  unfolding behind_lines
-  rest3 = ap behind_line rest2 ∙ line-behind bid_line (ask_line ++ 10 ∷ rest) (one-last Buy (option_map (place_at orders) bid))
+  rest3 : after_lines 3 bytes ≡ ask_line ++ 10 ∷ rest
+  unfolding after_lines
+  rest3 = ap after_line rest2 ∙ line-after bid_line (ask_line ++ 10 ∷ rest) (one-last Buy (option_map (place_at orders) bid))
 
-  rest4 : behind_lines 4 bytes ≡ rest
-  unfolding behind_lines
-  rest4 = ap behind_line rest3 ∙ line-behind ask_line rest (one-last Sell (option_map (place_at orders) ask))
+  rest4 : after_lines 4 bytes ≡ rest
+  unfolding after_lines
+  rest4 = ap after_line rest3 ∙ line-after ask_line rest (one-last Sell (option_map (place_at orders) ask))
 
   pub agrees-written : Agrees the_rule symbol orders deals bytes
-  unfolding behind_lines
+  unfolding after_lines
   agrees-written zero le = tt
   agrees-written (suc zero) le = begins-written (IsHeadLine the_rule symbol orders deals) head_line (bound_line ++ 10 ∷ (bid_line ++ 10 ∷ (ask_line ++ 10 ∷ rest))) bytes (one-head the_rule symbol is.named) whole is.head
-  agrees-written (suc (suc zero)) le = begins-written (IsBoundLine the_rule orders (volume deals)) bound_line (bid_line ++ 10 ∷ (ask_line ++ 10 ∷ rest)) (behind_lines 1 bytes) (one-bound price (volume deals) is.in_range) rest1
+  agrees-written (suc (suc zero)) le = begins-written (IsBoundLine the_rule orders (volume deals)) bound_line (bid_line ++ 10 ∷ (ask_line ++ 10 ∷ rest)) (after_lines 1 bytes) (one-bound price (volume deals) is.in_range) rest1
       (record { price = price; in_range = is.in_range; text_is = refl; shows = is.shows })
-  agrees-written (suc (suc (suc zero))) le = begins-written (IsLastLine orders deals Buy) bid_line (ask_line ++ 10 ∷ rest) (behind_lines 2 bytes) (one-last Buy (option_map (place_at orders) bid)) rest2
+  agrees-written (suc (suc (suc zero))) le = begins-written (IsLastLine orders deals Buy) bid_line (ask_line ++ 10 ∷ rest) (after_lines 2 bytes) (one-last Buy (option_map (place_at orders) bid)) rest2
       (record { last = bid; is_last = is.last_bid; text_is = refl })
-  agrees-written (suc (suc (suc (suc zero)))) le = begins-written (IsLastLine orders deals Sell) ask_line rest (behind_lines 3 bytes) (one-last Sell (option_map (place_at orders) ask)) rest3
+  agrees-written (suc (suc (suc (suc zero)))) le = begins-written (IsLastLine orders deals Sell) ask_line rest (after_lines 3 bytes) (one-last Sell (option_map (place_at orders) ask)) rest3
       (record { last = ask; is_last = is.last_ask; text_is = refl })
-  agrees-written (suc (suc (suc (suc (suc k))))) le = order-passes orders deals is.within k (omega arith) (behind_lines (4 + k) bytes) (sym (behind-both 4 k bytes) ∙ ap (behind_lines k) rest4)
+  agrees-written (suc (suc (suc (suc (suc k))))) le = order-passes orders deals is.within k (omega arith) (after_lines (4 + k) bytes) (sym (after-both 4 k bytes) ∙ ap (after_lines k) rest4)

@@ -11,17 +11,17 @@ abbrev pub ended_line : List ℕ → Option (List ℕ)
 ended_line text = option_map (λ size. take size text) (position is_line_end text)
 
 -- what is after the first line
-abbrev pub behind_size : List ℕ → Option ℕ → List ℕ
-behind_size text None = []
-behind_size text (Some size) = drop (size + 1) text
+abbrev pub after_size : List ℕ → Option ℕ → List ℕ
+after_size text None = []
+after_size text (Some size) = drop (size + 1) text
 
-abbrev pub behind_line : List ℕ → List ℕ
-behind_line text = behind_size text (position is_line_end text)
+abbrev pub after_line : List ℕ → List ℕ
+after_line text = after_size text (position is_line_end text)
 
 -- what is after the first n lines
-unfoldable pub behind_lines : ℕ → List ℕ → List ℕ
-behind_lines zero text = text
-behind_lines (suc n) text = behind_line (behind_lines n text)
+unfoldable pub after_lines : ℕ → List ℕ → List ℕ
+after_lines zero text = text
+after_lines (suc n) text = after_line (after_lines n text)
 
 -- a text begins with a line that is ended and passes the test
 abbrev pub BeginsWith : (List ℕ → Type 0) → List ℕ → Type 0

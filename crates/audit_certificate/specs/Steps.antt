@@ -7,19 +7,19 @@ use Rattle.audit_base.specs.declared.orders.Order.{Order}
 use Rattle.audit_base.specs.declared.orders.Deal.{Deal}
 use Rattle.audit_base.specs.Orders.{IsOrderList}
 use Rattle.audit_base.specs.Deals.{AreTotals}
-use Rattle.audit_certificate.specs.Lines.{behind_line, BeginsWith}
+use Rattle.audit_certificate.specs.Lines.{after_line, BeginsWith}
 use Rattle.audit_certificate.specs.Agreement.{IsHeadLine, IsBoundLine, IsLastLine}
 
 -- the text begins with a line that passes, and this is what is after it
-pub record IsBehind (Test : List ℕ → Type 0) (bytes rest : List ℕ) : Type 0 where
+pub record IsAfter (Test : List ℕ → Type 0) (bytes rest : List ℕ) : Type 0 where
   pub begins : BeginsWith Test bytes
-  pub rest_is : rest ≡ behind_line bytes
+  pub rest_is : rest ≡ after_line bytes
   pub shorter : length rest ≤ length bytes
 
 -- line 1 passes under this rule, or is refused under each
-abbrev pub IsBehindHead : List ℕ → List Order → List Deal → List ℕ → VolumeRule → List ℕ → Type 0
-IsBehindHead symbol orders deals bytes the_rule rest =
-    IsBehind (IsHeadLine the_rule symbol orders deals) bytes rest
+abbrev pub IsAfterHead : List ℕ → List Order → List Deal → List ℕ → VolumeRule → List ℕ → Type 0
+IsAfterHead symbol orders deals bytes the_rule rest =
+    IsAfter (IsHeadLine the_rule symbol orders deals) bytes rest
 
 pub record IsRefusedHead (symbol : List ℕ) (orders : List Order) (deals : List Deal)
     (bytes : List ℕ) (number : ℕ) : Type 0 where
@@ -28,9 +28,9 @@ pub record IsRefusedHead (symbol : List ℕ) (orders : List Order) (deals : List
       → BeginsWith (IsHeadLine the_rule symbol orders deals) bytes → ⊥
 
 -- line 2 passes, or is refused
-abbrev pub IsBehindBound : VolumeRule → List Order → ℕ → List ℕ → List ℕ → Type 0
-IsBehindBound the_rule orders reached bytes rest =
-    IsBehind (IsBoundLine the_rule orders reached) bytes rest
+abbrev pub IsAfterBound : VolumeRule → List Order → ℕ → List ℕ → List ℕ → Type 0
+IsAfterBound the_rule orders reached bytes rest =
+    IsAfter (IsBoundLine the_rule orders reached) bytes rest
 
 pub record IsRefusedBound (the_rule : VolumeRule) (orders : List Order) (reached : ℕ)
     (bytes : List ℕ) (number : ℕ) : Type 0 where
@@ -43,9 +43,9 @@ last_line_number Buy = 3
 last_line_number Sell = 4
 
 -- line 3 or 4 passes, or not, whichever deals the numbers are of
-abbrev pub IsBehindLast : List Order → List ℕ → Side → List ℕ → List ℕ → Type 0
-IsBehindLast orders traded side bytes rest = (deals : List Deal) → IsOrderList orders
-    → AreTotals orders deals traded → IsBehind (IsLastLine orders deals side) bytes rest
+abbrev pub IsAfterLast : List Order → List ℕ → Side → List ℕ → List ℕ → Type 0
+IsAfterLast orders traded side bytes rest = (deals : List Deal) → IsOrderList orders
+    → AreTotals orders deals traded → IsAfter (IsLastLine orders deals side) bytes rest
 
 pub record IsRefusedLast (orders : List Order) (traded : List ℕ) (side : Side)
     (bytes : List ℕ) (number : ℕ) : Type 0 where

@@ -147,7 +147,7 @@ pub fn least_price(
     orders: &OrderList<'_>,
     traded: &[u128],
 ) -> Result<u64, NoMemory>
-    requires fits_places { length orders.now < 2 ^ 32 }
+    requires fits_indices { length orders.now < 2 ^ 32 }
     requires count { length traded.now ≡ length orders.now }
     ensures price { IfOk result (bound.IsCertificatePrice rule orders.now traded.now) }
     ensures in_range { IfOk result (λ price. price ≤ 10 ^ 18) }

@@ -8,7 +8,7 @@ ghost use Rattle.audit_certificate.specs.OrderLines as spec;
 ghost use Rattle.audit_certificate.specs.Texts.{order_line_text};
 
 use super::faults::VerifyFault;
-use super::lines::{behind_line, first_line};
+use super::lines::{after_line, first_line};
 use super::texts::{append, append_order};
 use audit_base::faults::NoMemory;
 use order_list::lists::OrderList;
@@ -50,7 +50,7 @@ fn is_order_line(
 }
 
 /// Whether the text begins with the line of the order at the index; what is behind it if so.
-fn behind_order<'a>(
+fn after_order<'a>(
     alloc: Global,
     orders: &OrderList<'_>,
     traded: &[u128],
@@ -60,14 +60,14 @@ fn behind_order<'a>(
 ) -> Result<Option<&'a [u8]>, NoMemory>
     requires inside { index < length orders.now }
     requires count { length traded.now ≡ length orders.now }
-    ensures { IfOk result (λ behind. let found = option_map (λ b. b.now) behind in
-        spec.IsBehindOrderOrNone orders.now traded.now index rest.now found) }
+    ensures { IfOk result (λ after. let found = option_map (λ b. b.now) after in
+        spec.IsAfterOrderOrNone orders.now traded.now index rest.now found) }
 {
     let Some(line) = first_line(rest) else {
         return Ok(None);
     };
     if is_order_line(alloc, orders, traded, index, line, text)? {
-        Ok(Some(behind_line(rest, line)))
+        Ok(Some(after_line(rest, line)))
     } else {
         Ok(None)
     }
@@ -89,10 +89,10 @@ pub fn check_order_lines(
 {
     let mut rest = bytes;
     for index in 0..orders.len() {
-        let Some(behind) = behind_order(alloc, orders, traded, index, rest, text)? else {
+        let Some(after) = after_order(alloc, orders, traded, index, rest, text)? else {
             return Err(VerifyFault::No(5 + index as u32));
         };
-        rest = behind;
+        rest = after;
     }
     if rest.is_empty() {
         Ok(())

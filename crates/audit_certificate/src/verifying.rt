@@ -16,7 +16,7 @@ use super::faults::VerifyFault;
 use super::heads::head_rule;
 use super::last_orders::is_last_line;
 use super::laws::certificate_soundness;
-use super::lines::{behind_line, first_line};
+use super::lines::{after_line, first_line};
 use super::order_lines::check_order_lines;
 use audit_base::faults::NoMemory;
 use audit_base::names::Name;
@@ -35,7 +35,7 @@ fn check_head<'a>(
 ) -> Result<(VolumeRule, &'a [u8]), VerifyFault>
     requires { IsDealList orders.now deals.now }
     ensures passed { IfOk result (λ p.
-        step.IsBehindHead symbol.now orders.now deals.now bytes.now p.0 p.1.now) }
+        step.IsAfterHead symbol.now orders.now deals.now bytes.now p.0 p.1.now) }
     ensures refused { IfRefused result
         (step.IsRefusedHead symbol.now orders.now deals.now bytes.now) }
 {
@@ -44,7 +44,7 @@ fn check_head<'a>(
     };
     match head_rule(symbol, orders, deals, line, text)? {
         None => Err(VerifyFault::No(1)),
-        Some(rule) => Ok((rule, behind_line(bytes, line))),
+        Some(rule) => Ok((rule, after_line(bytes, line))),
     }
 }
 
@@ -59,14 +59,14 @@ fn check_bound<'a>(
 ) -> Result<&'a [u8], VerifyFault>
     requires { length orders.now < 2 ^ 32 }
     ensures passed { IfOk result (λ rest.
-        step.IsBehindBound rule orders.now volume bytes.now rest.now) }
+        step.IsAfterBound rule orders.now volume bytes.now rest.now) }
     ensures refused { IfRefused result (step.IsRefusedBound rule orders.now volume bytes.now) }
 {
     let Some(line) = first_line(bytes) else {
         return Err(VerifyFault::No(2));
     };
     if is_bound_line(alloc, rule, orders, volume, line, text)? {
-        Ok(behind_line(bytes, line))
+        Ok(after_line(bytes, line))
     } else {
         Err(VerifyFault::No(2))
     }
@@ -93,7 +93,7 @@ fn check_last<'a>(
 ) -> Result<&'a [u8], VerifyFault>
     requires { length traded.now ≡ length orders.now }
     ensures passed { IfOk result (λ rest.
-        step.IsBehindLast orders.now traded.now side bytes.now rest.now) }
+        step.IsAfterLast orders.now traded.now side bytes.now rest.now) }
     ensures refused { IfRefused result (step.IsRefusedLast orders.now traded.now side bytes.now) }
 {
     let number = last_line_number(side);
@@ -101,7 +101,7 @@ fn check_last<'a>(
         return Err(VerifyFault::No(number));
     };
     if is_last_line(alloc, orders, traded, side, line, text)? {
-        Ok(behind_line(bytes, line))
+        Ok(after_line(bytes, line))
     } else {
         Err(VerifyFault::No(number))
     }

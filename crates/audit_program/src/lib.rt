@@ -37,7 +37,7 @@ fn answer_words<R: CommandLine + AllocGlobal + RandomSource, F: Shelf, K: Sink>(
     shelf: &mut F,
     out: &mut K,
 ) -> Status
-    ensures { AnswersCommandLine (AuditorAnswersWords F.Shelf) status.Memory (R.told rt.now)
+    ensures { AnswersCommandLine (AuditorAnswersWords F.Shelf) status.Memory (R.known_words rt.now)
         (record { shelf = shelf.old; sink = K.state out.old })
         (record { shelf = shelf.new; sink = K.state out.new }) result }
 {
@@ -55,7 +55,7 @@ fn run_over<R: CommandLine + AllocGlobal + RandomSource, S: FileSystem + Drop, W
 ) -> Ran<S, W>
     ensures { let shelf = ⟦<NotedShelf<FileShelf<S>> as Shelf>⟧ in
         let state = ⟦<NotedSink<StdSink<W>> as Sink>⟧.state in
-        AnswersFrom (AuditorAnswersWords shelf) status.Memory (R.told rt.now)
+        AnswersFrom (AuditorAnswersWords shelf) status.Memory (R.known_words rt.now)
         (BeginsOver shelf (S.tells files) (S.file_at files) (W.contents output))
         (record { shelf = result.shelf; sink = state result.out }) result.status }
 {

@@ -40,7 +40,7 @@ use log_verdict::sources::Source;
 use log_verdict::stops::Stop;
 use maximum_audit::expecting::greatest_matching;
 use order_list::lists::OrderList;
-use record_verdict::judging::call_finding;
+use record_verdict::judging::instant_finding_of_rule;
 use record_verdict::laws::sound_trades_have_verdict;
 use std::alloc::Global;
 use std::marker::Brand;
@@ -127,7 +127,7 @@ fn answer_records<S: AuditedSymbol>(
         Err(finding) => return finding_answer(alloc, finding),
     };
     let orders = history.orders();
-    match call_finding(rule, &orders) {
+    match instant_finding_of_rule(rule, &orders) {
         Some(finding) => finding_answer(alloc, finding),
         None => Ok(done_answer(expected_log(alloc, rule, symbol, &orders)?)),
     }

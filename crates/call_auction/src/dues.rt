@@ -32,7 +32,7 @@ fn quantity_ahead(order: &ListedOrder<'_>, other: &ListedOrder<'_>) -> u64
 
 /// The quantity of all orders that are ahead of the one at this index.
 fn ahead_of(orders: &OrderList<'_>, index: usize) -> u128
-    requires fits_places { length orders.now < 2 ^ 32 }
+    requires fits_indices { length orders.now < 2 ^ 32 }
     requires inside { index < length orders.now }
     ensures { result
         ≡ units.total_quantity_ahead orders.now (order_at orders.now index).side index }
@@ -48,7 +48,7 @@ fn ahead_of(orders: &OrderList<'_>, index: usize) -> u128
 /// What the order at this index trades where the volume fills the orders of its side by rank: the
 /// smaller of its quantity and what the better ones leave of the volume.
 pub(crate) fn due_of(orders: &OrderList<'_>, index: usize, volume: u128) -> u128
-    requires fits_places { length orders.now < 2 ^ 32 }
+    requires fits_indices { length orders.now < 2 ^ 32 }
     requires inside { index < length orders.now }
     ensures { let side = (order_at orders.now index).side in
         result ≡ units.due_by_rank orders.now side volume index }

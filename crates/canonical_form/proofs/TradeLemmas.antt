@@ -87,7 +87,7 @@ module _ (orders : List Order) (symbol : List ℕ) (deals : List Deal) where
           let first : (trade_at listed j).trade ≡ 84 ∷ decimal (1 + j) = ap (λ (e : ℕ × TradeRecord). e.1.trade) (listed-is j trade_past_end (omega arith)) in
           let second : (trade_at listed k).trade ≡ 84 ∷ decimal (1 + k) = ap (λ (e : ℕ × TradeRecord). e.1.trade) (listed-is k trade_past_end lt) in
           let digits : decimal (1 + j) ≡ decimal (1 + k) = cc in
-          let few = list.few in
+          let few = list.fits_indices in
           let e : 1 + j ≡ 1 + k = decimal_injective (1 + j) (1 + k) (omega arith) (omega arith) digits in
           absurd (omega arith)
     ]

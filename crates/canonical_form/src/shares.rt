@@ -55,7 +55,7 @@ fn merge_part(shares: &mut Vec<Share>, share: Share, part: DealPart) -> Result<S
 
 /// One share for all parts of a pair.
 fn merge_parts(alloc: Global, parts: &[DealPart]) -> Result<Vec<Share>, NoMemory>
-    requires fits_places { length parts.now < 2 ^ 32 }
+    requires fits_indices { length parts.now < 2 ^ 32 }
     requires each { All IsPartOfDeal parts.now }
     requires sorted { IsSorted part_cmp parts.now }
     ensures { IfOk result (λ shares. AreMergedShares parts.now shares.items) }
@@ -76,7 +76,7 @@ fn merge_parts(alloc: Global, parts: &[DealPart]) -> Result<Vec<Share>, NoMemory
 /// in order of the bid, then of the ask. Two lists of deals that trade the same with each pair
 /// give the same shares.
 pub fn canonical(alloc: Global, deals: &[Deal]) -> Result<Vec<Share>, NoMemory>
-    requires fits_places { length deals.now < 2 ^ 32 }
+    requires fits_indices { length deals.now < 2 ^ 32 }
     ensures { IfOk result (λ shares. AreShares deals.now shares.items) }
 {
     let parts = sort_parts(alloc, deals)?;

@@ -34,8 +34,8 @@ CasebookAnswers shelf words old new status =
 -- started, and a sink that holds what the output holds
 abbrev pub CasebookBegins : {S : Type 0} → Shelf S → Bool → (List ℕ → Option (List ℕ))
     → Option (List ℕ) → OpenerState → CasebookEnds S → Type 0
-CasebookBegins shelf told file_at held opener ends =
-    IsFreshOver shelf told file_at ends.shelf × (ends.opener ≡ opener)
+CasebookBegins shelf known_words file_at held opener ends =
+    IsFreshOver shelf known_words file_at ends.shelf × (ends.opener ≡ opener)
     × (ends.sink ≡ fresh_sink held)
 
 -- such a shelf and such a sink over files and an output of which nothing is known, as those of

@@ -34,19 +34,19 @@ pub(crate) fn open_when_free(rt: &HostRuntime, path: &str) -> Result<Files<File>
 
 /// Where a database that is open is, and which file it is.
 #[derive(Drop)]
-pub(crate) struct Place {
+pub(crate) struct DatabasePlace {
     database: String,
     log: String,
     device: u64,
     number: u64,
 }
 
-impl Place {
+impl DatabasePlace {
     /// Where the database under this path is, with no link in its path.
-    pub(crate) fn of(rt: &HostRuntime, path: &str) -> io::Result<Place> {
+    pub(crate) fn of(rt: &HostRuntime, path: &str) -> io::Result<DatabasePlace> {
         let real = fs::canonicalize(rt, path)?;
         let found = fs::symlink_metadata(rt, real.as_str())?;
-        Ok(Place {
+        Ok(DatabasePlace {
             database: String::from_str(rt.alloc(), real.as_str())?,
             log: format!(in rt.alloc(); "{}-wal", real.as_str())?,
             device: found.dev(),

@@ -6,7 +6,7 @@ ghost use Rattle.case_sqlite.specs.SqlKeepers.{sql_state};
 ghost use Rattle.command_words.specs.WordForms.{is_path};
 
 use crate::closing::Closing;
-use crate::database_files::{Place, open_when_free};
+use crate::database_files::{DatabasePlace, open_when_free};
 use case_keeper::keeper::KeepFault;
 use case_run::opener::Opener;
 use case_sqlite::faults::fault_of;
@@ -35,7 +35,7 @@ pub struct FileOpener {
     rt: HostRuntime,
     faults: u64,
     // Where the database is that was opened last, if there was memory for it.
-    place: Option<Place>,
+    place: Option<DatabasePlace>,
 }
 
 /// The fault of an opener that the system refused the files of a database.
@@ -94,7 +94,7 @@ fn open_keeper(rt: &HostRuntime, path: &str) -> Result<SqlKeeper<FileStore<File>
         Ok(connection) => Ok(SqlKeeper::new(rt.alloc(), connection)),
         Err((error, left)) => {
             let files = left.into_files();
-            if let Ok(place) = Place::of(rt, path) {
+            if let Ok(place) = DatabasePlace::of(rt, path) {
                 place.remove_empty_log(rt);
             }
             drop(files);
@@ -129,7 +129,7 @@ impl Opener for FileOpener {
     {
         match open_keeper(&self.rt, path) {
             Ok(keeper) => {
-                self.place = Place::of(&self.rt, path).ok();
+                self.place = DatabasePlace::of(&self.rt, path).ok();
                 Ok(keeper)
             }
             Err(fault) => {

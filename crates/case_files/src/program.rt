@@ -41,7 +41,7 @@ fn answer_words<R: CommandLine + AllocGlobal + RandomSource, F: Shelf, K: Sink, 
     out: &mut K,
     opener: &mut O,
 ) -> CaseStatus
-    ensures { AnswersCommandLine (CasebookAnswers F.Shelf) status.Memory (R.told rt.now)
+    ensures { AnswersCommandLine (CasebookAnswers F.Shelf) status.Memory (R.known_words rt.now)
         (record { shelf = shelf.old; opener = O.state opener.old; sink = K.state out.old })
         (record { shelf = shelf.new; opener = O.state opener.new; sink = K.state out.new })
         result }
@@ -71,7 +71,7 @@ fn run_over<
 >(rt: &R, files: S, output: W, opener: &mut O) -> RunEnds<S, W>
     ensures { let shelf = ⟦<NotedShelf<FileShelf<S>> as Shelf>⟧ in
         let state = ⟦<NotedSink<StdSink<W>> as Sink>⟧.state in
-        AnswersFrom (CasebookAnswers shelf) status.Memory (R.told rt.now)
+        AnswersFrom (CasebookAnswers shelf) status.Memory (R.known_words rt.now)
         (CasebookBegins shelf (S.tells files) (S.file_at files) (W.contents output)
         (O.state opener.old))
         (record { shelf = result.shelf; opener = O.state opener.new; sink = state result.out })

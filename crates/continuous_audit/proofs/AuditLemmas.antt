@@ -8,7 +8,7 @@ use Rattle.audit_base.specs.declared.terms.Side.TheVariants.{Buy, Sell}
 use Rattle.audit_base.specs.declared.orders.Order.{Order}
 use Rattle.audit_base.specs.declared.orders.Deal.{Deal}
 use Rattle.audit_base.specs.Orders.{place_at, IsOrderList}
-use Rattle.audit_base.specs.Deals.{AreTotals, names_order, traded, quantity_traded_by, IsDealList}
+use Rattle.audit_base.specs.Deals.{AreTotals, names_order, traded, quantity_traded_by, IsDealList, number_at}
 use Rattle.audit_base.specs.Continuous.{cause, traded_before}
 use Rattle.audit_base.specs.ContinuousRules.{ConformsAt, ConformsContinuous}
 use Rattle.audit_base.proofs.OrderLemmas.{place-rises}
@@ -17,7 +17,7 @@ use Rattle.audit_base.proofs.ContinuousOffenceLemmas.{late-conforms}
 use Rattle.order_book.specs.declared.books.Resting.{Resting}
 use Rattle.continuous_audit.specs.declared.books.BooksSoFar.{BooksSoFar}
 use Rattle.continuous_audit.specs.declared.incoming_deals.IncomingDeal.{IncomingDeal}
-use Rattle.continuous_audit.specs.declared.endings.Ending.{Ending}
+use Rattle.continuous_audit.specs.declared.endings.OrderEnd.{OrderEnd}
 use Rattle.continuous_audit.specs.declared.market.Market.{Market}
 use Rattle.continuous_audit.specs.declared.state.State.{State}
 use Rattle.continuous_audit.specs.Markets.{IsMarket}
@@ -28,12 +28,12 @@ use Rattle.continuous_audit.specs.Endings.{AreEndings}
 use Rattle.continuous_audit.specs.Holding.{IsListOfAmounts, resting_left_before}
 use Rattle.continuous_audit.specs.Progress.{IsFirstState, IsReadyAt}
 use Rattle.continuous_audit.specs.Records.{AreChainTradedNumbers, AreLeftBefore, AreSizes, ConformsAndIsUncrossed}
-use Rattle.continuous_audit.specs.Scans.{AreRunningTotals, IsSplitAt, number_in}
+use Rattle.continuous_audit.specs.Scans.{AreRunningTotals, IsSplitAt}
 use Rattle.continuous_audit.proofs.NumberLemmas.{traded-at}
 use Rattle.continuous_audit.proofs.RestLemmas.{resting_left-future}
 use Rattle.continuous_audit.proofs.VerdictLemmas.{calm-first}
 
-pub zero-in : (n x : ℕ) → number_in (replicate n 0) x ≡ 0
+pub zero-in : (n x : ℕ) → number_at (replicate n 0) x ≡ 0
 zero-in n x = elim (cases_lt x n) [
   | inl lt ↦ get_or-replicate {A = ℕ} n x 0 0 lt
   | inr ge ↦ get_or_past (replicate n 0) x 0 (omega (arith, length-replicate {A = ℕ} n 0))
@@ -58,10 +58,10 @@ module _ (orders : List Order) (list : IsOrderList orders) (deals : List Deal) w
   empty-hold books_so_far bare = record { bid_side = bare.bid_side; ask_side = bare.ask_side; bids = nothing-held Buy books_so_far.books.bids.resting bare.bids; asks = nothing-held Sell books_so_far.books.asks.resting bare.asks }
 
 -- a market, of the lists that the code has made
-pub market-read : (m : Market) (incoming_deals : List IncomingDeal) (endings : List Ending) → IsOrderList m.orders.now → IsDealList m.orders.now m.deals.now → m.incoming_deals.now ≡ incoming_deals → m.endings.now ≡ endings
+pub market-read : (m : Market) (incoming_deals : List IncomingDeal) (endings : List OrderEnd) → IsOrderList m.orders.now → IsDealList m.orders.now m.deals.now → m.incoming_deals.now ≡ incoming_deals → m.endings.now ≡ endings
     → AreIncomingDeals m.orders.now m.deals.now incoming_deals → AreEndings m.orders.now endings → IsMarket m
 market-read m incoming_deals endings list deal_list incoming_deals_are endings_are made ends = record {
-  list = list;
+  order_list = list;
   deal_list = deal_list;
   incoming_deals = subst (AreIncomingDeals m.orders.now m.deals.now) (sym incoming_deals_are) made;
   endings = subst (AreEndings m.orders.now) (sym endings_are) ends;
@@ -76,7 +76,7 @@ module _ (m : Market) (is : IsMarket m) where
 
   pub ready-first : (state : State) → IsFirstState (length orders) state → IsReadyAt m 0 (next_order_place orders 0) state
   ready-first state bare = record {
-    calm = calm-first orders deals (place_at orders 0) is.deal_list.named (first-place orders is.list deals);
+    calm = calm-first orders deals (place_at orders 0) is.deal_list.named (first-place orders is.order_list deals);
     known = record {
       chain_traded = subst (AreChainTradedNumbers orders deals 0) (sym bare.numbers.order_numbers.chain_traded) (record {
         count = length-replicate {A = ℕ} (length orders) 0;
@@ -97,7 +97,7 @@ module _ (m : Market) (is : IsMarket m) where
         split = subst (IsSplitAt m.incoming_deals.now 0) (sym bare.numbers.added) (record { early = λ i lt below. absurd (omega arith); late = λ i le below. omega arith });
       };
     };
-    books = empty-hold orders is.list deals state.books_so_far bare.books_so_far;
+    books = empty-hold orders is.order_list deals state.books_so_far bare.books_so_far;
     dropped = record { inside = let e = bare.books_so_far.start in omega arith; early = λ i lt below. let e = bare.books_so_far.start in absurd (omega arith) };
   }
 
@@ -108,7 +108,7 @@ module _ (m : Market) (is : IsMarket m) where
       let here : next_order_place orders (suc last) ≡ suc (place_at orders last) = cond-false (nat_lt (suc last) (length orders)) (place_at orders (suc last)) (suc (place_at orders last)) (le-ltb _ _ (omega arith)) in
       elim (cases_eq k last) [
         | inl same ↦ let f : place_at orders k ≡ place_at orders last = ap (place_at orders) same in omega arith
-        | inr ne ↦ let up = place-rises orders is.list k last (omega (arith, ne)) (omega arith) in omega arith
+        | inr ne ↦ let up = place-rises orders is.order_list k last (omega (arith, ne)) (omega arith) in omega arith
       ]
 
   pub end-conforms : (q : ℕ) → ((k : ℕ) → k < length orders → place_at orders k < q) → ConformsAndIsUncrossed orders deals q → ConformsContinuous orders deals
@@ -147,6 +147,6 @@ module _ (m : Market) (is : IsMarket m) where
     last-totals = record {
       count = ready.known.running.totals.count;
       each = λ x lt.
-          let t = traded-at orders is.list deals is.deal_list m.incoming_deals.now is.incoming_deals q (length orders) state.numbers.running.added state.numbers.running.traded.items ready.known.running.split ready.known.running.totals (λ k inside below. below-ready (length orders) refl k inside) (λ k inside le. absurd (omega arith)) in
+          let t = traded-at orders is.order_list deals is.deal_list m.incoming_deals.now is.incoming_deals q (length orders) state.numbers.running.added state.numbers.running.traded.items ready.known.running.split ready.known.running.totals (λ k inside below. below-ready (length orders) refl k inside) (λ k inside le. absurd (omega arith)) in
           t.is x lt ∙ all-traded q (below-ready (length orders) refl) x;
     }

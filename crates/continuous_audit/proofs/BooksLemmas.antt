@@ -13,7 +13,7 @@ use Rattle.audit_base.specs.Continuous.{traded_before, uncancelled_before, resti
 use Rattle.audit_base.proofs.OrderLemmas.{not_both_sides, place-rises}
 use Rattle.order_book.specs.declared.books.Resting.{Resting}
 use Rattle.order_book.specs.Books.{with_order}
-use Rattle.continuous_audit.specs.declared.endings.Ending.{Ending}
+use Rattle.continuous_audit.specs.declared.endings.OrderEnd.{OrderEnd}
 use Rattle.continuous_audit.specs.declared.books.Books.{Books}
 use Rattle.continuous_audit.specs.Books.{AreBooksOfAmounts, AreBooksBelow, books_with_order, book_list, books_with_list}
 use Rattle.continuous_audit.specs.Endings.{AreEndings, amount_without, ending_place_at}
@@ -80,7 +80,7 @@ module _ (orders : List Order) (list : IsOrderList orders) (deals : List Deal) (
   ]
 
   -- 2. The endings up to the record.
-  module _ (endings : List Ending) (are : AreEndings orders endings) (from at : ℕ) (early : (i : ℕ) → i < from → i < length endings → ending_place_at endings i < p) (between : (i : ℕ) → from ≤ i → i < at → ending_place_at endings i < suc p)
+  module _ (endings : List OrderEnd) (are : AreEndings orders endings) (from at : ℕ) (early : (i : ℕ) → i < from → i < length endings → ending_place_at endings i < p) (between : (i : ℕ) → from ≤ i → i < at → ending_place_at endings i < suc p)
       (whole : at ≤ length endings) (next : at < length endings → suc p ≤ ending_place_at endings at) where
     pub after-endings : (b : Books) → AreBooksOfAmounts orders (amount_without endings from at (resting_left_after_deals orders deals p)) b → AreBooksOfAmounts orders others b
     after-endings b hold = hold-amounts orders (amount_without endings from at (resting_left_after_deals orders deals p)) others b (λ k inside.
@@ -130,7 +130,7 @@ module _ (orders : List Order) (list : IsOrderList orders) (deals : List Deal) (
 
   -- 4. The endings up to a place q before which no other order comes.
   module _ (q : ℕ) (le : suc p ≤ q) (next_order : (k : ℕ) → k < length orders → n < k → q ≤ place_at orders k)
-      (endings : List Ending) (are : AreEndings orders endings) (from at : ℕ) (early : (i : ℕ) → i < from → i < length endings → ending_place_at endings i < suc p) (between : (i : ℕ) → from ≤ i → i < at → ending_place_at endings i < q)
+      (endings : List OrderEnd) (are : AreEndings orders endings) (from at : ℕ) (early : (i : ℕ) → i < from → i < length endings → ending_place_at endings i < suc p) (between : (i : ℕ) → from ≤ i → i < at → ending_place_at endings i < q)
       (whole : at ≤ length endings) (next : at < length endings → q ≤ ending_place_at endings at) where
     pub before-next : (b : Books) → AreBooksOfAmounts orders (amount_without endings from at (resting_left_before orders past (suc p))) b → AreBooksOfAmounts orders (resting_left_before orders past q) b
     before-next b hold = hold-amounts orders (amount_without endings from at (resting_left_before orders past (suc p))) (resting_left_before orders past q) b (λ k inside.

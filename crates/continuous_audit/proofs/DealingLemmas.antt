@@ -9,7 +9,7 @@ use Rattle.audit_base.specs.declared.orders.Deal.{Deal}
 use Rattle.audit_base.specs.Least.{least_answer}
 use Rattle.audit_base.specs.Orders.{order_at, place_at, side_at, other_side, IsOrderList}
 use Rattle.audit_base.specs.Priority.{better}
-use Rattle.audit_base.specs.Deals.{deal_at, IsDealList}
+use Rattle.audit_base.specs.Deals.{deal_at, IsDealList, number_at}
 use Rattle.audit_base.specs.Continuous.{cause, resting_order, traded_before, left_after}
 use Rattle.audit_base.specs.ContinuousOffences.{resting_priority_finding}
 use Rattle.audit_base.proofs.LeastLemmas.{least-none, none-below, none_some}
@@ -18,7 +18,6 @@ use Rattle.order_book.specs.Books.{best_resting}
 use Rattle.continuous_audit.specs.declared.books.Books.{Books}
 use Rattle.continuous_audit.specs.Books.{AreBooksOfAmounts, book_list, books_with_list}
 use Rattle.continuous_audit.specs.Holding.{IsFilledInFront, IsRestingOn, IsWithinBook, after_fills, resting_left_before, resting_left_after_deals}
-use Rattle.continuous_audit.specs.Scans.{number_in}
 use Rattle.continuous_audit.proofs.RecordLemmas.{priority-away, priority-none, priority-found}
 use Rattle.continuous_audit.proofs.LeftLemmas.{within-left, after_fills-left, older}
 use Rattle.continuous_audit.proofs.BooksLemmas.{side-holds, after-deals}
@@ -28,7 +27,7 @@ list-with Buy xs b = refl
 list-with Sell xs b = refl
 
 module _ (orders : List Order) (list : IsOrderList orders) (deals : List Deal) (deal_list : IsDealList orders deals) (n : ℕ) (n_inside : n < length orders)
-    (left : List ℕ) (count : length left ≡ length orders) (is : (x : ℕ) → x < n → number_in left x ≡ left_after orders deals (place_at orders n) x)
+    (left : List ℕ) (count : length left ≡ length orders) (is : (x : ℕ) → x < n → number_at left x ≡ left_after orders deals (place_at orders n) x)
     (b : Books) (hold : AreBooksOfAmounts orders (resting_left_before orders (traded_before orders deals) (place_at orders n)) b) where
   abbrev p : ℕ
   p = place_at orders n
@@ -42,12 +41,12 @@ module _ (orders : List Order) (list : IsOrderList orders) (deals : List Deal) (
   pub within-asks : All (IsWithinBook left) b.asks.resting
   within-asks = within-left orders list deals n n_inside left count is Sell b.asks.resting hold.asks
 
-  module _ (side : Side) (side_is : side ≡ other_side (side_at orders n)) (new : Books) (new_is : new ≡ books_with_list side (after_fills (number_in left) (book_list side b)) b) where
+  module _ (side : Side) (side_is : side ≡ other_side (side_at orders n)) (new : Books) (new_is : new ≡ books_with_list side (after_fills (number_at left) (book_list side b)) b) where
     abbrev ys : List Resting
     ys = book_list side new
 
-    ys-is : ys ≡ after_fills (number_in left) (book_list side b)
-    ys-is = ap (book_list side) new_is ∙ list-with side (after_fills (number_in left) (book_list side b)) b
+    ys-is : ys ≡ after_fills (number_at left) (book_list side b)
+    ys-is = ap (book_list side) new_is ∙ list-with side (after_fills (number_at left) (book_list side b)) b
 
     pub after_fills-new : IsFilledInFront orders (other_side (side_at orders n)) now (resting_left_after_deals orders deals p) ys
     after_fills-new = subst (λ (t : Side). IsFilledInFront orders t now (resting_left_after_deals orders deals p) ys) side_is

@@ -19,7 +19,7 @@ use Rattle.audit_base.proofs.OffenceLemmas.{get_or-default}
 use Rattle.audit_base.specs.Priority.{better_limit}
 use Rattle.order_book.specs.declared.books.Resting.{Resting}
 use Rattle.order_book.specs.Books.{BookSide, has_index_and_limit, book_with_order, with_order, without_order}
-use Rattle.continuous_audit.specs.declared.endings.Ending.{Ending}
+use Rattle.continuous_audit.specs.declared.endings.OrderEnd.{OrderEnd}
 use Rattle.continuous_audit.specs.declared.books.Books.{Books}
 use Rattle.continuous_audit.specs.Books.{AreBooksOfAmounts, books_without_order, resting_count}
 use Rattle.continuous_audit.specs.Endings.{AreEndings, IsEnding, amount_without, ending_at, ending_cmp, endings_of, endings_below, ending_index_at, is_ended_between, ending_past_end, ending_place_at}
@@ -50,12 +50,12 @@ hold-amounts orders amount amount' b same h = record {
 }
 
 -- from the first on, before any
-pub standing-first : (orders : List Order) (endings : List Ending) (from : ℕ) (amount : ℕ → ℕ) (b : Books) → AreBooksOfAmounts orders amount b → AreBooksOfAmounts orders (amount_without endings from from amount) b
+pub standing-first : (orders : List Order) (endings : List OrderEnd) (from : ℕ) (amount : ℕ → ℕ) (b : Books) → AreBooksOfAmounts orders amount b → AreBooksOfAmounts orders (amount_without endings from from amount) b
 standing-first orders endings from amount b h = hold-amounts orders amount (amount_without endings from from amount) b (λ k lt. cond-false (is_ended_between endings from from k) 0 (amount k) (any-none (λ i. nat_le from i && (ending_index_at endings i == k)) from (λ i below.
     and_left (nat_le from i) (ending_index_at endings i == k) (false_from_ne_true _ (λ t. let le = leb-true from i t in omega arith))))) h
 
 -- one further
-pub standing-more : (orders : List Order) (endings : List Ending) (from at : ℕ) (amount : ℕ → ℕ) (b : Books) → from ≤ at → AreBooksOfAmounts orders (amount_without endings from at amount) b
+pub standing-more : (orders : List Order) (endings : List OrderEnd) (from at : ℕ) (amount : ℕ → ℕ) (b : Books) → from ≤ at → AreBooksOfAmounts orders (amount_without endings from at amount) b
     → AreBooksOfAmounts orders (amount_without endings from (suc at) amount) (books_without_order (side_at orders (ending_index_at endings at)) (ending_index_at endings at) (limit_at orders (ending_index_at endings at)) b)
 standing-more orders endings from at amount b le h =
     let j = ending_index_at endings at in
@@ -72,7 +72,7 @@ standing-more orders endings from at amount b le h =
     or-off false b e = e
 
 -- the same, in the words of the code
-pub standing-read : (orders : List Order) (endings : List Ending) (from at : ℕ) (amount : ℕ → ℕ) (b after : Books) (o : Order) → from ≤ at → ending_index_at endings at < length orders → o ≡ order_at orders (ending_index_at endings at)
+pub standing-read : (orders : List Order) (endings : List OrderEnd) (from at : ℕ) (amount : ℕ → ℕ) (b after : Books) (o : Order) → from ≤ at → ending_index_at endings at < length orders → o ≡ order_at orders (ending_index_at endings at)
     → after ≡ books_without_order o.side (ending_index_at endings at) o.limit b → AreBooksOfAmounts orders (amount_without endings from at amount) b → AreBooksOfAmounts orders (amount_without endings from (at + 1) amount) after
 standing-read orders endings from at amount b after o le inside here e h =
     let same : after ≡ books_without_order (side_at orders (ending_index_at endings at)) (ending_index_at endings at) (limit_at orders (ending_index_at endings at)) b = e ∙ ap (λ (x : Order). books_without_order x.side (ending_index_at endings at) x.limit b) here in
@@ -94,21 +94,21 @@ module _ (orders : List Order) where
   upto-each (suc n) k c lt e = elim (cases_eq k n) [
     | inl same ↦
         let is : endings_of n (order_at orders n) ≡ record { place = c; index = k } ∷ [] = ap (ending_at n) (ap (λ (j : ℕ). (order_at orders j).cancelled) (sym same) ∙ e) ∙ ap (λ (j : ℕ). record { place = c; index = j } ∷ []) (sym same) in
-        Contains-append_right (endings_below orders n) (endings_of n (order_at orders n)) (record { place = c; index = k }) (subst (λ (xs : List Ending). Contains xs (record { place = c; index = k })) (sym is) (Contains-front (record { place = c; index = k }) []))
+        Contains-append_right (endings_below orders n) (endings_of n (order_at orders n)) (record { place = c; index = k }) (subst (λ (xs : List OrderEnd). Contains xs (record { place = c; index = k })) (sym is) (Contains-front (record { place = c; index = k }) []))
     | inr ne ↦ Contains-append_left (endings_below orders n) (endings_of n (order_at orders n)) (record { place = c; index = k }) (upto-each n k c (omega (arith, ne)) e)
   ]
 
-  weak : IsStrictWeakOrder (λ (a b : Ending). is_lt (ending_cmp a b))
-  weak = ranks_by (then_total (on_total (λ (e : Ending). e.place) nat_cmp_total) (on_total (λ (e : Ending). e.index) nat_cmp_total)) (λ (e : Ending). e)
+  weak : IsStrictWeakOrder (λ (a b : OrderEnd). is_lt (ending_cmp a b))
+  weak = ranks_by (then_total (on_total (λ (e : OrderEnd). e.place) nat_cmp_total) (on_total (λ (e : OrderEnd). e.index) nat_cmp_total)) (λ (e : OrderEnd). e)
 
-  pub are-endings : (endings : List Ending) → IsPermutation (endings_below orders (length orders)) endings → IsSorted ending_cmp endings → AreEndings orders endings
+  pub are-endings : (endings : List OrderEnd) → IsPermutation (endings_below orders (length orders)) endings → IsSorted ending_cmp endings → AreEndings orders endings
   are-endings endings moved in_order = record {
     only = All-permutation (IsEnding orders) (endings_below orders (length orders)) endings moved (upto-only (length orders) (omega arith));
     each = λ k c lt e. Contains-permutation (endings_below orders (length orders)) endings (record { place = c; index = k }) moved (upto-each (length orders) k c lt e);
-    rising = λ i j d lt below. not-above (get_or endings i d) (get_or endings j d) (sorted_far (λ (a b : Ending). is_lt (ending_cmp a b)) weak endings in_order i j d (omega arith) below);
+    rising = λ i j d lt below. not-above (get_or endings i d) (get_or endings j d) (sorted_far (λ (a b : OrderEnd). is_lt (ending_cmp a b)) weak endings in_order i j d (omega arith) below);
   }
     where
-      not-above : (a b : Ending) → is_lt (ending_cmp b a) ≡ false → a.place ≤ b.place
+      not-above : (a b : OrderEnd) → is_lt (ending_cmp b a) ≡ false → a.place ≤ b.place
       not-above a b h = elim (cases_lt b.place a.place) [
         | inr le ↦ le
         | inl lt ↦ let t : is_lt (ending_cmp b a) ≡ true = grind (arith, nat_tests) in absurd (both_ways _ h t)
@@ -116,7 +116,7 @@ module _ (orders : List Order) where
 
   -- from the first that is ended at p or later, up to the first that is ended at q or later: what
   -- no record below q ends
-  module _ (endings : List Ending) (are : AreEndings orders endings) (from at p q : ℕ) (amount : ℕ → ℕ) where
+  module _ (endings : List OrderEnd) (are : AreEndings orders endings) (from at p q : ℕ) (amount : ℕ → ℕ) where
     later : (i j : ℕ) → i ≤ j → j < length endings → ending_place_at endings i ≤ ending_place_at endings j
     later i j le below = elim (cases_eq i j) [
       | inl e ↦ let same : ending_place_at endings i ≡ ending_place_at endings j = ap (ending_place_at endings) e in omega arith
@@ -145,8 +145,8 @@ module _ (orders : List Order) where
                 let has = are.each k c inside e in
                 let i = has.0 in
                 let here : get_or endings i ending_past_end ≡ record { place = c; index = k } = get_or-default endings i ending_past_end (record { place = c; index = k }) has.1 ∙ has.2 in
-                let place_is : ending_place_at endings i ≡ c = ap (λ (x : Ending). x.place) here in
-                let index_is : ending_index_at endings i ≡ k = ap (λ (x : Ending). x.index) here in
+                let place_is : ending_place_at endings i ≡ c = ap (λ (x : OrderEnd). x.place) here in
+                let index_is : ending_index_at endings i ≡ k = ap (λ (x : OrderEnd). x.index) here in
                 let below : i < at = elim (cases_lt i at) [
                   | inl lt ↦ lt
                   | inr ge ↦ let in_list = has.1 in let far = next (omega arith) in let up = later at i ge has.1 in absurd (omega arith)

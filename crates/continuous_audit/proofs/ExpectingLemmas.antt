@@ -8,7 +8,7 @@ use Rattle.audit_base.specs.declared.orders.Order.{Order}
 use Rattle.audit_base.specs.declared.orders.Deal.{Deal}
 use Rattle.audit_base.specs.Orders.{place_at, IsOrderList}
 use Rattle.audit_base.specs.Histories.{Regular}
-use Rattle.audit_base.specs.Deals.{deal_past_end, IsDealList}
+use Rattle.audit_base.specs.Deals.{deal_past_end, IsDealList, number_at}
 use Rattle.audit_base.specs.Continuous.{traded_before}
 use Rattle.audit_base.specs.ContinuousRules.{ConformsContinuous}
 use Rattle.audit_base.specs.Expected.{IsExpectedContinuous, pair_share, resting_limit}
@@ -19,7 +19,6 @@ use Rattle.continuous_audit.specs.declared.matching.TradesSoFar.{TradesSoFar}
 use Rattle.continuous_audit.specs.Holding.{resting_left_before}
 use Rattle.continuous_audit.specs.Matching.{AreTradesAtStart, AreExpectedDeals, IsMatchedUnder}
 use Rattle.continuous_audit.specs.Pairs.{AreFillPairDeals, AreSharedPairs, IsFillPairInRange, IsSharedPair, FillPairBefore, fill_pair_deal, fill_pair_orders, fill_pair_past_end, fill_pair_at, fill_pair_cmp}
-use Rattle.continuous_audit.specs.Scans.{number_in}
 use Rattle.continuous_audit.proofs.AuditLemmas.{empty-hold, first-place, zero-in}
 use Rattle.continuous_audit.proofs.MatchLemmas.{some-expected}
 use Rattle.continuous_laws.proofs.PlaceLemmas.{traded-none}
@@ -27,7 +26,7 @@ use Rattle.continuous_laws.proofs.PlaceLemmas.{traded-none}
 pub matched-first : (orders : List Order) → IsOrderList orders → (t : TradesSoFar) → AreTradesAtStart (length orders) t → (deals : List Deal)
     → IsMatchedUnder orders deals 0 (place_at orders 0) (resting_left_before orders (traded_before orders deals) (place_at orders 0)) t
 matched-first orders list t bare deals = record {
-  traded_is = λ x lt. ap (λ (xs : List ℕ). number_in xs x) bare.traded ∙ zero-in (length orders) x ∙ sym (traded-none orders deals (place_at orders 0) x (first-place orders list deals x lt));
+  traded_is = λ x lt. ap (λ (xs : List ℕ). number_at xs x) bare.traded ∙ zero-in (length orders) x ∙ sym (traded-none orders deals (place_at orders 0) x (first-place orders list deals x lt));
   chain_traded_is = λ x lt. absurd (omega arith);
   left_is = λ x lt. absurd (omega arith);
   books = empty-hold orders list deals t.books_so_far bare.books_so_far;
@@ -104,5 +103,5 @@ module _ (orders : List Order) (list : IsOrderList orders) (regular : Regular or
               let one : (get_or made i d).place ≡ i + 1 = ap (λ (d : Deal). d.place) (deal-is i d (omega arith)) in
               let two : (get_or made j d).place ≡ j + 1 = ap (λ (d : Deal). d.place) (deal-is j d below) in
               omega arith;
-          few = omega arith;
+          fits_indices = omega arith;
         }

@@ -8,14 +8,13 @@ use Rattle.audit_base.specs.declared.orders.Deal.{Deal}
 use Rattle.audit_base.specs.declared.terms.Side.{Side}
 use Rattle.audit_base.specs.declared.terms.Side.TheVariants.{Buy, Sell}
 use Rattle.audit_base.specs.Orders.{order_at, place_at, side_at, other_side, IsOrderList}
-use Rattle.audit_base.specs.Deals.{names_order, NamesOrders}
+use Rattle.audit_base.specs.Deals.{names_order, NamesOrders, number_at}
 use Rattle.audit_base.specs.Continuous.{cause, chain, chain_within, chain_traded_in_ledger, resting_order, traded_before, chain_traded_quantity, rests_before_in_ledger, uncancelled_before}
 use Rattle.audit_base.specs.ContinuousRules.{ConformsAt}
 use Rattle.audit_base.proofs.SumLemmas.{sum_by-same}
 use Rattle.audit_base.proofs.OrderLemmas.{place-rises}
 use Rattle.audit_base.proofs.ContinuousLemmas.{target-below, chain-none, chain-some, before-is, before-some}
 use Rattle.continuous_audit.specs.Chains.{HasChainEnded, ends_by}
-use Rattle.continuous_audit.specs.Scans.{number_in}
 use Rattle.continuous_laws.proofs.StepLemmas.{rests-parts}
 use Rattle.continuous_audit.proofs.RecordLemmas.{ends}
 
@@ -144,7 +143,7 @@ module _ (orders : List Order) (list : IsOrderList orders) where
         trades-no-more (place_at orders n) t (get_or (chain orders t) k d) t_in (omega arith) (chain-ahead t t_in k d lt) (chain_ended k d lt) conforms) ∙ sym (before-is orders list past t))
 
     -- Before, by going along the chain
-    pub before-walked : (n : ℕ) (traded : List ℕ) → n < length orders → ((x : ℕ) → x < length orders → number_in traded x ≡ past (place_at orders n) x) → sum_by (number_in traded) (chain orders n) ≡ chain_traded_quantity orders deals n
+    pub before-walked : (n : ℕ) (traded : List ℕ) → n < length orders → ((x : ℕ) → x < length orders → number_at traded x ≡ past (place_at orders n) x) → sum_by (number_at traded) (chain orders n) ≡ chain_traded_quantity orders deals n
     unfolding chain_traded_in_ledger
-    before-walked n traded inside is = sum_by-same (number_in traded) (past (place_at orders n)) (chain orders n) (λ k d lt.
+    before-walked n traded inside is = sum_by-same (number_at traded) (past (place_at orders n)) (chain orders n) (λ k d lt.
         let ahead = chain-ahead n inside k d lt in let low : get_or (chain orders n) k d < n = ahead.0 in is (get_or (chain orders n) k d) (omega arith))

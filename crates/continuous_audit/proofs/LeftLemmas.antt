@@ -7,32 +7,32 @@ use Rattle.audit_base.specs.declared.terms.Side.{Side}
 use Rattle.audit_base.specs.declared.orders.Order.{Order}
 use Rattle.audit_base.specs.declared.orders.Deal.{Deal}
 use Rattle.audit_base.specs.Orders.{place_at, IsOrderList}
-use Rattle.audit_base.specs.Deals.{names_order, deal_at}
+use Rattle.audit_base.specs.Deals.{names_order, deal_at, number_at}
 use Rattle.audit_base.specs.Continuous.{traded_before, size_in_ledger, left_after}
 use Rattle.audit_base.proofs.OrderLemmas.{place-rises}
 use Rattle.audit_base.proofs.ContinuousOffenceLemmas.{traded-more}
 use Rattle.order_book.specs.declared.books.Resting.{Resting}
 use Rattle.continuous_audit.specs.declared.incoming_deals.IncomingDeal.{IncomingDeal}
 use Rattle.continuous_audit.specs.Holding.{IsListOfAmounts, IsFilledInFront, IsRestingOn, IsWithinBook, after_fills, resting_left_before, resting_left_after_deals}
-use Rattle.continuous_audit.specs.Scans.{IsLeftRefreshed, deal_index_at, number_in}
+use Rattle.continuous_audit.specs.Scans.{IsLeftRefreshed, deal_index_at}
 use Rattle.continuous_laws.proofs.StepLemmas.{rests-parts}
 use Rattle.continuous_audit.proofs.RestLemmas.{resting_left-parts}
 use Rattle.continuous_audit.proofs.HeadLemmas.{after_fills-holds}
 
 pub refreshed-more : (deals : List Deal) (incoming_deals : List IncomingDeal) (start at : ℕ) (sizes traded old xs ys : List ℕ) (d : Deal) → d ≡ deal_at deals (deal_index_at incoming_deals at) → d.bid < length xs → d.ask < length xs
-    → ys ≡ slice_set (slice_set xs d.bid (number_in sizes d.bid - number_in traded d.bid)) d.ask (number_in sizes d.ask - number_in traded d.ask)
+    → ys ≡ slice_set (slice_set xs d.bid (number_at sizes d.bid - number_at traded d.bid)) d.ask (number_at sizes d.ask - number_at traded d.ask)
     → IsLeftRefreshed deals incoming_deals start at sizes traded old xs → IsLeftRefreshed deals incoming_deals start (at + 1) sizes traded old ys
 refreshed-more deals incoming_deals start at sizes traded old xs ys d d_is bid ask made is = subst (IsLeftRefreshed deals incoming_deals start (at + 1) sizes traded old) (sym made) (record {
-  count = length-set {A = ℕ} (slice_set xs d.bid (number_in sizes d.bid - number_in traded d.bid)) d.ask (number_in sizes d.ask - number_in traded d.ask) ∙ length-set {A = ℕ} xs d.bid (number_in sizes d.bid - number_in traded d.bid) ∙ is.count;
+  count = length-set {A = ℕ} (slice_set xs d.bid (number_at sizes d.bid - number_at traded d.bid)) d.ask (number_at sizes d.ask - number_at traded d.ask) ∙ length-set {A = ℕ} xs d.bid (number_at sizes d.bid - number_at traded d.bid) ∙ is.count;
   each = λ x. elim (cases_eq x d.ask) [
-    | inl e ↦ inl (subst (λ (y : ℕ). get_or (slice_set (slice_set xs d.bid (number_in sizes d.bid - number_in traded d.bid)) d.ask (number_in sizes d.ask - number_in traded d.ask)) y 0 ≡ number_in sizes y - number_in traded y) (sym e)
-        (get_or-set_same {A = ℕ} (slice_set xs d.bid (number_in sizes d.bid - number_in traded d.bid)) d.ask (number_in sizes d.ask - number_in traded d.ask) 0 (omega (arith, length-set {A = ℕ} xs d.bid (number_in sizes d.bid - number_in traded d.bid)))))
+    | inl e ↦ inl (subst (λ (y : ℕ). get_or (slice_set (slice_set xs d.bid (number_at sizes d.bid - number_at traded d.bid)) d.ask (number_at sizes d.ask - number_at traded d.ask)) y 0 ≡ number_at sizes y - number_at traded y) (sym e)
+        (get_or-set_same {A = ℕ} (slice_set xs d.bid (number_at sizes d.bid - number_at traded d.bid)) d.ask (number_at sizes d.ask - number_at traded d.ask) 0 (omega (arith, length-set {A = ℕ} xs d.bid (number_at sizes d.bid - number_at traded d.bid)))))
     | inr not_ask ↦
-        let past_ask = get_or-set_other {A = ℕ} (slice_set xs d.bid (number_in sizes d.bid - number_in traded d.bid)) d.ask x (number_in sizes d.ask - number_in traded d.ask) 0 not_ask in
+        let past_ask = get_or-set_other {A = ℕ} (slice_set xs d.bid (number_at sizes d.bid - number_at traded d.bid)) d.ask x (number_at sizes d.ask - number_at traded d.ask) 0 not_ask in
         elim (cases_eq x d.bid) [
-          | inl e ↦ inl (past_ask ∙ subst (λ (y : ℕ). get_or (slice_set xs d.bid (number_in sizes d.bid - number_in traded d.bid)) y 0 ≡ number_in sizes y - number_in traded y) (sym e) (get_or-set_same {A = ℕ} xs d.bid (number_in sizes d.bid - number_in traded d.bid) 0 bid))
+          | inl e ↦ inl (past_ask ∙ subst (λ (y : ℕ). get_or (slice_set xs d.bid (number_at sizes d.bid - number_at traded d.bid)) y 0 ≡ number_at sizes y - number_at traded y) (sym e) (get_or-set_same {A = ℕ} xs d.bid (number_at sizes d.bid - number_at traded d.bid) 0 bid))
           | inr not_bid ↦
-              let same = past_ask ∙ get_or-set_other {A = ℕ} xs d.bid x (number_in sizes d.bid - number_in traded d.bid) 0 not_bid in
+              let same = past_ask ∙ get_or-set_other {A = ℕ} xs d.bid x (number_at sizes d.bid - number_at traded d.bid) 0 not_bid in
               elim (is.each x) [
                 | inl new ↦ inl (same ∙ new)
                 | inr kept ↦ inr (
@@ -51,7 +51,7 @@ refreshed-more deals incoming_deals start at sizes traded old xs ys d d_is bid a
 
 -- What the books owe to the numbers that are left after a record.
 
-module _ (orders : List Order) (list : IsOrderList orders) (deals : List Deal) (n : ℕ) (n_inside : n < length orders) (left : List ℕ) (count : length left ≡ length orders) (is : (x : ℕ) → x < n → number_in left x ≡ left_after orders deals (place_at orders n) x) where
+module _ (orders : List Order) (list : IsOrderList orders) (deals : List Deal) (n : ℕ) (n_inside : n < length orders) (left : List ℕ) (count : length left ≡ length orders) (is : (x : ℕ) → x < n → number_at left x ≡ left_after orders deals (place_at orders n) x) where
   abbrev p : ℕ
   p = place_at orders n
 
@@ -72,7 +72,7 @@ module _ (orders : List Order) (list : IsOrderList orders) (deals : List Deal) (
         parts.1,
       )
 
-  left-still : (k : ℕ) → k < length orders → 0 < resting_left_before orders past p k → number_in left k ≡ resting_left_after_deals orders deals p k
+  left-still : (k : ℕ) → k < length orders → 0 < resting_left_before orders past p k → number_at left k ≡ resting_left_after_deals orders deals p k
   left-still k inside some =
       let o = older k inside some in
       let l = is k o.0 in
@@ -88,5 +88,5 @@ module _ (orders : List Order) (list : IsOrderList orders) (deals : List Deal) (
       record { inside = let w = part.inside in omega arith; most = omega arith }
 
   -- so a book that is settled by these numbers is settled to what rests after the deals
-  pub after_fills-left : (side : Side) (xs : List Resting) → IsListOfAmounts orders side (resting_left_before orders past p) xs → IsFilledInFront orders side (resting_left_before orders past p) (resting_left_after_deals orders deals p) (after_fills (number_in left) xs)
-  after_fills-left side xs holds = after_fills-holds orders side (number_in left) (resting_left_before orders past p) (resting_left_after_deals orders deals p) xs (record { less = λ k. omega arith; is = left-still }) holds
+  pub after_fills-left : (side : Side) (xs : List Resting) → IsListOfAmounts orders side (resting_left_before orders past p) xs → IsFilledInFront orders side (resting_left_before orders past p) (resting_left_after_deals orders deals p) (after_fills (number_at left) xs)
+  after_fills-left side xs holds = after_fills-holds orders side (number_at left) (resting_left_before orders past p) (resting_left_after_deals orders deals p) xs (record { less = λ k. omega arith; is = left-still }) holds

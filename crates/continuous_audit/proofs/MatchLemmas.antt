@@ -13,6 +13,7 @@ use Rattle.audit_base.specs.Histories.{Regular}
 use Rattle.audit_base.specs.Priority.{better}
 use Rattle.audit_base.specs.Continuous.{traded_before, traded_at, chain_traded_quantity, size_of_order, left_before_in_ledger, left_before, rests_before_in_ledger}
 use Rattle.audit_base.specs.Expected.{available_quantity, available_quantity_ahead, incoming_share, pair_share, orders_meet}
+use Rattle.audit_base.specs.Deals.{number_at}
 use Rattle.audit_base.proofs.SumLemmas.{AllPairs-head, AllPairs-tail, AllPairs-cons, below-same}
 use Rattle.audit_base.proofs.OrderLemmas.{is-same_side, not_both_sides, place-rises, side-other}
 use Rattle.audit_base.proofs.ContinuousOffenceLemmas.{traded-more}
@@ -29,7 +30,6 @@ use Rattle.continuous_audit.specs.Fills.{quantity_filled, fills_of, resting_afte
 use Rattle.continuous_audit.specs.Holding.{IsListOfAmounts, resting_left_before, resting_left_after_deals}
 use Rattle.continuous_audit.specs.Matching.{AreExpectedDeals}
 use Rattle.continuous_audit.specs.Pairs.{AreSharedPairs, IsSharedPair, FillPairsDiffer, fill_pair_orders, fill_pair}
-use Rattle.continuous_audit.specs.Scans.{number_in}
 use Rattle.continuous_audit.proofs.BooksLemmas.{side-holds, both-hold}
 use Rattle.continuous_audit.proofs.FilledLemmas.{FillsDiffer, total-by-order, own-filled, some-filled, fills-all, fills-in_size, fills-apart, IsInSize}
 use Rattle.continuous_audit.proofs.HoldLemmas.{hold-same}
@@ -45,11 +45,11 @@ some-expected orders list regular =
     (e.0, record { expected = e.1; conforms = expected_conform orders e.0 list regular e.1 })
 
 -- the number at an index of a list in which one is set
-pub set-at : (xs ys : List ℕ) (n v x : ℕ) → n < length xs → ys ≡ slice_set xs n v → x ≡ n → number_in ys x ≡ v
-set-at xs ys n v x inside is e = ap (λ (zs : List ℕ). number_in zs x) is ∙ ap (number_in (slice_set xs n v)) e ∙ get_or-set_same {A = ℕ} xs n v 0 inside
+pub set-at : (xs ys : List ℕ) (n v x : ℕ) → n < length xs → ys ≡ slice_set xs n v → x ≡ n → number_at ys x ≡ v
+set-at xs ys n v x inside is e = ap (λ (zs : List ℕ). number_at zs x) is ∙ ap (number_at (slice_set xs n v)) e ∙ get_or-set_same {A = ℕ} xs n v 0 inside
 
-pub set-other : (xs ys : List ℕ) (n v x : ℕ) → ys ≡ slice_set xs n v → x ≢ n → number_in ys x ≡ number_in xs x
-set-other xs ys n v x is ne = ap (λ (zs : List ℕ). number_in zs x) is ∙ get_or-set_other {A = ℕ} xs n x v 0 ne
+pub set-other : (xs ys : List ℕ) (n v x : ℕ) → ys ≡ slice_set xs n v → x ≢ n → number_at ys x ≡ number_at xs x
+set-other xs ys n v x is ne = ap (λ (zs : List ℕ). number_at zs x) is ∙ get_or-set_other {A = ℕ} xs n x v 0 ne
 
 pub set-length : (xs ys : List ℕ) (n v : ℕ) → ys ≡ slice_set xs n v → length ys ≡ length xs
 set-length xs ys n v is = ap (λ (zs : List ℕ). length zs) is ∙ length-set {A = ℕ} xs n v
@@ -107,8 +107,8 @@ module _ (orders : List Order) (list : IsOrderList orders) (n : ℕ) (n_inside :
   available-is k = nested (orders_meet (order_at orders n) (order_at orders k)) (rests_before_in_ledger orders past p k) (left_before_in_ledger orders past p k)
 
   -- what is known of the orders when the order at n comes
-  pub arrival-is : (traded : List ℕ) (order_numbers : OrderNumbers) → ((x : ℕ) → x < length orders → number_in traded x ≡ past p x) → ((x : ℕ) → x < n → number_in order_numbers.chain_traded.items x ≡ chain_traded_quantity orders deals x)
-      → ((x : ℕ) → x < n → number_in order_numbers.left.items x ≡ left_before orders deals p x) → IsKnownBeforeArrival orders deals n traded order_numbers
+  pub arrival-is : (traded : List ℕ) (order_numbers : OrderNumbers) → ((x : ℕ) → x < length orders → number_at traded x ≡ past p x) → ((x : ℕ) → x < n → number_at order_numbers.chain_traded.items x ≡ chain_traded_quantity orders deals x)
+      → ((x : ℕ) → x < n → number_at order_numbers.left.items x ≡ left_before orders deals p x) → IsKnownBeforeArrival orders deals n traded order_numbers
   arrival-is traded order_numbers traded_is chain_traded_is left_is = record { conforms = λ i lt. is.conforms.each i; named = is.conforms.named; traded_is = traded_is; chain_traded_is = chain_traded_is; left_is = left_is }
 
   -- what rests is earlier

@@ -7,7 +7,7 @@ use Rattle.std.proofs.lemmas.List.Sums.{sum_by-cons, sum_by-append}
 use Rattle.audit_base.specs.declared.orders.Order.{Order}
 use Rattle.audit_base.specs.declared.orders.Deal.{Deal}
 use Rattle.audit_base.specs.Orders.{place_at, IsOrderList}
-use Rattle.audit_base.specs.Deals.{IsDealList}
+use Rattle.audit_base.specs.Deals.{IsDealList, number_at}
 use Rattle.audit_base.specs.Continuous.{traded_before, chain_traded_quantity, size_of_order, left_after}
 use Rattle.audit_base.proofs.OrderLemmas.{place-rises}
 use Rattle.audit_base.proofs.OffenceLemmas.{get_or-default}
@@ -19,7 +19,7 @@ use Rattle.continuous_audit.specs.Progress.{AreNumbers}
 use Rattle.continuous_audit.specs.IncomingDeals.{AreIncomingDeals, incoming_deal_of, incoming_deals_below, running_total}
 use Rattle.continuous_audit.specs.Chains.{HaveChainsEnded, HasChainEnded, AreNumbersInBounds, IsKnownBeforeArrival, flag_in}
 use Rattle.continuous_audit.specs.Records.{AreChainTradedNumbers, AreLeftBefore, AreSizes, AreTradedBefore, ConformsBelow}
-use Rattle.continuous_audit.specs.Scans.{AreTotalsSmall, AreRunningTotals, IsLeftRefreshed, IsSplitAt, incoming_deal_past_end, number_in, incoming_order_at}
+use Rattle.continuous_audit.specs.Scans.{AreTotalsSmall, AreRunningTotals, IsLeftRefreshed, IsSplitAt, incoming_deal_past_end, incoming_order_at}
 use Rattle.continuous_audit.proofs.IncomingLemmas.{cause-inside, running-before}
 use Rattle.continuous_audit.proofs.RefreshLemmas.{refreshed-after}
 
@@ -37,15 +37,15 @@ module _ (orders : List Order) (deals : List Deal) (n : ℕ) (n_inside : n < len
   before-more chain_traded ys b old is most few made = subst (AreChainTradedNumbers orders deals (suc n)) (sym made) (record {
     count = length-set {A = ℕ} chain_traded n b ∙ old.count;
     is = λ x lt. elim (cases_eq x n) [
-      | inl e ↦ subst (λ (y : ℕ). number_in (slice_set chain_traded n b) y ≡ chain_traded_quantity orders deals y) (sym e) (get_or-set_same {A = ℕ} chain_traded n b 0 (omega (arith, old.count)) ∙ is)
+      | inl e ↦ subst (λ (y : ℕ). number_at (slice_set chain_traded n b) y ≡ chain_traded_quantity orders deals y) (sym e) (get_or-set_same {A = ℕ} chain_traded n b 0 (omega (arith, old.count)) ∙ is)
       | inr ne ↦ get_or-set_other {A = ℕ} chain_traded n x b 0 ne ∙ old.is x (omega (arith, ne))
     ];
     fits = λ x. elim (cases_eq x n) [
-      | inl e ↦ subst (λ (y : ℕ). number_in (slice_set chain_traded n b) y ≤ 2 ^ 126) (sym e) (let g = get_or-set_same {A = ℕ} chain_traded n b 0 (omega (arith, old.count)) in omega arith)
+      | inl e ↦ subst (λ (y : ℕ). number_at (slice_set chain_traded n b) y ≤ 2 ^ 126) (sym e) (let g = get_or-set_same {A = ℕ} chain_traded n b 0 (omega (arith, old.count)) in omega arith)
       | inr ne ↦ let g = get_or-set_other {A = ℕ} chain_traded n x b 0 ne in let f = old.fits x in omega arith
     ];
     bounded = λ x. elim (cases_eq x n) [
-      | inl e ↦ subst (λ (y : ℕ). number_in (slice_set chain_traded n b) y ≤ y * 2 ^ 72) (sym e) (let g = get_or-set_same {A = ℕ} chain_traded n b 0 (omega (arith, old.count)) in omega arith)
+      | inl e ↦ subst (λ (y : ℕ). number_at (slice_set chain_traded n b) y ≤ y * 2 ^ 72) (sym e) (let g = get_or-set_same {A = ℕ} chain_traded n b 0 (omega (arith, old.count)) in omega arith)
       | inr ne ↦ let g = get_or-set_other {A = ℕ} chain_traded n x b 0 ne in let f = old.bounded x in omega arith
     ];
   })
@@ -63,7 +63,7 @@ module _ (orders : List Order) (deals : List Deal) (n : ℕ) (n_inside : n < len
   sizes-more sizes ys z old is made = subst (AreSizes orders deals (suc n)) (sym made) (record {
     count = length-set {A = ℕ} sizes n z ∙ old.count;
     is = λ x lt. elim (cases_eq x n) [
-      | inl e ↦ subst (λ (y : ℕ). number_in (slice_set sizes n z) y ≡ size_of_order orders deals y) (sym e) (get_or-set_same {A = ℕ} sizes n z 0 (omega (arith, old.count)) ∙ is)
+      | inl e ↦ subst (λ (y : ℕ). number_at (slice_set sizes n z) y ≡ size_of_order orders deals y) (sym e) (get_or-set_same {A = ℕ} sizes n z 0 (omega (arith, old.count)) ∙ is)
       | inr ne ↦ get_or-set_other {A = ℕ} sizes n x z 0 ne ∙ old.is x (omega (arith, ne))
     ];
   })
@@ -78,7 +78,7 @@ module _ (orders : List Order) (list : IsOrderList orders) (deals : List Deal) (
     most = λ x lt.
         let f = run.fits x lt in
         let i = run.inside in
-        let few = deal_list.few in
+        let few = deal_list.fits_indices in
         omega (arith, few-incoming_deals);
   }
 
@@ -118,20 +118,20 @@ module _ (orders : List Order) (list : IsOrderList orders) (deals : List Deal) (
         record {
           conforms = conforms;
           named = deal_list.named;
-          traded_is = λ x lt. ap (λ (xs : List ℕ). number_in xs x) same ∙ t.is x lt;
+          traded_is = λ x lt. ap (λ (xs : List ℕ). number_at xs x) same ∙ t.is x lt;
           chain_traded_is = b.is;
           left_is = l.is;
         }
 
     pub left-after_deals : (start at : ℕ) (sizes traded old new ys : List ℕ) (m : ℕ) → IsSplitAt incoming_deals n start → IsSplitAt incoming_deals (suc n) at → AreRunningTotals orders deals incoming_deals at traded → AreSizes orders deals (suc n) sizes → AreLeftBefore orders deals n p old
-        → IsLeftRefreshed deals incoming_deals start at sizes traded old new → m ≡ number_in sizes n - number_in traded n → ys ≡ slice_set new n m → AreLeftBefore orders deals (suc n) (suc p) ys
+        → IsLeftRefreshed deals incoming_deals start at sizes traded old new → m ≡ number_at sizes n - number_at traded n → ys ≡ slice_set new n m → AreLeftBefore orders deals (suc n) (suc p) ys
     left-after_deals start at sizes traded old new ys m split later run z l refreshed m_is made =
         let t = traded-now at traded later run in
         let long : length new ≡ length orders = refreshed.count ∙ l.count in
         subst (AreLeftBefore orders deals (suc n) (suc p)) (sym made) (record {
           count = length-set {A = ℕ} new n m ∙ long;
           is = λ x lt. elim (cases_eq x n) [
-            | inl e ↦ subst (λ (y : ℕ). number_in (slice_set new n m) y ≡ left_after orders deals p y) (sym e) (get_or-set_same {A = ℕ} new n m 0 (omega (arith, long)) ∙ m_is ∙ (λ i. z.is n (omega arith) i - t.is n n_inside i))
+            | inl e ↦ subst (λ (y : ℕ). number_at (slice_set new n m) y ≡ left_after orders deals p y) (sym e) (get_or-set_same {A = ℕ} new n m 0 (omega (arith, long)) ∙ m_is ∙ (λ i. z.is n (omega arith) i - t.is n n_inside i))
             | inr ne ↦ get_or-set_other {A = ℕ} new n x m 0 ne ∙ refreshed-after orders list deals deal_list incoming_deals are n n_inside start at run.inside split later sizes traded old new refreshed (λ y lt. z.is y (omega arith)) t.is l.is x (omega (arith, ne))
           ];
         })

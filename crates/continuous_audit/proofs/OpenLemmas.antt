@@ -5,6 +5,7 @@ use Rattle.audit_base.specs.declared.orders.Order.{Order}
 use Rattle.audit_base.specs.declared.orders.Deal.{Deal}
 use Rattle.audit_base.specs.Orders.{order_at, place_at, IsOrderList}
 use Rattle.audit_base.specs.Continuous.{rests_before_in_ledger, traded_before, chain_traded_quantity, has_entered, is_cancelled_at_place}
+use Rattle.audit_base.specs.Deals.{number_at}
 use Rattle.audit_base.proofs.OrderLemmas.{place-rises}
 use Rattle.audit_base.proofs.LeastLemmas.{cases_Option}
 use Rattle.audit_base.proofs.ContinuousLemmas.{target-below, entered-none, entered-some, size-is}
@@ -13,7 +14,6 @@ use Rattle.continuous_audit.specs.declared.order_numbers.OrderNumbers.{OrderNumb
 use Rattle.continuous_audit.specs.DealFindings as by_deal
 use Rattle.continuous_audit.specs.Chains.{IsKnownBeforeArrival}
 use Rattle.continuous_audit.specs.OrderNumbers.{IsArrivalOfOrder}
-use Rattle.continuous_audit.specs.Scans.{number_in}
 use Rattle.continuous_audit.proofs.ScanLemmas.{waits-is}
 
 and-true : (b c : Bool) → c ≡ true → (b && c) ≡ b
@@ -32,7 +32,7 @@ module _ (orders : List Order) (list : IsOrderList orders) (deals : List Deal) (
         let t = found.0 in
         let e : (order_at orders n).target ≡ Some t = found.1 in
         let lower = target-below orders list n n_inside t e in
-        let waits : by_deal.waits_in orders order_numbers.left.items (place_at orders n) t ≡ rests_before_in_ledger orders past (place_at orders n) t = waits-is orders past (place_at orders n) t (number_in order_numbers.left.items t) (place-rises orders list t n lower n_inside) (is.left_is t lower) in
+        let waits : by_deal.waits_in orders order_numbers.left.items (place_at orders n) t ≡ rests_before_in_ledger orders past (place_at orders n) t = waits-is orders past (place_at orders n) t (number_at order_numbers.left.items t) (place-rises orders list t n lower n_inside) (is.left_is t lower) in
         ap (λ (b : Bool). not (is_cancelled_at_place (order_at orders n).cancelled (place_at orders n)) && b) (some t e ∙ waits) ∙ sym (entered-some orders list past n t n_inside e)
   ]
 

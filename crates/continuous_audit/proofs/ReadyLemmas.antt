@@ -8,7 +8,7 @@ use Rattle.audit_base.specs.Orders.{place_at, IsOrderList}
 use Rattle.audit_base.specs.Deals.{NamesOrders}
 use Rattle.audit_base.specs.Continuous.{traded_before, size_in_ledger}
 use Rattle.audit_base.proofs.OrderLemmas.{place-rises}
-use Rattle.continuous_audit.specs.declared.endings.Ending.{Ending}
+use Rattle.continuous_audit.specs.declared.endings.OrderEnd.{OrderEnd}
 use Rattle.continuous_audit.specs.declared.books.Books.{Books}
 use Rattle.continuous_audit.specs.Books.{AreBooksOfAmounts, next_order_place, resting_left_without_own}
 use Rattle.continuous_audit.specs.Endings.{AreEndingsDropped, AreEndingsBelow, AreEndings, amount_without}
@@ -22,7 +22,7 @@ pub ready-here : (orders : List Order) (n : ℕ) → n < length orders → next_
 ready-here orders zero lt = refl
 ready-here orders (suc n) lt = cond-true (nat_lt (suc n) (length orders)) (place_at orders (suc n)) (suc (place_at orders n)) (lt-ltb _ _ lt)
 
-pub dropped-more : (endings : List Ending) (start at p q : ℕ) → AreEndingsDropped endings start p → p ≤ q → AreEndingsBelow endings start at q → AreEndingsDropped endings at q
+pub dropped-more : (endings : List OrderEnd) (start at p q : ℕ) → AreEndingsDropped endings start p → p ≤ q → AreEndingsBelow endings start at q → AreEndingsDropped endings at q
 dropped-more endings start at p q old le ended = record {
   inside = ended.inside;
   early = λ i lt below. elim (cases_lt i start) [
@@ -68,7 +68,7 @@ module _ (orders : List Order) (list : IsOrderList orders) (deals : List Deal) (
     is = λ x lt. l.is x lt ∙ ap (λ (m : ℕ). size_in_ledger orders (traded_before orders deals) x - m) (sym (traded-gap orders deals after next x (next-above orders list n n_inside) (no-cause orders list deals named n n_inside next (next-above orders list n n_inside) (next-first orders list n n_inside))));
   }
 
-  module _ (endings : List Ending) (are : AreEndings orders endings) (start at upto : ℕ) (ended : AreEndingsBelow endings start at upto) where
+  module _ (endings : List OrderEnd) (are : AreEndings orders endings) (start at upto : ℕ) (ended : AreEndingsBelow endings start at upto) where
     pub others-hold : upto ≡ after → AreEndingsDropped endings start (place_at orders n) → (b : Books) → AreBooksOfAmounts orders (amount_without endings start at (resting_left_after_deals orders deals (place_at orders n))) b → AreBooksOfAmounts orders (resting_left_without_own orders deals n) b
     others-hold e old b hold = after-endings orders list deals named n n_inside endings are start at old.early (λ i le lt. let l = ended.early i le lt in omega arith) ended.inside (λ lt. let l = ended.next lt in omega arith) b hold
 

@@ -5,12 +5,12 @@ use Rattle.std.proofs.lemmas.Bool.{cases_lt, both_ways, eq-eqb, or_left, or_righ
 use Rattle.audit_base.specs.declared.orders.Order.{Order}
 use Rattle.audit_base.specs.declared.orders.Deal.{Deal}
 use Rattle.audit_base.specs.Orders.{place_at, IsOrderList}
-use Rattle.audit_base.specs.Deals.{names_order, deal_at, IsDealList}
+use Rattle.audit_base.specs.Deals.{names_order, deal_at, IsDealList, number_at}
 use Rattle.audit_base.specs.Continuous.{resting_order, traded_before, traded_at, size_of_order, left_before, left_after}
 use Rattle.audit_base.proofs.ContinuousOffenceLemmas.{traded-more}
 use Rattle.continuous_audit.specs.declared.incoming_deals.IncomingDeal.{IncomingDeal}
 use Rattle.continuous_audit.specs.IncomingDeals.{AreIncomingDeals}
-use Rattle.continuous_audit.specs.Scans.{IsLeftRefreshed, IsSplitAt, deal_index_at, number_in}
+use Rattle.continuous_audit.specs.Scans.{IsLeftRefreshed, IsSplitAt, deal_index_at}
 use Rattle.continuous_audit.proofs.RecordLemmas.{traded-resting}
 use Rattle.continuous_audit.proofs.PassLemmas.{located}
 
@@ -25,8 +25,8 @@ module _ (orders : List Order) (list : IsOrderList orders) (deals : List Deal) (
   p = place_at orders n
 
   pub refreshed-after : (sizes traded old new : List ℕ) → IsLeftRefreshed deals incoming_deals start end sizes traded old new
-      → ((x : ℕ) → x < n → number_in sizes x ≡ size_of_order orders deals x) → ((x : ℕ) → x < length orders → number_in traded x ≡ traded_before orders deals (suc p) x) → ((x : ℕ) → x < n → number_in old x ≡ left_before orders deals p x)
-      → (x : ℕ) → x < n → number_in new x ≡ left_after orders deals p x
+      → ((x : ℕ) → x < n → number_at sizes x ≡ size_of_order orders deals x) → ((x : ℕ) → x < length orders → number_at traded x ≡ traded_before orders deals (suc p) x) → ((x : ℕ) → x < n → number_at old x ≡ left_before orders deals p x)
+      → (x : ℕ) → x < n → number_at new x ≡ left_after orders deals p x
   refreshed-after sizes traded old new is size_is traded_is old_is x lt = elim (is.each x) [
     | inl e ↦ let s = size_is x lt in let t = traded_is x (omega arith) in omega arith
     | inr kept ↦

@@ -14,7 +14,7 @@ use Rattle.audit_base.specs.declared.flaws.Evidence.TheVariants.{Inactive, Limit
 use Rattle.audit_base.specs.declared.terms.Side.TheVariants.{Buy, Sell}
 use Rattle.audit_base.specs.Least.{least_answer, first_answer, only_if}
 use Rattle.audit_base.specs.Orders.{order_at, place_at, side_at, may_rest, IsOrderList}
-use Rattle.audit_base.specs.Deals.{is_price_within, names_order, deal_at, deal_past_end, quantity_traded_by, NamesOrders, IsDealList}
+use Rattle.audit_base.specs.Deals.{is_price_within, names_order, deal_at, deal_past_end, quantity_traded_by, NamesOrders, IsDealList, number_at}
 use Rattle.audit_base.specs.Continuous.{cause, resting_order, incoming_order, traded_before, traded_at, has_entered, size_of_order, rests_before_in_ledger, size_in_ledger, uncancelled_before}
 use Rattle.audit_base.specs.CallOffences.{keeps_limits}
 use Rattle.audit_base.specs.Flaws.{IsEvidenceInside, finding_of}
@@ -30,7 +30,7 @@ use Rattle.continuous_audit.specs.declared.order_numbers.OrderNumbers.{OrderNumb
 use Rattle.continuous_audit.specs.IncomingDeals.{AreIncomingDeals, incoming_deal_of, running_total}
 use Rattle.continuous_audit.specs.Flaws.{order_with_shown}
 use Rattle.continuous_audit.specs.Records.{IsKnownBeforeDeals}
-use Rattle.continuous_audit.specs.Scans.{AreRunningTotals, IsSplitAt, deal_index_at, incoming_deal_past_end, number_in, incoming_order_at}
+use Rattle.continuous_audit.specs.Scans.{AreRunningTotals, IsSplitAt, deal_index_at, incoming_deal_past_end, incoming_order_at}
 use Rattle.continuous_audit.specs.DealFindings as by_deal
 use Rattle.continuous_audit.proofs.FlawLemmas.{IsDealUpto, upto-n, deal-upto}
 use Rattle.continuous_audit.proofs.IncomingLemmas.{incoming-cause, running-upto}
@@ -158,12 +158,12 @@ module _ (orders : List Order) (list : IsOrderList orders) (deals : List Deal) (
               let t : nat_lt (place_at orders d.bid) (place_at orders d.ask) ≡ true = lt-ltb _ _ less in
               let r_is : d.bid ≡ resting_order orders d = sym (cond-true _ d.bid d.ask t) in
               let earlier : place_at orders d.bid < p = omega (arith, cause_here) in
-              cond-true _ _ _ t ∙ waits-is orders past p d.bid (number_in order_numbers.left.items d.bid) earlier (known.left.is d.bid (below-n d.bid named_here.bid_inside earlier)) ∙ ap (rests_before_in_ledger orders past p) r_is
+              cond-true _ _ _ t ∙ waits-is orders past p d.bid (number_at order_numbers.left.items d.bid) earlier (known.left.is d.bid (below-n d.bid named_here.bid_inside earlier)) ∙ ap (rests_before_in_ledger orders past p) r_is
           | inr le ↦
               let f : nat_lt (place_at orders d.bid) (place_at orders d.ask) ≡ false = le-ltb _ _ le in
               let r_is : d.ask ≡ resting_order orders d = sym (cond-false _ d.bid d.ask f) in
               let earlier : place_at orders d.ask < p = subst (λ x. place_at orders x < p) (sym (r_is ∙ e.1.resting_is)) e.1.earlier in
-              cond-false _ _ _ f ∙ waits-is orders past p d.ask (number_in order_numbers.left.items d.ask) earlier (known.left.is d.ask (below-n d.ask named_here.ask_inside earlier)) ∙ ap (rests_before_in_ledger orders past p) r_is
+              cond-false _ _ _ f ∙ waits-is orders past p d.ask (number_at order_numbers.left.items d.ask) earlier (known.left.is d.ask (below-n d.ask named_here.ask_inside earlier)) ∙ ap (rests_before_in_ledger orders past p) r_is
         ]
 
     checked : (bt at' : ℕ) → bt ≡ running_total deals incoming_deals (at + 1) d.bid → at' ≡ running_total deals incoming_deals (at + 1) d.ask

@@ -10,6 +10,7 @@ use Rattle.audit_base.specs.declared.orders.Order.{Order}
 use Rattle.audit_base.specs.declared.orders.Deal.{Deal}
 use Rattle.audit_base.specs.Orders.{order_at, side_at, limit_at, place_at, other_side, IsOrderList}
 use Rattle.audit_base.specs.Continuous.{traded_before, chain_traded_quantity, size_in_ledger, size_of_order, left_before}
+use Rattle.audit_base.specs.Deals.{number_at}
 use Rattle.order_book.specs.declared.books.Resting.{Resting}
 use Rattle.continuous_audit.specs.declared.books.Books.{Books}
 use Rattle.continuous_audit.specs.declared.fills.Fill.{Fill}
@@ -21,7 +22,6 @@ use Rattle.continuous_audit.specs.Fills.{quantity_filled, fills_of, resting_afte
 use Rattle.continuous_audit.specs.Holding.{resting_left_before, resting_left_after_deals}
 use Rattle.continuous_audit.specs.Matching.{AreFillsApplied, AreExpectedDeals, AreTradesSoFar, IsMatchedUnder}
 use Rattle.continuous_audit.specs.Pairs.{IsFillPairInRange, fill_pair}
-use Rattle.continuous_audit.specs.Scans.{number_in}
 use Rattle.continuous_audit.proofs.FilledLemmas.{filled-le, walk-count}
 use Rattle.continuous_audit.proofs.MatchLemmas.{set-at, set-other, set-length, traded-other, traded-own, books-after, pairs-after, fills-inside, fills-inside-any, fills-sized, arrival-is}
 use Rattle.continuous_audit.proofs.NumberLemmas.{chain_ended-more}
@@ -57,7 +57,7 @@ module _ (orders : List Order) (list : IsOrderList orders) (n : ℕ) (n_inside :
     abbrev past : ℕ → ℕ → ℕ
     past = traded_before orders deals
 
-    traded-now : (x : ℕ) → x < length orders → number_in new.traded.items x ≡ past (suc p) x
+    traded-now : (x : ℕ) → x < length orders → number_at new.traded.items x ≡ past (suc p) x
     traded-now x lt = elim (cases_eq x n) [
       | inl e ↦
           let own = traded-own orders list n n_inside deals is old.books_so_far.books old_is.books q q_is in
@@ -71,7 +71,7 @@ module _ (orders : List Order) (list : IsOrderList orders) (n : ℕ) (n_inside :
           ∙ sym (traded-other orders list n n_inside deals is old.books_so_far.books old_is.books q q_is x lt ne)
     ]
 
-    left-now : (x : ℕ) → x < suc n → number_in new.order_numbers.left.items x ≡ left_before orders deals (suc p) x
+    left-now : (x : ℕ) → x < suc n → number_at new.order_numbers.left.items x ≡ left_before orders deals (suc p) x
     left-now x lt = elim (cases_eq x n) [
       | inl e ↦
           let own = traded-own orders list n n_inside deals is old.books_so_far.books old_is.books q q_is in
@@ -85,10 +85,10 @@ module _ (orders : List Order) (list : IsOrderList orders) (n : ℕ) (n_inside :
           let more = traded-other orders list n n_inside deals is old.books_so_far.books old_is.books q q_is x (omega arith) ne in
           let all : quantity_filled fills x ≡ quantity_filled all_fills x = ap (λ (fs : List Fill). quantity_filled fs x) h.fills_are in
           let taken = h.applied.left_is x in
-          set-other h.mid_left new.order_numbers.left.items n rest x h.left ne ∙ (let v : number_in h.mid_left x ≡ size_in_ledger orders past x - past (suc p) x = omega arith in v)
+          set-other h.mid_left new.order_numbers.left.items n rest x h.left ne ∙ (let v : number_at h.mid_left x ≡ size_in_ledger orders past x - past (suc p) x = omega arith in v)
     ]
 
-    before-now : (x : ℕ) → x < suc n → number_in new.order_numbers.chain_traded.items x ≡ chain_traded_quantity orders deals x
+    before-now : (x : ℕ) → x < suc n → number_at new.order_numbers.chain_traded.items x ≡ chain_traded_quantity orders deals x
     before-now x lt = elim (cases_eq x n) [
       | inl e ↦ let long = counted.order_numbers.chain_traded_count in set-at old.order_numbers.chain_traded.items new.order_numbers.chain_traded.items n b x (omega arith) h.chain_traded e ∙ b_is ∙ ap (chain_traded_quantity orders deals) (sym e)
       | inr ne ↦ set-other old.order_numbers.chain_traded.items new.order_numbers.chain_traded.items n b x h.chain_traded ne ∙ old_is.chain_traded_is x (omega (arith, ne))
@@ -115,7 +115,7 @@ module _ (orders : List Order) (list : IsOrderList orders) (n : ℕ) (n_inside :
         dealt-by Sell f lt some most = record { bid_inside = lt; ask_inside = n_inside; some = some; most = most }
 
     pub traded-counted : q ≤ 10 ^ 12 → b ≤ n * 2 ^ 72 → (chain_ended : Bool) → (chain_ended ≡ true → HasChainEnded orders n) → new.order_numbers.chain_ended.items ≡ slice_set old.order_numbers.chain_ended.items n chain_ended → new.order_numbers.sizes.items ≡ slice_set old.order_numbers.sizes.items n q
-        → AreTradesSoFar orders (suc n) (min 1 (number_in new.order_numbers.left.items n)) new
+        → AreTradesSoFar orders (suc n) (min 1 (number_at new.order_numbers.left.items n)) new
     traded-counted fits bounded chain_ended chain_ended_is chain_ended_new sizes_new =
         let long_traded : length h.mid_traded ≡ length orders = h.applied.traded_count ∙ counted.traded_count in
         let long_left : length h.mid_left ≡ length orders = h.applied.left_count ∙ counted.order_numbers.left_count in
@@ -127,7 +127,7 @@ module _ (orders : List Order) (list : IsOrderList orders) (n : ℕ) (n_inside :
             left_count = set-length h.mid_left new.order_numbers.left.items n rest h.left ∙ long_left;
             chain_ended = chain_ended-more orders deals n n_inside old.order_numbers.chain_ended.items new.order_numbers.chain_ended.items chain_ended counted.order_numbers.chain_ended chain_ended_is chain_ended_new;
             bounded = λ x. elim (cases_eq x n) [
-              | inl e ↦ let l = counted.order_numbers.chain_traded_count in let v = set-at old.order_numbers.chain_traded.items new.order_numbers.chain_traded.items n b x (omega arith) h.chain_traded e in subst (λ (k : ℕ). number_in new.order_numbers.chain_traded.items x ≤ k * 2 ^ 72) (sym e) (omega arith)
+              | inl e ↦ let l = counted.order_numbers.chain_traded_count in let v = set-at old.order_numbers.chain_traded.items new.order_numbers.chain_traded.items n b x (omega arith) h.chain_traded e in subst (λ (k : ℕ). number_at new.order_numbers.chain_traded.items x ≤ k * 2 ^ 72) (sym e) (omega arith)
               | inr ne ↦ let v = set-other old.order_numbers.chain_traded.items new.order_numbers.chain_traded.items n b x h.chain_traded ne in let was = counted.order_numbers.bounded x in omega arith
             ];
           };
@@ -140,7 +140,7 @@ module _ (orders : List Order) (list : IsOrderList orders) (n : ℕ) (n_inside :
                 omega (arith, filled-le fills x)
           ];
           dealt = subst (All (IsFillPairInRange (length orders))) (sym h.pairs) (All-append (IsFillPairInRange (length orders)) old.pairs.items (map (fill_pair s n) fills) counted.dealt (dealt-new fits));
-          few =
+          within =
               let ys = book_list (other_side s) old.books_so_far.books in
               let zs = resting_after_fills s (limit_at orders n) q ys in
               let a : length new.pairs.items ≡ length old.pairs.items + length (map (fill_pair s n) fills) = ap (λ (ps : List FillPair). length ps) h.pairs ∙ length-append old.pairs.items (map (fill_pair s n) fills) in
@@ -150,7 +150,7 @@ module _ (orders : List Order) (list : IsOrderList orders) (n : ℕ) (n_inside :
               let f : resting_count new.books_so_far.books ≡ resting_count (books_with_list (other_side s) zs old.books_so_far.books) = ap resting_count h.books in
               let g = count-with (other_side s) zs old.books_so_far.books in
               let own = set-at h.mid_left new.order_numbers.left.items n rest n (omega arith) h.left refl in
-              let few = counted.few in
+              let few = counted.within in
               let rest_as : rest ≡ q - total_filled all_fills = omega arith in
               omega (arith, walk-count s (limit_at orders n) q ys);
         }
@@ -178,7 +178,7 @@ traded-read orders n q rest b old new own own_is made first second mid_traded mi
 module _ (orders : List Order) (list : IsOrderList orders) (n : ℕ) (n_inside : n < length orders) (old : TradesSoFar) where
   pub first-read : (deals : List Deal) → AreExpectedDeals orders deals → IsMatchedUnder orders deals n (place_at orders n) (resting_left_before orders (traded_before orders deals) (place_at orders n)) old
       → (traded : List ℕ) → traded ≡ old.traded.items → IsKnownBeforeArrival orders deals n traded old.order_numbers
-  first-read deals is old_is traded t_is = arrival-is orders list n n_inside deals is traded old.order_numbers (λ x lt. ap (λ (xs : List ℕ). number_in xs x) t_is ∙ old_is.traded_is x lt) old_is.chain_traded_is old_is.left_is
+  first-read deals is old_is traded t_is = arrival-is orders list n n_inside deals is traded old.order_numbers (λ x lt. ap (λ (xs : List ℕ). number_at xs x) t_is ∙ old_is.traded_is x lt) old_is.chain_traded_is old_is.left_is
 
   pub first-inside : AreTradesSoFar orders n 0 old → (deals : List Deal) → AreExpectedDeals orders deals → IsMatchedUnder orders deals n (place_at orders n) (resting_left_before orders (traded_before orders deals) (place_at orders n)) old
       → (q : ℕ) (own : Order) → own ≡ order_at orders n → (fills : List Fill) → fills ≡ fills_of own.side own.limit q (book_list (other_side own.side) old.books_so_far.books)

@@ -6,12 +6,12 @@ use Rattle.audit_base.specs.declared.orders.Order.{Order}
 use Rattle.audit_base.specs.declared.orders.Deal.{Deal}
 use Rattle.audit_base.specs.Orders.{place_at}
 use Rattle.audit_base.specs.Continuous.{traded_before}
+use Rattle.audit_base.specs.Deals.{number_at}
 use Rattle.order_book.specs.declared.books.Resting.{Resting}
 use Rattle.order_book.specs.Books.{without_order, with_order}
 use Rattle.continuous_audit.specs.declared.books.Books.{Books}
 use Rattle.continuous_audit.specs.declared.books.BooksSoFar.{BooksSoFar}
 use Rattle.continuous_audit.specs.Holding.{IsListOfAmounts, after_fills, resting_left_before, resting_left_after_deals}
-use Rattle.continuous_audit.specs.Scans.{number_in}
 
 -- the list of the book of a side
 abbrev pub book_list : Side → Books → List Resting
@@ -38,7 +38,7 @@ books_with_order Sell r b =
 -- the books with what is left now of the best orders of a side
 abbrev pub books_with_fills : Side → List ℕ → Books → Books
 books_with_fills side left b =
-    books_with_list side (after_fills (number_in left) (book_list side b)) b
+    books_with_list side (after_fills (number_at left) (book_list side b)) b
 
 -- how many orders rest in both books
 abbrev pub resting_count : Books → ℕ

@@ -4,10 +4,9 @@ use Rattle.audit_base.specs.declared.orders.Order.{Order}
 use Rattle.audit_base.specs.declared.orders.Deal.{Deal}
 use Rattle.audit_base.specs.Orders.{order_at, place_at}
 use Rattle.audit_base.specs.Continuous.{chain, traded_before, chain_traded_quantity, left_before}
-use Rattle.audit_base.specs.Deals.{NamesOrders}
+use Rattle.audit_base.specs.Deals.{NamesOrders, number_at}
 use Rattle.audit_base.specs.ContinuousRules.{ConformsAt}
 use Rattle.continuous_audit.specs.declared.order_numbers.OrderNumbers.{OrderNumbers}
-use Rattle.continuous_audit.specs.Scans.{number_in}
 
 -- a record up to a place ends an order
 abbrev pub ends_by : Option ℕ → ℕ → Bool
@@ -31,7 +30,7 @@ pub record HaveChainsEnded (orders : List Order) (m : ℕ) (chain_ended : List B
 
 -- Before of an order is at most 2^72 for each order ahead of it in the list
 abbrev pub IsChainTradedBounded : List ℕ → Type 0
-IsChainTradedBounded chain_traded = (order : ℕ) → number_in chain_traded order ≤ order * 2 ^ 72
+IsChainTradedBounded chain_traded = (order : ℕ) → number_at chain_traded order ≤ order * 2 ^ 72
 
 -- whatever the deals are, there are numbers of each order, no Before is too great, and of the first
 -- m orders those whose flag is set have such a chain
@@ -50,10 +49,10 @@ pub record IsKnownBeforeArrival (orders : List Order) (deals : List Deal) (order
   pub conforms : (place : ℕ) → place < place_at orders order → ConformsAt orders deals place
   pub named : All (NamesOrders orders) deals
   pub traded_is : (other : ℕ) → other < length orders
-      → number_in traded other ≡ traded_before orders deals (place_at orders order) other
+      → number_at traded other ≡ traded_before orders deals (place_at orders order) other
   pub chain_traded_is : (other : ℕ) → other < order
-      → number_in order_numbers.chain_traded.items other
+      → number_at order_numbers.chain_traded.items other
       ≡ chain_traded_quantity orders deals other
   pub left_is : (other : ℕ) → other < order
-      → number_in order_numbers.left.items other
+      → number_at order_numbers.left.items other
       ≡ left_before orders deals (place_at orders order) other

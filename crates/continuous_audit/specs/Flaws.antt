@@ -13,14 +13,14 @@ use Rattle.audit_base.specs.Orders.{place_at, side_at}
 use Rattle.audit_base.specs.Continuous.{resting_order}
 use Rattle.audit_base.specs.ContinuousOffences.{finding_at_place, traded_shown_after}
 use Rattle.audit_base.specs.Flaws.{IsEvidenceInside, finding_of}
+use Rattle.audit_base.specs.Deals.{number_at}
 use Rattle.continuous_audit.specs.declared.market.Market.{Market}
 use Rattle.continuous_audit.specs.declared.numbers.DealingState.{DealingState}
-use Rattle.continuous_audit.specs.Scans.{number_in}
 
 -- the number that is shown with an order: what it has traded, and its Before added
 abbrev pub shown_number : DealingState → ℕ → ℕ
-shown_number numbers order = number_in numbers.running.traded.items order
-    + number_in numbers.order_numbers.chain_traded.items order
+shown_number numbers order = number_at numbers.running.traded.items order
+    + number_at numbers.order_numbers.chain_traded.items order
 
 -- the two numbers are there for the order, and their sum fits 128 bits
 pub record HasShownNumber (numbers : DealingState) (order : ℕ) : Type 0 where

@@ -7,9 +7,9 @@ use Rattle.audit_base.specs.declared.orders.Deal.{Deal}
 use Rattle.audit_base.specs.Orders.{order_at, place_at, side_at, limit_at}
 use Rattle.audit_base.specs.Continuous.{traded_before, traded_at, rests_before_in_ledger, left_before_in_ledger, uncancelled_before}
 use Rattle.audit_base.specs.Expected.{limits_meet}
+use Rattle.audit_base.specs.Deals.{number_at}
 use Rattle.order_book.specs.declared.books.Resting.{Resting}
 use Rattle.order_book.specs.Books.{IsAheadInBook, best_resting}
-use Rattle.continuous_audit.specs.Scans.{number_in}
 
 -- an order in a book, with this much left
 abbrev pub resting_with : List Order → ℕ → ℕ → Resting
@@ -56,7 +56,7 @@ after_fills left (x ∷ xs) = if nat_lt 0 (left x.index)
 -- the list has the order, and not more than the book
 pub record IsWithinBook (left : List ℕ) (r : Resting) : Type 0 where
   pub inside : r.index < length left
-  pub most : number_in left r.index ≤ r.left
+  pub most : number_at left r.index ≤ r.left
 
 -- of the orders that rest before a place, no bid meets an ask
 abbrev pub IsUncrossedBefore : List Order → (ℕ → ℕ → ℕ) → ℕ → Type 0

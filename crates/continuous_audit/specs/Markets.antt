@@ -16,7 +16,7 @@ use Rattle.continuous_audit.specs.Scans.{AreRunningTotals, IsLeftRefreshed, IsSp
 -- the deals are over the order list, and each deal and each order that is ended
 -- belongs to its record
 pub record IsMarket (m : Market) : Type 0 where
-  pub list : IsOrderList m.orders.now
+  pub order_list : IsOrderList m.orders.now
   pub deal_list : IsDealList m.orders.now m.deals.now
   pub incoming_deals : AreIncomingDeals m.orders.now m.deals.now m.incoming_deals.now
   pub endings : AreEndings m.orders.now m.endings.now

@@ -6,13 +6,13 @@ use Rattle.audit_base.specs.Orders.{place_at}
 use Rattle.audit_base.specs.Continuous.{traded_before, chain_traded_quantity, left_before}
 use Rattle.audit_base.specs.ContinuousRules.{ConformsContinuous}
 use Rattle.audit_base.specs.Expected.{IsExpectedContinuous}
+use Rattle.audit_base.specs.Deals.{number_at}
 use Rattle.continuous_audit.specs.declared.matching.TradesSoFar.{TradesSoFar}
 use Rattle.continuous_audit.specs.Holding.{resting_left_before, resting_left_after_deals}
 use Rattle.continuous_audit.specs.Books.{AreEmptyBooks, AreBooksOfAmounts, resting_count}
 use Rattle.continuous_audit.specs.Chains.{AreNumbersInBounds}
 use Rattle.continuous_audit.specs.Fills.{quantity_filled}
 use Rattle.continuous_audit.specs.Pairs.{AreSharedPairs, IsFillPairInRange}
-use Rattle.continuous_audit.specs.Scans.{number_in}
 use Rattle.continuous_audit.specs.OrderNumbers.{AreBlankNumbers}
 use Rattle.continuous_audit.specs.declared.fills.Fill.{Fill}
 
@@ -26,28 +26,28 @@ pub record AreFillsApplied (fills : List Fill)
     (old_traded old_left traded left : List ℕ) : Type 0 where
   pub traded_count : length traded ≡ length old_traded
   pub left_count : length left ≡ length old_left
-  pub traded_is : (order : ℕ) → number_in traded order
-      ≡ number_in old_traded order + quantity_filled fills order
-  pub left_is : (order : ℕ) → number_in left order
-      ≡ number_in old_left order - quantity_filled fills order
+  pub traded_is : (order : ℕ) → number_at traded order
+      ≡ number_at old_traded order + quantity_filled fills order
+  pub left_is : (order : ℕ) → number_at left order
+      ≡ number_at old_left order - quantity_filled fills order
 
 -- whatever the deals are: there is a number for each order, what was traded is not too great, and
 -- the pairs, the orders in the books and the one that waits to enter are together at most n
 pub record AreTradesSoFar (orders : List Order) (n waiting : ℕ) (t : TradesSoFar) : Type 0 where
   pub traded_count : length t.traded.items ≡ length orders
   pub order_numbers : AreNumbersInBounds orders n t.order_numbers
-  pub traded_fits : (order : ℕ) → number_in t.traded.items order ≤ n * 10 ^ 12
+  pub traded_fits : (order : ℕ) → number_at t.traded.items order ≤ n * 10 ^ 12
   pub dealt : All (IsFillPairInRange (length orders)) t.pairs.items
-  pub few : length t.pairs.items + resting_count t.books_so_far.books + waiting ≤ n
+  pub within : length t.pairs.items + resting_count t.books_so_far.books + waiting ≤ n
 
 -- under these deals, of the first n orders before a place, where the books hold these amounts
 pub record IsMatchedUnder (orders : List Order) (deals : List Deal) (n place : ℕ) (amount : ℕ → ℕ)
     (t : TradesSoFar) : Type 0 where
   pub traded_is : (order : ℕ) → order < length orders
-      → number_in t.traded.items order ≡ traded_before orders deals place order
-  pub chain_traded_is : (order : ℕ) → order < n → number_in t.order_numbers.chain_traded.items order
+      → number_at t.traded.items order ≡ traded_before orders deals place order
+  pub chain_traded_is : (order : ℕ) → order < n → number_at t.order_numbers.chain_traded.items order
       ≡ chain_traded_quantity orders deals order
-  pub left_is : (order : ℕ) → order < n → number_in t.order_numbers.left.items order
+  pub left_is : (order : ℕ) → order < n → number_at t.order_numbers.left.items order
       ≡ left_before orders deals place order
   pub books : AreBooksOfAmounts orders amount t.books_so_far.books
   pub pairs : AreSharedPairs orders deals n t.pairs.items

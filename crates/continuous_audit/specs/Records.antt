@@ -8,10 +8,11 @@ use Rattle.audit_base.specs.Continuous.{traded_before, chain_traded_quantity, ha
 use Rattle.audit_base.specs.ContinuousRules.{ConformsAt}
 use Rattle.audit_base.specs.Least.{least_answer}
 use Rattle.audit_base.specs.ContinuousOffences.{conservation_finding, resting_priority_finding}
+use Rattle.audit_base.specs.Deals.{number_at}
 use Rattle.continuous_audit.specs.declared.order_numbers.OrderNumbers.{OrderNumbers}
 use Rattle.continuous_audit.specs.Holding.{IsUncrossedBefore}
 use Rattle.continuous_audit.specs.Chains.{IsChainTradedBounded}
-use Rattle.continuous_audit.specs.Scans.{AreTotalsSmall, number_in}
+use Rattle.continuous_audit.specs.Scans.{AreTotalsSmall}
 
 -- the rule holds at each place below this one
 abbrev pub ConformsBelow : List Order → List Deal → ℕ → Type 0
@@ -27,22 +28,22 @@ pub record ConformsAndIsUncrossed (orders : List Order) (deals : List Deal)
 pub record AreChainTradedNumbers (orders : List Order) (deals : List Deal) (m : ℕ)
     (chain_traded : List ℕ) : Type 0 where
   pub count : length chain_traded ≡ length orders
-  pub is : (order : ℕ) → order < m → number_in chain_traded order
+  pub is : (order : ℕ) → order < m → number_at chain_traded order
       ≡ chain_traded_quantity orders deals order
-  pub fits : (order : ℕ) → number_in chain_traded order ≤ 2 ^ 126
+  pub fits : (order : ℕ) → number_at chain_traded order ≤ 2 ^ 126
   pub bounded : IsChainTradedBounded chain_traded
 
 -- Size of each of the first m orders
 pub record AreSizes (orders : List Order) (deals : List Deal) (m : ℕ)
     (sizes : List ℕ) : Type 0 where
   pub count : length sizes ≡ length orders
-  pub is : (order : ℕ) → order < m → number_in sizes order ≡ size_of_order orders deals order
+  pub is : (order : ℕ) → order < m → number_at sizes order ≡ size_of_order orders deals order
 
 -- what is left of each of the first m orders before a place
 pub record AreLeftBefore (orders : List Order) (deals : List Deal) (m place : ℕ)
     (left : List ℕ) : Type 0 where
   pub count : length left ≡ length orders
-  pub is : (order : ℕ) → order < m → number_in left order ≡ left_before orders deals place order
+  pub is : (order : ℕ) → order < m → number_at left order ≡ left_before orders deals place order
 
 -- before the deals of an order: whether it entered, Before and Size of each order up to it, and
 -- what
@@ -58,7 +59,7 @@ pub record IsKnownBeforeDeals (orders : List Order) (deals : List Deal) (order :
 pub record AreTradedBefore (orders : List Order) (deals : List Deal) (place : ℕ)
     (traded : List ℕ) : Type 0 where
   pub small : AreTotalsSmall orders traded
-  pub is : (order : ℕ) → order < length orders → number_in traded order
+  pub is : (order : ℕ) → order < length orders → number_at traded order
       ≡ traded_before orders deals place order
 
 -- the first finding of conservation, and the first of priority, at the record of an order

@@ -2,13 +2,9 @@
 use Rattle.std.specs.Prelude.{◌≡◌, ◌<◌, ◌≤◌, ◌-◌, ◌*◌, ◌^◌, ◌⊎◌, ℕ, suc, false, List, Option, None, Some, length, slice_index_or}
 use Rattle.audit_base.specs.declared.orders.Order.{Order}
 use Rattle.audit_base.specs.declared.orders.Deal.{Deal}
-use Rattle.audit_base.specs.Deals.{names_order, deal_at}
+use Rattle.audit_base.specs.Deals.{names_order, deal_at, number_at}
 use Rattle.continuous_audit.specs.declared.incoming_deals.IncomingDeal.{IncomingDeal}
 use Rattle.continuous_audit.specs.IncomingDeals.{running_total}
-
--- the number at an index of a list
-abbrev pub number_in : List ℕ → ℕ → ℕ
-number_in numbers index = slice_index_or numbers index 0
 
 -- what is given past the end of the incoming deals; and of the one at an index, the incoming order
 -- and the index of the deal
@@ -28,9 +24,9 @@ pub record AreRunningTotals (orders : List Order) (deals : List Deal)
     (incoming_deals : List IncomingDeal) (added : ℕ) (traded : List ℕ) : Type 0 where
   pub inside : added ≤ length incoming_deals
   pub count : length traded ≡ length orders
-  pub sums : (order : ℕ) → order < length orders → number_in traded order
+  pub sums : (order : ℕ) → order < length orders → number_at traded order
       ≡ running_total deals incoming_deals added order
-  pub fits : (order : ℕ) → order < length orders → number_in traded order ≤ added * 10 ^ 12
+  pub fits : (order : ℕ) → order < length orders → number_at traded order ≤ added * 10 ^ 12
 
 -- the incoming deals before an index are those of the orders before this one
 pub record IsSplitAt (incoming_deals : List IncomingDeal) (order index : ℕ) : Type 0 where
@@ -59,11 +55,11 @@ pub record HasDeals (deals : List Deal) (incoming_deals : List IncomingDeal)
 pub record IsLeftRefreshed (deals : List Deal) (incoming_deals : List IncomingDeal) (start end : ℕ)
     (sizes traded old new : List ℕ) : Type 0 where
   pub count : length new ≡ length old
-  pub each : (order : ℕ) → (number_in new order ≡ number_in sizes order - number_in traded order)
-      ⊎ ((number_in new order ≡ number_in old order) × ((index : ℕ) → start ≤ index → index < end
+  pub each : (order : ℕ) → (number_at new order ≡ number_at sizes order - number_at traded order)
+      ⊎ ((number_at new order ≡ number_at old order) × ((index : ℕ) → start ≤ index → index < end
       → names_order order (deal_at deals (deal_index_at incoming_deals index)) ≡ false))
 
 -- what each order has traded is there, and at most 2^72
 pub record AreTotalsSmall (orders : List Order) (traded : List ℕ) : Type 0 where
   pub count : length traded ≡ length orders
-  pub most : (order : ℕ) → order < length orders → number_in traded order ≤ 2 ^ 72
+  pub most : (order : ℕ) → order < length orders → number_at traded order ≤ 2 ^ 72

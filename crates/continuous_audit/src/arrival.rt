@@ -72,7 +72,7 @@ pub fn arrive_order(
     order_numbers: &OrderNumbers,
     order: usize,
 ) -> Arrival
-    requires list { IsOrderList orders.now }
+    requires order_list { IsOrderList orders.now }
     requires order { order < length orders.now }
     requires traded { AreTotalsSmall orders.now traded.now }
     requires order_numbers { AreNumbersInBounds orders.now order order_numbers.now }

@@ -10,7 +10,7 @@ ghost use Rattle.continuous_audit.specs.Books.{AreBooksAfter, AreBooksAfterDeals
 ghost use Rattle.continuous_audit.specs.Books.{resting_count, books_with_fills};
 ghost use Rattle.continuous_audit.specs.Holding.{IsWithinBook};
 
-use super::endings::Ending;
+use super::endings::OrderEnd;
 use super::filling::fill_best;
 use audit_base::faults::NoMemory;
 use audit_base::numbers::Price;
@@ -123,7 +123,7 @@ impl BooksSoFar {
     }
 
     /// Takes the orders out of the books that records before a place end.
-    fn drop_ended(&mut self, orders: &OrderList<'_>, endings: &[Ending], upto: u64)
+    fn drop_ended(&mut self, orders: &OrderList<'_>, endings: &[OrderEnd], upto: u64)
         requires inside { All (IsEnding orders.now) endings.now }
         requires from { self.old.start ≤ length endings.now }
         ensures ended { AreEndingsBelow endings.now self.old.start self.new.start upto }
@@ -145,8 +145,8 @@ impl BooksSoFar {
     }
 
     /// Takes out of the books what the record of an order ends, after its deals.
-    pub fn drop_own(&mut self, orders: &OrderList<'_>, endings: &[Ending], order: usize)
-        requires list { IsOrderList orders.now }
+    pub fn drop_own(&mut self, orders: &OrderList<'_>, endings: &[OrderEnd], order: usize)
+        requires order_list { IsOrderList orders.now }
         requires order { order < length orders.now }
         requires endings { AreEndings orders.now endings.now }
         requires dropped { AreEndingsDropped endings.now self.old.start
@@ -163,8 +163,8 @@ impl BooksSoFar {
     }
 
     /// Takes out of the books what is ended between the record of an order and that of the next.
-    pub fn drop_before_next(&mut self, orders: &OrderList<'_>, endings: &[Ending], order: usize)
-        requires list { IsOrderList orders.now }
+    pub fn drop_before_next(&mut self, orders: &OrderList<'_>, endings: &[OrderEnd], order: usize)
+        requires order_list { IsOrderList orders.now }
         requires order { order < length orders.now }
         requires endings { AreEndings orders.now endings.now }
         requires dropped { AreEndingsDropped endings.now self.old.start

@@ -3,8 +3,9 @@ ghost use Rattle.std.specs.Prelude.{◌≡◌, ◌<◌, ◌≤◌, ◌*◌, ◌^
 ghost use Rattle.audit_base.specs.declared.orders.Deal.{Deal as ADeal};
 ghost use Rattle.audit_base.specs.Orders.{IsOrderList};
 ghost use Rattle.audit_base.specs.Continuous.{chain_traded_quantity, chain};
+ghost use Rattle.audit_base.specs.Deals.{number_at};
 ghost use Rattle.continuous_audit.specs.Chains.{HasChainEnded, AreNumbersInBounds, IsKnownBeforeArrival, ends_by};
-ghost use Rattle.continuous_audit.specs.Scans.{AreTotalsSmall, number_in};
+ghost use Rattle.continuous_audit.specs.Scans.{AreTotalsSmall};
 
 use super::order_numbers::OrderNumbers;
 use order_list::lists::OrderList;
@@ -12,10 +13,10 @@ use order_list::lists::OrderList;
 /// What the orders of the chain of an order have traded: its target, the target's
 /// target, and so on.
 fn chain_total(orders: &OrderList<'_>, traded: &[u128], order: usize) -> u128
-    requires list { IsOrderList orders.now }
+    requires order_list { IsOrderList orders.now }
     requires order { order < length orders.now }
     requires traded { AreTotalsSmall orders.now traded.now }
-    ensures total { result ≡ sum_by (number_in traded.now) (chain orders.now order) }
+    ensures total { result ≡ sum_by (number_at traded.now) (chain orders.now order) }
     ensures bounded { result ≤ order * 2 ^ 72 }
 {
     let mut total: u128 = 0;
@@ -35,7 +36,7 @@ pub fn traded_by_chain(
     order_numbers: &OrderNumbers,
     order: usize,
 ) -> u128
-    requires list { IsOrderList orders.now }
+    requires order_list { IsOrderList orders.now }
     requires order { order < length orders.now }
     requires traded { AreTotalsSmall orders.now traded.now }
     requires order_numbers { AreNumbersInBounds orders.now order order_numbers.now }
@@ -65,7 +66,7 @@ fn ends_by(cancelled: Option<u32>, place: u32) -> bool
 /// Whether the record of an order, or an earlier one, ends each order of its chain: false also
 /// where that is not known.
 pub fn is_chain_ended(orders: &OrderList<'_>, order_numbers: &OrderNumbers, order: usize) -> bool
-    requires list { IsOrderList orders.now }
+    requires order_list { IsOrderList orders.now }
     requires order { order < length orders.now }
     requires order_numbers { AreNumbersInBounds orders.now order order_numbers.now }
     ensures { result ≡ true → HasChainEnded orders.now order }

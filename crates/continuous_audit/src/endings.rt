@@ -9,14 +9,14 @@ use std::alloc::Global;
 
 /// An order that a record ends, by its index, with the place of the record.
 #[derive(Clone, Copy, Debug, PartialEq, Eq, PartialOrd, Ord)]
-pub struct Ending {
+pub struct OrderEnd {
     pub place: u32,
     pub index: u32,
 }
 
 /// Adds an order, if a record ends it.
 fn add_ending(
-    endings: &mut Vec<Ending>,
+    endings: &mut Vec<OrderEnd>,
     index: u32,
     order: &ListedOrder<'_>,
 ) -> Result<(), NoMemory>
@@ -24,7 +24,7 @@ fn add_ending(
 {
     match order.cancelled() {
         Some(place) => {
-            endings.push(Ending { place, index })?;
+            endings.push(OrderEnd { place, index })?;
             Ok(())
         }
         None => Ok(()),
@@ -32,8 +32,8 @@ fn add_ending(
 }
 
 /// The orders that a record ends, in log order.
-fn collect_endings(alloc: Global, orders: &OrderList<'_>) -> Result<Vec<Ending>, NoMemory>
-    requires fits_places { length orders.now < 2 ^ 32 }
+fn collect_endings(alloc: Global, orders: &OrderList<'_>) -> Result<Vec<OrderEnd>, NoMemory>
+    requires fits_indices { length orders.now < 2 ^ 32 }
     ensures { IfOk result
         (λ endings. endings.items ≡ endings_below orders.now (length orders.now)) }
 {
@@ -45,8 +45,8 @@ fn collect_endings(alloc: Global, orders: &OrderList<'_>) -> Result<Vec<Ending>,
 }
 
 /// The orders that a record ends, by the place of this record.
-pub fn sort_endings(alloc: Global, orders: &OrderList<'_>) -> Result<Vec<Ending>, NoMemory>
-    requires fits_places { length orders.now < 2 ^ 32 }
+pub fn sort_endings(alloc: Global, orders: &OrderList<'_>) -> Result<Vec<OrderEnd>, NoMemory>
+    requires fits_indices { length orders.now < 2 ^ 32 }
     ensures { IfOk result (λ endings. AreEndings orders.now endings.items) }
 {
     let mut endings = collect_endings(alloc, orders)?;

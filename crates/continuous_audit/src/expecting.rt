@@ -10,7 +10,7 @@ ghost use Rattle.continuous_audit.specs.Endings.{AreEndingsDropped, AreEndings};
 ghost use Rattle.continuous_audit.specs.Matching.{AreTradesAtStart, AreTradesSoFar, MatchedBefore};
 
 use super::books::BooksSoFar;
-use super::endings::{Ending, sort_endings};
+use super::endings::{OrderEnd, sort_endings};
 use super::matching::{TradesSoFar, match_record};
 use super::order_numbers::OrderNumbers;
 use super::pairs::{number_pairs, sort_pairs};
@@ -38,10 +38,10 @@ fn no_trades(alloc: Global, count: usize) -> Result<TradesSoFar, NoMemory>
 /// Goes over the records of the orders.
 fn match_records(
     orders: &OrderList<'_>,
-    endings: &[Ending],
+    endings: &[OrderEnd],
     so_far: &mut TradesSoFar,
 ) -> Result<(), NoMemory>
-    requires list { IsOrderList orders.now }
+    requires order_list { IsOrderList orders.now }
     requires regular { Regular orders.now }
     requires endings { AreEndings orders.now endings.now }
     requires dropped { AreEndingsDropped endings.now so_far.old.books_so_far.start

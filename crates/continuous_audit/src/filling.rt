@@ -1,8 +1,8 @@
 //! What the deals of one record take from a book.
 ghost use Rattle.std.specs.Prelude.{◌≡◌, ◌<◌, ◌≤◌, All, IfSome};
+ghost use Rattle.audit_base.specs.Deals.{number_at};
 ghost use Rattle.order_book.specs.Books.{best_resting};
 ghost use Rattle.continuous_audit.specs.Holding.{after_fills, with_best_left, IsWithinBook};
-ghost use Rattle.continuous_audit.specs.Scans.{number_in};
 
 use order_book::books::Book;
 
@@ -23,7 +23,7 @@ fn leave_of_best(book: &mut Book, left: u64, now: u64)
 pub fn fill_best(book: &mut Book, left: &[u64])
     requires within { All (IsWithinBook left.now) book.old.resting }
     ensures { book.new ≡ record book.old {
-      resting = after_fills (number_in left.now)
+      resting = after_fills (number_at left.now)
           book.old.resting;
     } }
 {

@@ -1,7 +1,8 @@
 //! What is left of the orders after the deals of a record.
 ghost use Rattle.std.specs.Prelude.{◌≡◌, ◌<◌, ◌≤◌, ◌-◌, length, slice_set, vec_len};
+ghost use Rattle.audit_base.specs.Deals.{number_at};
 ghost use Rattle.continuous_audit.specs.Markets.{IsLeftRefreshedIn};
-ghost use Rattle.continuous_audit.specs.Scans.{HasDeals, number_in};
+ghost use Rattle.continuous_audit.specs.Scans.{HasDeals};
 
 use super::market::Market;
 use super::scanning::RunningTotals;
@@ -11,7 +12,7 @@ use matching_core::totals::left_of;
 pub fn left_at(sizes: &[u64], traded: &[u128], order: usize) -> u64
     requires sizes { order < length sizes.now }
     requires traded { order < length traded.now }
-    ensures { result ≡ number_in sizes.now order - number_in traded.now order }
+    ensures { result ≡ number_at sizes.now order - number_at traded.now order }
 {
     left_of(sizes[order], traded[order])
 }

@@ -1,5 +1,5 @@
 //! What is judged: the orders and the deals, and which of them belong to which record.
-use super::endings::Ending;
+use super::endings::OrderEnd;
 use super::incoming_deals::IncomingDeal;
 use audit_base::orders::Deal;
 use order_list::lists::OrderList;
@@ -12,5 +12,5 @@ pub struct Market<'a> {
     /// The deals by their incoming orders.
     pub incoming_deals: &'a [IncomingDeal],
     /// The orders that records end, by the places of these records.
-    pub endings: &'a [Ending],
+    pub endings: &'a [OrderEnd],
 }

@@ -2,15 +2,15 @@
 ghost use Rattle.std.specs.Prelude.{◌≡◌, ◌<◌, ◌≤◌, ◌+◌, ◌-◌, ◌*◌, ◌^◌, ◌∷◌, [], ℕ, suc, min, All, IfOk, OnOk, length, slice_set, vec_len};
 ghost use Rattle.audit_base.specs.Orders.{IsOrderList, limit_at, other_side, place_at, side_at};
 ghost use Rattle.audit_base.specs.Histories.{Regular};
+ghost use Rattle.audit_base.specs.Deals.{number_at};
 ghost use Rattle.continuous_audit.specs.Books.{book_list, next_order_place, books_with_list};
 ghost use Rattle.continuous_audit.specs.Endings.{AreEndingsDropped, AreEndings};
 ghost use Rattle.continuous_audit.specs.Fills.{fills_of, resting_after_fills, total_filled};
 ghost use Rattle.continuous_audit.specs.Matching.{AreFillsApplied, AreTradesSoFar, MatchedAfter, MatchedBefore};
-ghost use Rattle.continuous_audit.specs.Scans.{number_in};
 
 use super::arrival::arrive_order;
 use super::books::{Books, BooksSoFar};
-use super::endings::Ending;
+use super::endings::OrderEnd;
 use super::fills::{Fill, take_fills};
 use super::leaving::set_amount;
 use super::order_numbers::OrderNumbers;
@@ -46,7 +46,7 @@ fn set_total(traded: &mut Vec<u128>, order: usize, total: u128)
 fn apply_fill(fill: &Fill, traded: &mut Vec<u128>, left: &mut Vec<u64>)
     requires traded_inside { fill.now.index < vec_len traded.old }
     requires left_inside { fill.now.index < vec_len left.old }
-    requires fits { number_in traded.old.items fill.now.index + fill.now.quantity < 2 ^ 128 }
+    requires fits { number_at traded.old.items fill.now.index + fill.now.quantity < 2 ^ 128 }
     ensures { AreFillsApplied (fill.now ∷ []) traded.old.items left.old.items traded.new.items
         left.new.items }
 {
@@ -59,7 +59,7 @@ fn apply_fill(fill: &Fill, traded: &mut Vec<u128>, left: &mut Vec<u64>)
 fn apply_fills(fills: &[Fill], traded: &mut Vec<u128>, left: &mut Vec<u64>)
     requires traded_inside { All (λ f. f.index < vec_len traded.old) fills.now }
     requires left_inside { All (λ f. f.index < vec_len left.old) fills.now }
-    requires fits { (x : ℕ) → number_in traded.old.items x + total_filled fills.now < 2 ^ 128 }
+    requires fits { (x : ℕ) → number_at traded.old.items x + total_filled fills.now < 2 ^ 128 }
     ensures { AreFillsApplied fills.now traded.old.items left.old.items traded.new.items
         left.new.items }
 {
@@ -97,14 +97,14 @@ fn trade_order(
     order: usize,
     so_far: &mut TradesSoFar,
 ) -> Result<(), NoMemory>
-    requires list { IsOrderList orders.now }
+    requires order_list { IsOrderList orders.now }
     requires regular { Regular orders.now }
     requires order { order < length orders.now }
     requires counted { AreTradesSoFar orders.now order 0 so_far.old }
     requires matched { MatchedBefore orders.now order (place_at orders.now order) so_far.old }
     ensures started { OnOk result (so_far.new.books_so_far.start ≡ so_far.old.books_so_far.start) }
     ensures counted { OnOk result (AreTradesSoFar orders.now (suc order)
-        (min 1 (number_in so_far.new.order_numbers.left.items order)) so_far.new) }
+        (min 1 (number_at so_far.new.order_numbers.left.items order)) so_far.new) }
     ensures matched { OnOk result (MatchedAfter orders.now order so_far.new) }
 {
     let arrival = arrive_order(orders, &so_far.traded, &so_far.order_numbers, order);
@@ -129,11 +129,11 @@ fn trade_order(
 /// The record of an order: what it trades, and what rests after it, up to the next order's record.
 pub fn match_record(
     orders: &OrderList<'_>,
-    endings: &[Ending],
+    endings: &[OrderEnd],
     order: usize,
     so_far: &mut TradesSoFar,
 ) -> Result<(), NoMemory>
-    requires list { IsOrderList orders.now }
+    requires order_list { IsOrderList orders.now }
     requires regular { Regular orders.now }
     requires order { order < length orders.now }
     requires endings { AreEndings orders.now endings.now }

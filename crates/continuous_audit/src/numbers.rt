@@ -4,7 +4,6 @@ ghost use Rattle.continuous_audit.specs.Flaws.{HasShownNumber, IsFindingOfFlaw, 
 ghost use Rattle.continuous_audit.specs.Markets.{ConformsBefore, IsMarket};
 ghost use Rattle.continuous_audit.specs.Progress.{AreNumbersAtStart, AreNumbersFor, HasDealt};
 ghost use Rattle.continuous_audit.specs.Records.{conservation_at};
-ghost use Rattle.continuous_audit.specs.Scans.{number_in};
 
 use super::arrival::arrive_order;
 use super::leaving::{left_at, refresh_left, set_amount};

@@ -1,8 +1,8 @@
 //! What is known of each order, by its index.
 ghost use Rattle.std.specs.Prelude.{◌≡◌, ◌<◌, ◌+◌, ◌^◌, IfOk, vec_len};
+ghost use Rattle.audit_base.specs.Deals.{number_at};
 ghost use Rattle.continuous_audit.specs.Chains.{flag_in};
 ghost use Rattle.continuous_audit.specs.DealFindings.{account_of};
-ghost use Rattle.continuous_audit.specs.Scans.{number_in};
 ghost use Rattle.continuous_audit.specs.OrderNumbers.{AreBlankNumbers, IsArrivalNoted};
 
 use super::arrival::Arrival;
@@ -53,7 +53,7 @@ impl OrderNumbers {
         requires chain_traded { order < vec_len self.now.chain_traded }
         requires size { order < vec_len self.now.sizes }
         requires left { order < vec_len self.now.left }
-        requires fits { traded + number_in self.now.chain_traded.items order < 2 ^ 128 }
+        requires fits { traded + number_at self.now.chain_traded.items order < 2 ^ 128 }
         ensures { result ≡ account_of self.now order traded }
     {
         let shown = TradedOrder {
@@ -71,7 +71,7 @@ impl OrderNumbers {
     /// Before of an order: what its chain has traded.
     pub fn chain_traded_of(&self, order: usize) -> u128
         requires { order < vec_len self.now.chain_traded }
-        ensures { result ≡ number_in self.now.chain_traded.items order }
+        ensures { result ≡ number_at self.now.chain_traded.items order }
     {
         self.chain_traded[order]
     }

@@ -95,7 +95,7 @@ pub fn number_pairs(
     orders: &OrderList<'_>,
     pairs: &[FillPair],
 ) -> Result<Vec<Deal>, NoMemory>
-    requires fits_places { length pairs.now < 2 ^ 32 }
+    requires fits_indices { length pairs.now < 2 ^ 32 }
     requires dealt { All (IsFillPairInRange (length orders.now)) pairs.now }
     ensures numbered { IfOk result (λ deals. AreFillPairDeals orders.now pairs.now deals.items) }
     ensures ranges { IfOk result (λ deals. DealsInRange deals.items) }

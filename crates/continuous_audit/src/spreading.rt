@@ -60,7 +60,7 @@ fn meets(order: &ListedOrder<'_>, left: u64, other: Price) -> bool
 /// The best order of the other side, by its index, if the order of a record is active after it
 /// and meets that one.
 pub fn spread_of(orders: &OrderList<'_>, order: usize, left: u64, books: &Books) -> Option<usize>
-    requires list { IsOrderList orders.now }
+    requires order_list { IsOrderList orders.now }
     requires order { order < length orders.now }
     requires earlier { AreBooksBelow order books.now }
     ensures finding { (deals : List ADeal) → IsAfterOwn orders.now deals order left books.now
@@ -118,7 +118,7 @@ pub fn enter_own(
     left: u64,
     books: &mut Books,
 ) -> Result<(), NoMemory>
-    requires list { IsOrderList orders.now }
+    requires order_list { IsOrderList orders.now }
     requires order { order < length orders.now }
     requires earlier { AreBooksBelow order books.old }
     ensures entered { OnOk result ((deals : List ADeal)

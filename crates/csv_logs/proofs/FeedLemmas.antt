@@ -298,7 +298,7 @@ module _ {R : Type 0} (names : List (List ℕ)) (entry : List (List ℕ) → Res
   line-place has_taken collector line offset header is = record {
     entries = is.entries;
     has = is.has;
-    few = omega (arith, open-count is.entries line offset header is.log is.stands, open-size is.entries line offset header is.log is.stands, is.room);
+    fits_places = omega (arith, open-count is.entries line offset header is.log is.stands, open-size is.entries line offset header is.log is.stands, is.room);
   }
 
   pub stands-new : (has_taken : List R → Type 0) → has_taken [] → HasCsvFeedFields has_taken names entry [] 0 false None []
@@ -372,7 +372,7 @@ pub outcome-place : {K R : Type 0} (has_taken : K → List R → Type 0) (says :
     → HasPlace has_taken old → TakesFields says (has_taken old) (has_taken new) outcome → IfErr outcome (λ why. HasPlace has_taken new)
 outcome-place has_taken (Ok more) outcome old new place said = rw (said.1) tt
 outcome-place has_taken (Err bad) outcome old new place said =
-    rw (said.1) (record { entries = place.entries; has = subst (has_taken new) (append-nil place.entries) (said.0 place.entries place.has); few = place.few })
+    rw (said.1) (record { entries = place.entries; has = subst (has_taken new) (append-nil place.entries) (said.0 place.entries place.has); fits_places = place.fits_places })
 
 -- nothing was taken yet
 pub goes-none : (old : List ℕ → Type 0) (piece : List ℕ) → TakesPiece old old piece piece

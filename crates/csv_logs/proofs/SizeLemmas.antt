@@ -165,4 +165,4 @@ module _ {R : Type 0} (entry : List (List ℕ) → Result R Reason) where
   pub read-place : {K : Type 0} (names : List (List ℕ)) (has_taken : K → List R → Type 0) (collector : K) (log : List ℕ) → length log ≤ longest_read
       → HasLogRecords (has_taken collector) (read_csv_log names entry log) → HasPlace has_taken collector
   read-place names has_taken collector log within read =
-      record { entries = read.entries; has = read.has; few = omega (arith, read_log-size names log read.entries read.reads, within) }
+      record { entries = read.entries; has = read.has; fits_places = omega (arith, read_log-size names log read.entries read.reads, within) }

@@ -8,8 +8,8 @@ use Rattle.csv.specs.declared.parser.State.{State}
 use Rattle.csv.specs.declared.parser.State.TheVariants as st
 use Rattle.csv.specs.declared.reader.Reader.{Reader}
 use Rattle.csv.specs.declared.reader.Trim.TheVariants as trim
-use Rattle.csv_logs.specs.declared.lines.Place.{Place}
-use Rattle.csv_logs.specs.declared.lines.Place.TheVariants as place
+use Rattle.csv_logs.specs.declared.lines.FieldState.{FieldState}
+use Rattle.csv_logs.specs.declared.lines.FieldState.TheVariants as field_state
 use Rattle.csv_logs.specs.Columns.{Row, has_bad_byte_or_open_quote, is_unquoted_byte, line_fields}
 use Rattle.csv_logs.specs.Lines.{without_cr}
 
@@ -26,9 +26,9 @@ abbrev pub is_plain_byte : ℕ → Bool
 is_plain_byte byte = is_unquoted_byte byte || byte == 10
 
 -- the state of `csv`'s machine after these bytes of a line, none of which ends the line
-unfoldable pub state_behind : State → List ℕ → State
-state_behind state [] = state
-state_behind state (byte ∷ rest) = state_behind (step default_config state byte).0 rest
+unfoldable pub state_after : State → List ℕ → State
+state_after state [] = state
+state_after state (byte ∷ rest) = state_after (step default_config state byte).0 rest
 
 -- a quote is open
 abbrev pub is_quoted : State → Bool
@@ -42,17 +42,17 @@ is_quoted st.InComment = false
 is_quoted st.AfterCr = false
 
 -- where a reader is within a line, as a state of `csv`'s machine
-abbrev pub state_of : Place → State
-state_of place.FieldStart = st.StartField
-state_of place.InField = st.InField
-state_of place.InQuotes = st.InQuoted
-state_of place.AfterQuote = st.AfterQuote
+abbrev pub state_of : FieldState → State
+state_of field_state.FieldStart = st.StartField
+state_of field_state.InField = st.InField
+state_of field_state.InQuotes = st.InQuoted
+state_of field_state.AfterQuote = st.AfterQuote
 
 -- a line whose fields do not depend on what follows it: it isn't broken,
 -- and its quotes close before its end
 abbrev pub is_closed : List ℕ → Bool
 is_closed line =
-    not (has_bad_byte_or_open_quote line) && not (is_quoted (state_behind st.StartField line))
+    not (has_bad_byte_or_open_quote line) && not (is_quoted (state_after st.StartField line))
 
 -- The reader reads by `csv`'s defaults with no header row, records of any length.
 pub record IsSetUp {R : Type 0} (reader : Reader R) : Type 0 where

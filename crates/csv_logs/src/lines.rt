@@ -6,7 +6,7 @@ ghost use Rattle.csv_logs.specs.Columns.{has_bad_byte_or_open_quote, is_printabl
 ghost use Rattle.csv_logs.specs.Feeds.{is_lf};
 ghost use Rattle.csv_logs.specs.Steps.{line_at};
 ghost use Rattle.csv_logs.specs.Lines.{mark_size, without_cr};
-ghost use Rattle.csv_logs.specs.Readers.{is_closed, is_plain_byte, is_quoted, state_behind, state_of};
+ghost use Rattle.csv_logs.specs.Readers.{is_closed, is_plain_byte, is_quoted, state_after, state_of};
 ghost use Rattle.csv.specs.Machine.{step};
 ghost use Rattle.csv.specs.declared.parser.State.TheVariants.{StartField};
 
@@ -158,7 +158,7 @@ pub(crate) fn is_plain(text: &[u8]) -> bool
 
 /// Where a reader is within a line, as far as its quotes go.
 #[derive(Clone, Copy)]
-pub(crate) enum Place {
+pub(crate) enum FieldState {
     FieldStart,
     InField,
     InQuotes,
@@ -167,43 +167,43 @@ pub(crate) enum Place {
 }
 
 /// The place behind a byte that is read outside of quotes.
-fn place_behind_unquoted(place: Place, byte: u8) -> Place
-    requires outside { IsTrue (not (is_quoted (state_of place))) }
+fn state_after_unquoted(state: FieldState, byte: u8) -> FieldState
+    requires outside { IsTrue (not (is_quoted (state_of state))) }
     requires printable { IsTrue (is_printable byte) }
-    ensures { state_of result ≡ (step default_config (state_of place) byte).0 }
+    ensures { state_of result ≡ (step default_config (state_of state) byte).0 }
 {
-    match place {
-        Place::FieldStart | Place::AfterQuote if byte == b'"' => Place::InQuotes,
-        _ if byte == b',' => Place::FieldStart,
-        _ => Place::InField,
+    match state {
+        FieldState::FieldStart | FieldState::AfterQuote if byte == b'"' => FieldState::InQuotes,
+        _ if byte == b',' => FieldState::FieldStart,
+        _ => FieldState::InField,
     }
 }
 
 /// The place behind one more byte of a line. Most bytes of a quoted line are within quotes, where
 /// only a quote is looked for.
-fn place_behind(place: Place, byte: u8) -> Place
+fn state_after(state: FieldState, byte: u8) -> FieldState
     requires { IsTrue (is_printable byte) }
-    ensures { state_of result ≡ (step default_config (state_of place) byte).0 }
+    ensures { state_of result ≡ (step default_config (state_of state) byte).0 }
 {
-    match place {
-        Place::InQuotes if byte == b'"' => Place::AfterQuote,
-        Place::InQuotes => Place::InQuotes,
-        _ => place_behind_unquoted(place, byte),
+    match state {
+        FieldState::InQuotes if byte == b'"' => FieldState::AfterQuote,
+        FieldState::InQuotes => FieldState::InQuotes,
+        _ => state_after_unquoted(state, byte),
     }
 }
 
 /// Whether a line of printable bytes ends outside of quotes, as `csv` reads them.
 fn closes_quotes(line: &[u8]) -> bool
     requires { IsTrue (list_all is_printable line.now) }
-    ensures { result ≡ not (is_quoted (state_behind StartField line.now)) }
+    ensures { result ≡ not (is_quoted (state_after StartField line.now)) }
 {
-    let mut place = Place::FieldStart;
+    let mut state = FieldState::FieldStart;
     for byte in line {
-        place = place_behind(place, *byte);
+        state = state_after(state, *byte);
     }
-    match place {
-        Place::InQuotes => false,
-        Place::FieldStart | Place::InField | Place::AfterQuote => true,
+    match state {
+        FieldState::InQuotes => false,
+        FieldState::FieldStart | FieldState::InField | FieldState::AfterQuote => true,
     }
 }
 

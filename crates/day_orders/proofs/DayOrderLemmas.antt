@@ -101,7 +101,7 @@ is-few share entries entry room index place was met there few = record {
   symbol = symbol_of entry;
   entries = entries;
   is = met.places.each index (symbol_of entry) was met.inside met.got (ap (slice_get room) (sym met.at) ∙ there);
-  few = few;
+  fits_indices = few;
 }
 
 -- it has taken it

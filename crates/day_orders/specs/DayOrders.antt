@@ -39,7 +39,7 @@ pub record HasOrders (share : DayShare) (ended : EndedOrders)
   pub symbols_are : ended.symbols ≡ order_symbols entries
   pub histories_are : AreHistories
       (symbols_in share (order_symbols entries)) ended.histories.items entries
-  pub few : length entries < 2 ^ 32
+  pub fits_indices : length entries < 2 ^ 32
 
 -- the history of whatever symbol, before any record
 abbrev pub IsEmptyHistory : SymbolHistory → Type 0

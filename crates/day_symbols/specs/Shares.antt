@@ -18,7 +18,7 @@ most_shares = 65536
 pub record IsDayShare (share : DayShare) : Type 0 where
   pub first : 1 ≤ share.number
   pub among : share.number ≤ share.count
-  pub few : share.count ≤ most_shares
+  pub within_most : share.count ≤ most_shares
 
 -- the share number/count, where 1 ≤ number ≤ count and there are at most as many shares
 abbrev pub day_share_of : ℕ → ℕ → Option DayShare

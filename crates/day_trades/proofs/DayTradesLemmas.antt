@@ -70,7 +70,7 @@ all-few share histories entries are few = λ k d lt.
       symbol = _;
       entries = entries;
       is = are.each k _ _ (slice_get-get_or symbols k [] within) (slice_get-get_or histories k d lt);
-      few = few;
+      fits_indices = few;
     }
 
 -- the symbols of a day without trades

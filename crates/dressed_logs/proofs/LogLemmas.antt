@@ -15,7 +15,7 @@ use Rattle.fix_framing.proofs.HeaderLemmas.{fix44-head}
 use Rattle.fix_framing.proofs.MessageLemmas.{IsFrameWith-body_of}
 use Rattle.fix_framing.proofs.PrefixLemmas.{false-from, split-at}
 use Rattle.fix_framing.proofs.WritingLemmas.{frame_text_is_frame}
-use Rattle.dressed_logs.specs.Framed.{behind_mark, bodies_of, HasBodies, mark, mark_of}
+use Rattle.dressed_logs.specs.Framed.{after_mark, bodies_of, HasBodies, mark, mark_of}
 use Rattle.dressed_logs.specs.Laws.{FitsMessage, FixLogsAreDays, WrittenDaysAreRead, written_line}
 use Rattle.dressed_logs.proofs.MarkLemmas.{three-behind, without}
 use Rattle.dressed_logs.proofs.TextLemmas.{any-headers}
@@ -33,7 +33,7 @@ frame-any frame body is = record {
   length_digits = is.length_digits;
   sum_digits = is.sum_digits;
   whole = is.whole;
-  few = is.few;
+  are_digits = is.are_digits;
   counted = is.counted;
   bounded = is.bounded;
   three = is.three;
@@ -76,7 +76,7 @@ framed-unmarked log frames framed =
     without log (false-from (starts_with nat_eq log mark) (λ starts.
     marked-front log frames framed (ap (λ (t : List ℕ). front-byte (after_breaks t)) (split-at log mark starts))))
 
-unmarked-bodies : (log : List ℕ) (bodies : List (List ℕ)) → HasBodies log bodies → HasBodies (behind_mark log) bodies
+unmarked-bodies : (log : List ℕ) (bodies : List (List ℕ)) → HasBodies log bodies → HasBodies (after_mark log) bodies
 unmarked-bodies log bodies has = subst (λ (t : List ℕ). HasBodies t bodies) (sym (three-behind log (framed-unmarked log has.frames has.framed))) has
 
 pub fix-logs : FixLogsAreDays

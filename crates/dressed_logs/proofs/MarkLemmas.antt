@@ -4,7 +4,7 @@ use Rattle.std.specs.Prelude.{nat_eq}
 use Rattle.std.specs.List.{starts_with}
 use Rattle.std.proofs.lemmas.List.{append-nil, drop-append-le, drop_all, length-append}
 use Rattle.fix_framing.proofs.PrefixLemmas.{split-at, false-from}
-use Rattle.dressed_logs.specs.Framed.{behind_mark, mark, mark_of}
+use Rattle.dressed_logs.specs.Framed.{after_mark, mark, mark_of}
 
 -- no mark
 pub without : (day : List ℕ) → starts_with nat_eq day mark ≡ false → mark_of day ≡ []
@@ -17,8 +17,8 @@ short-none day short =
     let size = ap length (split-at day mark starts) ∙ length-append mark (drop 3 day) in omega (arith, short, size)))
 
 -- three bytes are the mark, or have none
-pub three-mark : (front : List ℕ) → front ≡ mark → (length (mark_of front) ≡ 3) × (behind_mark front ≡ [])
-three-mark front is = subst (λ (f : List ℕ). (length (mark_of f) ≡ 3) × (behind_mark f ≡ [])) (sym is) (refl, refl)
+pub three-mark : (front : List ℕ) → front ≡ mark → (length (mark_of front) ≡ 3) × (after_mark front ≡ [])
+three-mark front is = subst (λ (f : List ℕ). (length (mark_of f) ≡ 3) × (after_mark f ≡ [])) (sym is) (refl, refl)
 
 pub three-none : (front : List ℕ) → length front ≡ 3 → (front ≡ mark → ⊥) → mark_of front ≡ []
 three-none front three other =
@@ -41,13 +41,13 @@ mark-size : (b : Bool) → length (cond b mark []) ≤ 3
 mark-size true = omega arith
 mark-size false = omega arith
 
-pub behind-more : (day more : List ℕ) → 3 ≤ length day → behind_mark (day ++ more) ≡ behind_mark day ++ more
+pub behind-more : (day more : List ℕ) → 3 ≤ length day → after_mark (day ++ more) ≡ after_mark day ++ more
 behind-more day more long =
     let few = mark-size (starts_with nat_eq day mark) in
     ap (λ (m : List ℕ). drop (length m) (day ++ more)) (mark-more day more long) ∙ drop-append-le (length (mark_of day)) day more (omega (arith, few, long))
 
-pub short-behind : (day : List ℕ) → length day < 3 → behind_mark day ≡ day
+pub short-behind : (day : List ℕ) → length day < 3 → after_mark day ≡ day
 short-behind day short = ap (λ (m : List ℕ). drop (length m) day) (short-none day short)
 
-pub three-behind : (front : List ℕ) → mark_of front ≡ [] → behind_mark front ≡ front
+pub three-behind : (front : List ℕ) → mark_of front ≡ [] → after_mark front ≡ front
 three-behind front none = ap (λ (m : List ℕ). drop (length m) front) none

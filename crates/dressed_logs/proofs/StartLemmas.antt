@@ -9,7 +9,7 @@ use Rattle.fix_framing.specs.declared.headers.AnyVersion.{AnyVersion}
 use Rattle.dressed_logs.specs.declared.faults.BadMessage.{BadMessage}
 use Rattle.dressed_logs.specs.declared.framed.FramedFeed.{FramedFeed}
 use Rattle.dressed_logs.specs.declared.messages.Messages.{Messages}
-use Rattle.dressed_logs.specs.Framed.{begins_past_breaks, behind_mark, mark, mark_of}
+use Rattle.dressed_logs.specs.Framed.{begins_past_breaks, after_mark, mark, mark_of}
 use Rattle.dressed_logs.specs.Feeds.{IsFramedFeedOf}
 use Rattle.dressed_logs.specs.Messages.{AreMessageFields, IsMessagesOf}
 use Rattle.dressed_logs.specs.Starts.{BeginsDay, HasFront}
@@ -60,13 +60,13 @@ module _ {B : Type 0} (has_taken : B → List (List ℕ) → Type 0) where
       let whole : day ++ piece ≡ held.front.items ++ drop count piece =
       ap (λ (t : List ℕ). day ++ t) (sym (take-append-drop count piece)) ∙ sym (append_assoc day (take count piece) (drop count piece)) ∙ ap (λ (t : List ℕ). t ++ drop count piece) (sym first) in
       let size = ap length whole ∙ length-append held.front.items (drop count piece) in
-      let behind : behind_mark (day ++ piece) ≡ behind_mark held.front.items ++ drop count piece = ap behind_mark whole ∙ behind-more held.front.items (drop count piece) long in
+      let behind : after_mark (day ++ piece) ≡ after_mark held.front.items ++ drop count piece = ap after_mark whole ∙ behind-more held.front.items (drop count piece) long in
       let marks : mark_of (day ++ piece) ≡ mark_of held.front.items = ap mark_of whole ∙ mark-more held.front.items (drop count piece) long in
       record {
         front = ap (λ (v : Vec ℕ). v.items) (kept ∙ begins.front) ∙ sym (ap (take 3) whole ∙ (take-append-le 3 held.front.items (drop count piece) long ∙ take_all 3 held.front.items (omega (arith, three))));
         early = λ less. absurd (omega (arith, less, size, long));
         later = λ _. record {
-          messages_of = subst (IsMessagesOf has_taken new.messages) (sym behind) (hands (behind_mark held.front.items) begins.read.messages_of);
+          messages_of = subst (IsMessagesOf has_taken new.messages) (sym behind) (hands (after_mark held.front.items) begins.read.messages_of);
           starts = same ∙ begins.read.starts ∙ ap length (sym marks);
         };
       }

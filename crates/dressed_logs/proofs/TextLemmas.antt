@@ -46,7 +46,7 @@ begins-past (byte ∷ rest) more some = elim (cases_Bool (is_line_end_byte byte)
 -- a message has at least nine bytes
 pub frame-nine : (frame body : List ℕ) → IsFrameWith any_version frame body → 9 ≤ length frame
 frame-nine frame body is =
-    let few = and_parts _ _ is.few in
+    let few = and_parts _ _ is.are_digits in
     let some = leb-true 1 (length is.length_digits) (and_parts _ _ few.0).0 in
     let three = leb-true 3 (length is.sum_digits) (and_parts _ _ (and_parts _ _ is.three).0).0 in
     let sum_field = length-append is.sum_digits (1 ∷ []) in

@@ -3,11 +3,11 @@ use Rattle.std.specs.Prelude.{◌≡◌, ℕ, ◌<◌, ◌≤◌, List, [], leng
 use Rattle.log_source.specs.Sources.{longest_read}
 use Rattle.dressed_logs.specs.declared.framed.FramedFeed.{FramedFeed}
 use Rattle.dressed_logs.specs.declared.messages.Messages.{Messages}
-use Rattle.dressed_logs.specs.Framed.{behind_mark, mark_of}
+use Rattle.dressed_logs.specs.Framed.{after_mark, mark_of}
 use Rattle.dressed_logs.specs.Messages.{IsMessagesOf}
 
 -- the messages stand for this text, behind so many bytes of the day
-pub record StandsBehind {B : Type 0} (has_taken : B → List (List ℕ) → Type 0)
+pub record AreMessagesAt {B : Type 0} (has_taken : B → List (List ℕ) → Type 0)
     (messages : Messages B) (start : ℕ) (text : List ℕ) : Type 0 where
   pub messages_of : IsMessagesOf has_taken messages text
   pub starts : messages.start ≡ start
@@ -17,9 +17,9 @@ pub record StandsBehind {B : Type 0} (has_taken : B → List (List ℕ) → Type
 pub record IsFramedFeedOf {B : Type 0} (has_taken : B → List (List ℕ) → Type 0)
     (feed : FramedFeed B) (day : List ℕ) : Type 0 where
   pub front : feed.front.items ≡ take 3 day
-  pub early : length day < 3 → StandsBehind has_taken feed.messages 0 []
+  pub early : length day < 3 → AreMessagesAt has_taken feed.messages 0 []
   pub later : 3 ≤ length day
-      → StandsBehind has_taken feed.messages (length (mark_of day)) (behind_mark day)
+      → AreMessagesAt has_taken feed.messages (length (mark_of day)) (after_mark day)
 
 -- The feed stands for some day that is no longer than a log that is read may be.
 pub record IsFramedFeedWithinLimit {B : Type 0} (has_taken : B → List (List ℕ) → Type 0)

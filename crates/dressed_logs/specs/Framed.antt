@@ -47,12 +47,12 @@ abbrev pub mark_of : List ℕ → List ℕ
 mark_of day = if starts_with nat_eq day mark then mark else []
 
 -- the day without the mark that it may begin with
-abbrev pub behind_mark : List ℕ → List ℕ
-behind_mark day = drop (length (mark_of day)) day
+abbrev pub after_mark : List ℕ → List ℕ
+after_mark day = drop (length (mark_of day)) day
 
 -- The reading of a framed day: the bodies of its messages, behind a mark at its start, or its
 -- first bad message.
 abbrev pub IsFramedReading : List ℕ → Result (List (List ℕ)) BadMessage → Type 0
 IsFramedReading day reading =
-    MatchesReading (HasBodies (behind_mark day))
-    (IsBadText (length (mark_of day)) (behind_mark day)) reading
+    MatchesReading (HasBodies (after_mark day))
+    (IsBadText (length (mark_of day)) (after_mark day)) reading

@@ -78,7 +78,7 @@ before-rest h ds b = append_assoc h ds (1 ∷ b)
 
 pub IsFrameWith-reads : (headers : List (List ℕ)) (f b more : List ℕ) (frame : IsFrameWith headers f b) → Reads (f ++ more) frame.head frame.length_digits b (checksum_field frame.sum_digits ++ more)
 IsFrameWith-reads headers f b more frame =
-    let few = and_parts _ _ frame.few in
+    let few = and_parts _ _ frame.are_digits in
     record {
       whole = rw frame.whole (append_assoc (before_checksum frame.head frame.length_digits b) (checksum_field frame.sum_digits) more);
       each = few.1;

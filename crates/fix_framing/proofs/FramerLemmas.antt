@@ -146,7 +146,7 @@ pub gives-so : {H : Type 0} (hs : List (List â„•)) (old new : Framer H) (at : â„
 gives-so hs old new at f low high breaks found items base next =
     let start = found.begins in
     let within = found.within in
-    let behind = found.behind in
+    let behind = found.body_later in
     let before = found.before in
     let gap = length-take-le (at - old.next) (drop old.next (bytes_held old)) (omega (arith, length-drop old.next (bytes_held old))) in
     let size = length-take-le (f.end - f.start) (drop f.start (bytes_held old)) (omega (arith, length-drop f.start (bytes_held old))) in

@@ -151,8 +151,8 @@ some-field n r d first soh some each =
     let shown = eqb-true (slice_index (window_of n r) d) 1 soh in
     let same = take-take d 10 (drop n r) (omega arith) in
     record {
-      some = some;
-      few = omega arith;
+      positive = some;
+      at_most_nine = omega arith;
       inside = omega arith;
       each = rw (← same) each;
       ended = sym front ∙ shown;
@@ -196,8 +196,8 @@ fault-great n r d field great =
 pub no-fault : (n : ℕ) (r : List ℕ) (d : ℕ) → IsLengthField (drop n r) d → digits_value 10 (take d (drop n r)) ≤ 1048576 → first_failing (length_tests n r) ≡ None
 no-fault n r d field small =
     let count = field-length n r d field in
-    let few = field.few in
-    let some = field.some in
+    let few = field.at_most_nine in
+    let some = field.positive in
     let value : body_size n r ≤ 1048576 = rw (field-digits n r d field) small in
     let soh : slice_index r (n + length (length_digits n r)) ≡ 1 = rw count (sym (get_or-drop n r d 0) ∙ field.ended) in
     let none = ne_eqb (length (length_digits n r)) 0 (λ e. omega arith) in

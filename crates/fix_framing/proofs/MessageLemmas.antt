@@ -69,7 +69,7 @@ Reads-NoFault hs r h ds b cs more are known reads some few bounded three each su
 
 pub IsFrameWith-NoFault : (hs : List (List ℕ)) (f b more : List ℕ) → AreHeaders hs → IsFrameWith hs f b → NoFault hs (f ++ more)
 IsFrameWith-NoFault hs f b more are frame =
-    let few = and_parts _ _ frame.few in
+    let few = and_parts _ _ frame.are_digits in
     let fewer = and_parts _ _ few.0 in
     let three = and_parts _ _ frame.three in
     let third = and_parts _ _ three.0 in
@@ -208,7 +208,7 @@ NoFault-IsFrame hs r tests =
       length_digits = length_digits m r;
       sum_digits = slice_range (trailer_of m r) 3 6;
       whole = taken ∙ ap (λ ys. before_checksum (header_of hs r) (length_digits m r) (body_of_with hs r) ++ ys) shape;
-      few = and_from _ _ (and_from _ _ (le-leb 1 (length (length_digits m r)) (omega arith)) (le-leb (length (length_digits m r)) 9 (omega arith))) reads.each;
+      are_digits = and_from _ _ (and_from _ _ (le-leb 1 (length (length_digits m r)) (omega arith)) (le-leb (length (length_digits m r)) 9 (omega arith))) reads.each;
       counted = reads.counted;
       bounded = omega (arith, reads.counted);
       three = and_from _ _ (and_from _ _ (le-leb 3 (length (slice_range (trailer_of m r) 3 6)) (omega arith)) (le-leb (length (slice_range (trailer_of m r) 3 6)) 3 (omega arith))) (trailer-digits (trailer_of m r) (not-false (is_trailer (trailer_of m r)) tests.bad_trailer));
@@ -228,7 +228,7 @@ found-at hs bytes at b t inside none body place =
     record {
       begins = refl;
       within = omega arith;
-      behind = omega arith;
+      body_later = omega arith;
       before = omega arith;
       message = rw (all, part, moved) (NoFault-IsFrame hs (drop at bytes) tests);
     }

@@ -30,7 +30,7 @@ pub record IsFrameWith (headers : List (List ℕ)) (text body : List ℕ) : Type
   pub length_digits : List ℕ
   pub sum_digits : List ℕ
   pub whole : text ≡ before_checksum head length_digits body ++ checksum_field sum_digits
-  pub few : IsTrue (is_digits 1 9 length_digits)
+  pub are_digits : IsTrue (is_digits 1 9 length_digits)
   pub counted : digits_value 10 length_digits ≡ length body
   pub bounded : length body ≤ longest_body
   pub three : IsTrue (is_digits 3 3 sum_digits)
@@ -175,7 +175,7 @@ pub record IsFrameAt (headers : List (List ℕ)) (bytes : List ℕ) (at : ℕ) (
     : Type 0 where
   pub begins : frame.start ≡ at
   pub within : frame.end ≤ length bytes
-  pub behind : frame.start < frame.body
+  pub body_later : frame.start < frame.body
   pub before : frame.body + 7 ≤ frame.end
   pub message :
       IsFrameWith headers (slice_range bytes frame.start frame.end)

@@ -6,8 +6,8 @@ use Rattle.audit_base.specs.Sizes.{soh}
 
 -- SOH follows this many digits, from 1 to 9
 pub record IsLengthField (text : List ℕ) (count : ℕ) : Type 0 where
-  pub some : 0 < count
-  pub few : count ≤ 9
+  pub positive : 0 < count
+  pub at_most_nine : count ≤ 9
   pub inside : count < length text
   pub each : IsTrue (list_all is_ascii_digit (take count text))
   pub ended : slice_index text count ≡ soh

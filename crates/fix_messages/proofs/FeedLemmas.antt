@@ -73,7 +73,7 @@ module _ {R : Type 0} (meaning : List TagValue → Result (Option R) MessageFaul
   log-place has_taken feed is =
       let r = is.reads in
       let few = few-records r.entries feed.framer is.log r.frames r.stands r.good in
-      record { entries = r.entries; has = r.has; few = omega (arith, few, is.within) }
+      record { entries = r.entries; has = r.has; fits_places = omega (arith, few, is.within) }
 
   -- the next message was good
   pub goes-message : (before after : List R → Type 0) (framer framer' : Framer Fix44) (start body to : ℕ) (new : Option R) → GivesFrame fix44 framer framer' start body to
@@ -206,7 +206,7 @@ pub said-place : {K R : Type 0} (has_taken : K → List R → Type 0) (says : Re
     → HasPlace has_taken old → TakesSaid says (has_taken old) (has_taken new) answer → answer ≡ Err why → HasPlace has_taken new
 said-place has_taken (Ok more) answer why old new place said is = absurd (cc (said.1, is))
 said-place has_taken (Err bad) answer why old new place said is =
-    record { entries = place.entries; has = subst (has_taken new) (append-nil place.entries) (said.0 place.entries place.has); few = place.few }
+    record { entries = place.entries; has = subst (has_taken new) (append-nil place.entries) (said.0 place.entries place.has); fits_places = place.fits_places }
 
 pub none-is : {T : Type 0} (option : Option T) → is_some option ≡ false → option ≡ None
 none-is None e = refl
@@ -262,7 +262,7 @@ module _ {K R : Type 0} (has_taken : K → List R → Type 0) (meaning : List Ta
     ends-few within good =
         let r = ended within.log good within.stands in
         let few = few-records meaning r.entries new.framer within.log r.frames r.stands r.good in
-        record { entries = r.entries; has = r.has; few = omega (arith, few, within.within) }
+        record { entries = r.entries; has = r.has; fits_places = omega (arith, few, within.within) }
 
     pub ends-cut : (at : ℕ) (bad : BadPlace) (log : List ℕ) → new.bad ≡ None → IsNextOffset fix44 new.framer at → ¬ IsTrue (list_all is_line_end_byte (bytes_unframed new.framer))
         → IsBadMessagePlace (has_taken new.entries) at reason.Truncated bad → IsFixFeedOf has_taken meaning old log → read_fix_log meaning log ≡ Err bad

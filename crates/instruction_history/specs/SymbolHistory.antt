@@ -23,7 +23,7 @@ pub record HasFewRecords (kept : SymbolHistory) : Type 0 where
   pub symbol : List ℕ
   pub entries : List OrderRecord
   pub is : IsSymbolHistory symbol kept entries
-  pub few : length entries < 2 ^ 32
+  pub fits_indices : length entries < 2 ^ 32
 
 -- of whatever symbol this was the history, it is that with one record of the symbol more, at its
 -- place

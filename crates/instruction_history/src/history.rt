@@ -46,7 +46,7 @@ fn history_of<S: AuditedSymbol>(
     symbol: &Name,
 ) -> Result<History, HistoryFault>
     requires symbol { symbol.now ≡ S.symbol }
-    requires fits_places { length entries.now < 2 ^ 32 }
+    requires fits_indices { length entries.now < 2 ^ 32 }
     ensures { IsHistoryAnswer symbol.now entries.now result }
 {
     let draft = draft_of::<S>(alloc, entries, symbol)?;

@@ -139,7 +139,7 @@ pub(crate) fn draft_of<S: AuditedSymbol>(
     symbol: &Name,
 ) -> Result<HistoryDraft<S>, NoMemory>
     requires symbol { symbol.now ≡ S.symbol }
-    requires fits_places { length entries.now < 2 ^ 32 }
+    requires fits_indices { length entries.now < 2 ^ 32 }
     ensures { IfOk result (λ draft. IsHistoryDraft S.symbol draft entries.now) }
 {
     let mut draft = HistoryDraft::new(alloc, HashSeed::fixed(), *symbol);

@@ -267,7 +267,7 @@ impl HistorySoFar {
         place: u32,
         number: KeyNumber,
     ) -> Result<(), NoMemory>
-        requires fits_places { vec_len self.old.orders < 2 ^ 32 }
+        requires fits_indices { vec_len self.old.orders < 2 ^ 32 }
         requires target { ForSome target (λ t. t < vec_len self.old.orders) }
         ensures { HasNumber self.old.keys (key_of entry.now) number
             → OnOk result (AddsRecord self.old self.new place entry.now target) }

@@ -6,7 +6,7 @@ use Rattle.std.specs.Prelude.{◌≡◌, ℕ, ◌-◌, ◌*◌, ◌<◌, ◌≤�
 pub record HasPlace {K R : Type 0} (has_taken : K → List R → Type 0) (collector : K) : Type 0 where
   pub entries : List R
   pub has : has_taken collector entries
-  pub few : length entries < 2 ^ 32 - 1
+  pub fits_places : length entries < 2 ^ 32 - 1
 
 -- a record was handed on unseen: it may be any of a symbol whose records
 -- the collector does not look at

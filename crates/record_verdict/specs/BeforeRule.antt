@@ -47,7 +47,7 @@ finding_or_sound resolved (Some finding) = before_rule.Found finding
 -- Sound trades are fewer than there are places, and at least as many as their deals, which are a
 -- deal list with numbers in range.
 pub record AreResolvedTradesInRange (resolved : ResolvedTrades) : Type 0 where
-  pub few : resolved.count < 2 ^ 32 - 1
+  pub fits_places : resolved.count < 2 ^ 32 - 1
   pub counted : length resolved.deals.items ≤ resolved.count
   pub deal_list : IsDealList resolved.history resolved.deals.items
   pub numbers : DealsInRange resolved.deals.items

@@ -39,7 +39,7 @@ fn paired_in_range(trades: &Paired)
 
 /// What is found where the rule does not admit an order of the history:
 /// a call takes only orders that rest.
-pub fn call_finding(rule: Rule, orders: &OrderList<'_>) -> Option<Finding>
+pub fn instant_finding_of_rule(rule: Rule, orders: &OrderList<'_>) -> Option<Finding>
     ensures { result ≡ spec.instant_finding_of_rule rule orders.now }
 {
     Admission::of(rule).first_unadmitted(orders)
@@ -79,7 +79,7 @@ fn judge_history(
     ensures { IfOk result
         (VerdictFollowsHistory question.now history.now (result_of_paired trades.now)) }
 {
-    if let Some(finding) = call_finding(question.rule, &history.orders()) {
+    if let Some(finding) = instant_finding_of_rule(question.rule, &history.orders()) {
         return Ok(Verdict::Rejected(finding));
     }
     match trades {

@@ -10,17 +10,17 @@ use std::rt::Env;
 /// A command line, whose words are known or not.
 pub trait CommandLine {
     // The words without the program's name, where they are known.
-    ghost told: { Self → Option (List (List ℕ)) };
+    ghost known_words: { Self → Option (List (List ℕ)) };
 
     /// The words without the program's name. `NoMemory` comes only where memory ran out.
     fn words(&self) -> Result<Vec<String>, NoMemory>
         ensures { IfOk result (λ words.
-            AreKnownWords (told self.now) (map string_bytes words.items)) };
+            AreKnownWords (known_words self.now) (map string_bytes words.items)) };
 }
 
 /// The command line of the runtime. Nothing is known of its words.
 impl<R: Env + AllocGlobal> CommandLine for R {
-    ghost told = { λ _. None };
+    ghost known_words = { λ _. None };
 
     fn words(&self) -> Result<Vec<String>, NoMemory> {
         words_of(self)

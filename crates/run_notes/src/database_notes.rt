@@ -16,7 +16,7 @@ pub fn is_database_missing(rt: &HostRuntime, words: &[String]) -> bool {
 pub fn print_made_database(rt: &HostRuntime, words: &[String], was_missing: bool) {
     if let Some(path) = words.first() {
         if was_missing && !is_database_missing(rt, words) {
-            let _told = eprintln!(rt; "casebook: {path} was not there, and has been made");
+            let _written = eprintln!(rt; "casebook: {path} was not there, and has been made");
         }
     }
 }
@@ -27,7 +27,7 @@ pub fn print_database_fault(rt: &HostRuntime, words: &[String]) {
     let Some(path) = words.first() else {
         return;
     };
-    let _told = if is_path(path.as_str()) {
+    let _written = if is_path(path.as_str()) {
         match refusal(rt, path.as_str()) {
             Some(error) => eprintln!(rt; "casebook: {path}: {error}"),
             None => eprintln!(rt;
@@ -57,7 +57,7 @@ pub fn print_listed_symbols(rt: &HostRuntime, words: &[String]) {
     let mut begins = true;
     for place in 1..words.len() {
         if begins && lists_result(&words[place..]) {
-            let _told = eprintln!(rt;
+            let _written = eprintln!(rt;
                 "casebook: list with one word is of a symbol of this name: give the symbol before the result"
             );
         }

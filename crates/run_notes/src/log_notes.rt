@@ -21,7 +21,7 @@ pub(crate) fn refusal(rt: &HostRuntime, path: &str) -> Option<io::Error> {
 }
 
 fn print_unread_log(rt: &HostRuntime, program: &str, path: &str) {
-    let _told = match refusal(rt, path) {
+    let _written = match refusal(rt, path) {
         Some(error) => eprintln!(rt; "{program}: {path}: {error}"),
         None => eprintln!(rt; "{program}: {path}: it could not be read"),
     };
@@ -70,11 +70,11 @@ fn print_fault_within<F: Shelf>(
     if kind == "readfault" {
         print_unread_log(rt, program, path.as_str());
     } else if kind == "toolong" {
-        let _told = eprintln!(rt; "{program}: {path}: it has more than {limit} bytes");
+        let _written = eprintln!(rt; "{program}: {path}: it has more than {limit} bytes");
     } else if kind == "malformed" {
         let _place = parts.next();
         if let (Some(offset), Some(reason)) = (parts.next(), parts.next()) {
-            let _told = eprintln!(rt; "{program}: {path}: malformed at byte {offset}: {reason}");
+            let _written = eprintln!(rt; "{program}: {path}: malformed at byte {offset}: {reason}");
         }
     }
 }
@@ -91,10 +91,10 @@ pub fn print_end<F: Shelf>(
 ) {
     match status {
         Status::Memory => {
-            let _told = eprintln!(rt; "{program}: memory ran out");
+            let _written = eprintln!(rt; "{program}: memory ran out");
         }
         Status::WriteFault => {
-            let _told = eprintln!(rt; "{program}: standard output could not be written");
+            let _written = eprintln!(rt; "{program}: standard output could not be written");
         }
         Status::Malformed | Status::ReadFault | Status::TooLong => {
             print_fault_within(rt, program, limit, shelf, last);

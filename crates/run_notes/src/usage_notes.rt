@@ -67,16 +67,16 @@ fn print_parts(rt: &HostRuntime, program: &str, parts: &[Part], words: &[String]
     for part in parts {
         let (name, wanted) = (part.name(), part.wanted());
         let Some(word) = rest.next() else {
-            let _told = eprintln!(rt; "{program}: no {name} is given: {wanted}");
+            let _written = eprintln!(rt; "{program}: no {name} is given: {wanted}");
             return;
         };
         if !part.takes(word.as_str()) {
-            let _told = eprintln!(rt; "{program}: no {name} '{word}': {wanted}");
+            let _written = eprintln!(rt; "{program}: no {name} '{word}': {wanted}");
             return;
         }
     }
-    let _told = match rest.next() {
-        Some(word) => eprintln!(rt; "{program}: '{word}' or what is behind it does not stand here"),
+    let _written = match rest.next() {
+        Some(word) => eprintln!(rt; "{program}: '{word}' or what follows it may not be here"),
         None => eprintln!(rt; "{program}: these words do not go together"),
     };
 }
@@ -84,13 +84,13 @@ fn print_parts(rt: &HostRuntime, program: &str, parts: &[Part], words: &[String]
 /// Says what is wrong with words that are none of `auditor`.
 pub fn print_auditor_usage(rt: &HostRuntime, words: &[String]) {
     let Some((command, rest)) = words.split_first() else {
-        let _told = eprintln!(rt; "auditor: no command is given: {AUDITOR_COMMANDS}");
+        let _written = eprintln!(rt; "auditor: no command is given: {AUDITOR_COMMANDS}");
         return;
     };
     match auditor_parts(command.as_str()) {
         Some(parts) => print_parts(rt, "auditor", parts, rest),
         None => {
-            let _told = eprintln!(rt; "auditor: no command '{command}': {AUDITOR_COMMANDS}");
+            let _written = eprintln!(rt; "auditor: no command '{command}': {AUDITOR_COMMANDS}");
         }
     }
 }
@@ -109,13 +109,13 @@ fn desk_parts(command: &str) -> Option<&'static [Part]> {
 /// Says what is wrong with words that are none of `desk`.
 pub fn print_desk_usage(rt: &HostRuntime, words: &[String]) {
     let Some((command, rest)) = words.split_first() else {
-        let _told = eprintln!(rt; "desk: no command is given: {DESK_COMMANDS}");
+        let _written = eprintln!(rt; "desk: no command is given: {DESK_COMMANDS}");
         return;
     };
     match desk_parts(command.as_str()) {
         Some(parts) => print_parts(rt, "desk", parts, rest),
         None => {
-            let _told = eprintln!(rt; "desk: no command '{command}': {DESK_COMMANDS}");
+            let _written = eprintln!(rt; "desk: no command '{command}': {DESK_COMMANDS}");
         }
     }
 }
@@ -150,11 +150,11 @@ fn all_fit(parts: &[Part], words: &[String], may_end: bool) -> bool {
 /// Says what is wrong with one command of `casebook`, and whether something is.
 fn prints_command(rt: &HostRuntime, words: &[String]) -> bool {
     let Some((command, rest)) = words.split_first() else {
-        let _told = eprintln!(rt; "casebook: no command is given: {CASEBOOK_COMMANDS}");
+        let _written = eprintln!(rt; "casebook: no command is given: {CASEBOOK_COMMANDS}");
         return true;
     };
     let Some(parts) = casebook_parts(command.as_str()) else {
-        let _told = eprintln!(rt; "casebook: no command '{command}': {CASEBOOK_COMMANDS}");
+        let _written = eprintln!(rt; "casebook: no command '{command}': {CASEBOOK_COMMANDS}");
         return true;
     };
     if all_fit(parts, rest, command.as_str() == "list") {
@@ -174,7 +174,7 @@ fn print_commands(rt: &HostRuntime, words: &[String]) {
             }
         }
         None => {
-            let _told = prints_command(rt, words);
+            let _written = prints_command(rt, words);
         }
     }
 }
@@ -183,7 +183,7 @@ fn print_commands(rt: &HostRuntime, words: &[String]) {
 /// which something is.
 pub fn print_casebook_usage(rt: &HostRuntime, words: &[String]) {
     let Some((_database, commands)) = words.split_first() else {
-        let _told = eprintln!(rt; "casebook: no database is given: {}", Part::Path.wanted());
+        let _written = eprintln!(rt; "casebook: no database is given: {}", Part::Path.wanted());
         return;
     };
     print_commands(rt, commands);

@@ -5,9 +5,10 @@ use Rattle.std.proofs.lemmas.Bool.{cases_eq}
 use Rattle.audit_base.specs.declared.orders.Order.{Order}
 use Rattle.audit_base.specs.Orders.{order_at, IsOrderList}
 use Rattle.audit_base.specs.Continuous.{chain}
+use Rattle.audit_base.specs.Deals.{number_at}
 use Rattle.audit_base.proofs.ContinuousLemmas.{target-below, chain-none, chain-some}
 use Rattle.session_audit.specs.PhaseOrders.{list_below}
-use Rattle.session_audit.specs.Numbers.{number_at, AreBoundedTotals, IsTargetInside, TargetTotalFits, target_total, total_of_chain, AreChainTotals}
+use Rattle.session_audit.specs.Numbers.{AreBoundedTotals, IsTargetInside, TargetTotalFits, target_total, total_of_chain, AreChainTotals}
 use Rattle.session_audit.proofs.ListBelowLemmas.{length-list_below, list_below-at, list_below-more}
 
 module _ (orders : List Order) (list : IsOrderList orders) (traded : List ℕ) where
@@ -34,7 +35,7 @@ module _ (orders : List Order) (list : IsOrderList orders) (traded : List ℕ) w
         let less = target-below orders list i lt t (target-is ∙ e) in
         let a = small t in
         let b = are.bounded t less in
-        let few = list.few in
+        let few = list.fits_indices in
         omega arith
 
     bounded-of : (target : Option ℕ) → AreBoundedTotals traded → o.target ≡ target → target_total target traded totals ≤ i * 2 ^ 72

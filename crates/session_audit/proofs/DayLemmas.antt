@@ -7,7 +7,7 @@ use Rattle.std.proofs.lemmas.Grind.{same_number_lists}
 use Rattle.audit_base.specs.declared.orders.Order.{Order}
 use Rattle.audit_base.specs.declared.orders.Deal.{Deal}
 use Rattle.audit_base.specs.Orders.{order_at, quantity_at, order_past_end, IsOrderList}
-use Rattle.audit_base.specs.Deals.{traded, NamesOrders, IsDealList, DealsInRange}
+use Rattle.audit_base.specs.Deals.{traded, NamesOrders, IsDealList, DealsInRange, number_at}
 use Rattle.audit_base.specs.Histories.{Regular}
 use Rattle.audit_base.specs.Rules.{Conforms}
 use Rattle.audit_base.specs.CallOffences.{is_cancelled}
@@ -19,7 +19,7 @@ use Rattle.session_audit.specs.declared.phases.PhaseKind.TheVariants as kind
 use Rattle.session_audit.specs.Phases.{rule_of, phase_kind, first_place, end_place, ArePhases, phase_deals}
 use Rattle.session_audit.specs.PhaseOrders.{list_below, role_in_phase_at, left_after_phase, traded_before_phase, chain_before_phase, left_after_phases, phase_list_at}
 use Rattle.session_audit.specs.Days.{PhaseConforms}
-use Rattle.session_audit.specs.Numbers.{number_at, AreBoundedTotals}
+use Rattle.session_audit.specs.Numbers.{AreBoundedTotals}
 use Rattle.session_audit.specs.Leaving.{EndsBy}
 use Rattle.session_audit.specs.Progress.{IsDaySoFar, AddsPhase}
 use Rattle.session_audit.proofs.ListBelowLemmas.{length-list_below, list_below-at}
@@ -167,7 +167,7 @@ ready phases are orders list regular deals dl ranges k inside here dealt last he
       regular = phase-is_regular orders list (end_place phases k) (first_place phases k) (left_after_phases phases orders deals k) (chain_before_phase phases orders deals k) regular;
       deal_list = deals-list phases orders (place-rises orders list) deals k dl;
       ends = causes-upto phases orders (place-rises orders list) deals k dl.named;
-      more = λ i. let m = in-le phases are orders deals k i inside in let s = traded-small deals ranges dl.few i in omega arith;
+      more = λ i. let m = in-le phases are orders deals k i inside in let s = traded-small deals ranges dl.fits_indices i in omega arith;
       few = let e = phase-length orders (end_place phases k) (first_place phases k) (left_after_phases phases orders deals k) (chain_before_phase phases orders deals k) in let m = upto-inside orders (end_place phases k) in omega arith;
     } in
     subst (λ h. IsReady orders h dealt last) (sym here_is) (subst (λ d. IsReady orders (phase_list_at phases orders deals k) d last) (sym dealt_is) (subst (IsReady orders (phase_list_at phases orders deals k) (phase_deals phases orders deals k)) (sym last_is) at))

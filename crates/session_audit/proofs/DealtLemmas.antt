@@ -5,11 +5,10 @@ use Rattle.std.proofs.lemmas.List.{take_all, take_more}
 use Rattle.std.proofs.lemmas.List.Elements.{filter-append}
 use Rattle.audit_base.specs.declared.orders.Order.{Order}
 use Rattle.audit_base.specs.declared.orders.Deal.{Deal}
-use Rattle.audit_base.specs.Deals.{deal_at, deal_past_end}
+use Rattle.audit_base.specs.Deals.{deal_at, deal_past_end, number_at}
 use Rattle.audit_base.specs.Continuous.{cause}
 use Rattle.session_audit.specs.declared.phases.Phase.{Phase}
 use Rattle.session_audit.specs.Phases.{first_place, end_place, phase_deals}
-use Rattle.session_audit.specs.Numbers.{number_at}
 use Rattle.session_audit.specs.Dealing.{causes_below, is_between, deals_if, deals_between}
 use Rattle.session_audit.proofs.ListBelowLemmas.{list_below-at}
 

@@ -8,13 +8,15 @@ use Rattle.audit_base.specs.declared.orders.Deal.{Deal}
 use Rattle.audit_base.specs.Orders.{order_at, place_at, quantity_at, order_past_end, IsOrderList}
 use Rattle.audit_base.specs.Histories.{Regular}
 use Rattle.audit_base.specs.Continuous.{chain, chain_within, is_placed_order}
+use Rattle.audit_base.specs.Deals.{number_at}
 use Rattle.audit_base.proofs.ContinuousLemmas.{target-below}
 use Rattle.audit_base.proofs.SumLemmas.{sum_by-same}
 use Rattle.session_audit.specs.declared.phases.Phase.{Phase}
 use Rattle.session_audit.specs.Phases.{first_place, end_place}
 use Rattle.session_audit.specs.PhaseOrders.{RoleInPhase, target_takes_part, roles_in_phase, role_in_phase, role_in_phase_at, phase_order, order_count_through, phase_list, traded_before_phase, chain_before_phase, left_after_phases, phase_list_at}
-use Rattle.session_audit.specs.Numbers.{number_at, WithinQuantities, total_of_chain, AreChainTotals}
-use Rattle.session_audit.specs.Entering.{amount_in_phase, role_of_amount, own_amount, target_has_amount, amount_by_earlier, amounts_below, phase_list_by_amounts}
+use Rattle.session_audit.specs.Numbers.{WithinQuantities, total_of_chain, AreChainTotals}
+use Rattle.session_audit.specs.Leaving.{size_if_target_rests}
+use Rattle.session_audit.specs.Entering.{amount_in_phase, role_of_amount, target_has_amount, amount_by_earlier, amounts_below, phase_list_by_amounts}
 use Rattle.session_audit.specs.Progress.{IsDaySoFar}
 use Rattle.session_audit.proofs.ListBelowLemmas.{length-list_below, list_below-at, list_below-more, list_below-same}
 use Rattle.session_audit.proofs.InPhaseLemmas.{carried-amount, own-amount, is-carried, is-own, in-phase-le, amount-takes, by-amount, target-stays}
@@ -47,7 +49,7 @@ module _ (orders : List Order) (list : IsOrderList orders) (first : ℕ) (rest s
       → amount_by_earlier orders first rest spent so_far i ≡ amount i
   amount-by i so_far lt are =
       let target = (order_at orders i).target in
-      let own : ℕ = own_amount (order_at orders i) (target_has_amount target so_far) (number_at spent i) in
+      let own : ℕ = size_if_target_rests (order_at orders i) (target_has_amount target so_far) (number_at spent i) in
       elim (cases_lt (place_at orders i) first) [
         | inl before ↦ cond-true (nat_lt (place_at orders i) first) (number_at rest i) own (lt-ltb _ _ before)
             ∙ sym (ap amount_in_phase (is-carried orders first (number_at rest) (number_at spent) i before) ∙ carried-amount (number_at rest i))

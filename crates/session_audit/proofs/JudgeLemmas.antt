@@ -5,7 +5,7 @@ use Rattle.std.proofs.lemmas.Bool.{cases_lt, cases_Bool, or_cases, eqb-true}
 use Rattle.std.specs.Prelude.{◌==◌}
 use Rattle.audit_base.specs.declared.orders.Order.{Order}
 use Rattle.audit_base.specs.declared.orders.Deal.{Deal}
-use Rattle.audit_base.specs.Deals.{names_order, quantity_traded_by, traded, NamesOrders}
+use Rattle.audit_base.specs.Deals.{names_order, quantity_traded_by, traded, NamesOrders, number_at}
 use Rattle.audit_base.proofs.SumLemmas.{sum_by-none}
 use Rattle.audit_base.proofs.OffenceLemmas.{part-away}
 use Rattle.matching_core.specs.declared.outcomes.Reached.{Reached}
@@ -13,7 +13,6 @@ use Rattle.session_audit.specs.declared.phases.PhaseKind.{PhaseKind}
 use Rattle.session_audit.specs.Phases.{rule_of}
 use Rattle.session_audit.specs.Judging.{IsConformingPhase}
 use Rattle.session_audit.specs.Leaving.{EndsBy}
-use Rattle.session_audit.specs.Numbers.{number_at}
 use Rattle.session_audit.specs.Progress.{HasPhaseTotals, AddsNumbers, AddsPhase, left_numbers_after_phase}
 
 -- no deal names an order past the end of the list

@@ -5,11 +5,11 @@ use Rattle.audit_base.specs.declared.orders.Order.{Order}
 use Rattle.audit_base.specs.declared.orders.Deal.{Deal}
 use Rattle.audit_base.specs.Orders.{order_at, place_at, quantity_at, IsOrderList}
 use Rattle.audit_base.specs.Histories.{Regular}
-use Rattle.audit_base.specs.Deals.{traded}
+use Rattle.audit_base.specs.Deals.{traded, number_at}
 use Rattle.audit_base.specs.Continuous.{chain, traded_before, chain_traded_in_ledger, entered_in_ledger, size_where_entered, size_in_ledger, rests_before_in_ledger, size_of_order, is_placed_order}
 use Rattle.audit_base.proofs.ContinuousLemmas.{target-below, entered-none, entered-some, size-is}
 use Rattle.audit_base.proofs.SumLemmas.{sum_by-same}
-use Rattle.session_audit.specs.Numbers.{number_at, total_of_chain}
+use Rattle.session_audit.specs.Numbers.{total_of_chain}
 use Rattle.session_audit.specs.PhaseOrders.{left_after_continuous}
 use Rattle.session_audit.specs.Leaving.{HasContinuousTotals, EndsBy, rests_before_with, target_rests_before, has_resting_target, size_if_target_rests, sizes_below, continuous_leaves, left_numbers_after_continuous}
 use Rattle.session_audit.proofs.ListBelowLemmas.{list_below-at, list_below-more}

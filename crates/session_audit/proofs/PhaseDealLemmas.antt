@@ -61,7 +61,7 @@ module _ (phases : List Phase) (orders : List Order) (rises : Rises orders) (dea
   deals-list l = record {
     named = deals-named l.named;
     rising = rising-deals l.rising;
-    few = let f = l.few in let m = few-deals in omega arith;
+    fits_indices = let f = l.fits_indices in let m = few-deals in omega arith;
   }
 
   -- no cause is behind the last place of the phase

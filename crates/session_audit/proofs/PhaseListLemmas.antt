@@ -146,7 +146,7 @@ module _ (orders : List Order) (last : ℕ) where
             let x = phase-place i (omega arith) in
             let y = phase-place j lt in
             omega arith;
-        few = let f = list.few in let e = phase-length in let m = upto-inside in omega arith;
+        fits_indices = let f = list.fits_indices in let e = phase-length in let m = upto-inside in omega arith;
         targets = λ i t lt e.
             let p = phase-target i t lt e in
             let is = list.targets i t (phase-inside i lt) p.2 in

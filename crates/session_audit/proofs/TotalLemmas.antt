@@ -3,14 +3,13 @@ use Rattle.std.proofs.Common.{◌≡◌, ℕ, List, length, None, ap, ◌∙◌,
 use Rattle.audit_base.specs.declared.orders.Order.{Order}
 use Rattle.audit_base.specs.declared.orders.Deal.{Deal}
 use Rattle.audit_base.specs.Orders.{IsOrderList}
-use Rattle.audit_base.specs.Deals.{traded, volume, IsDealList}
+use Rattle.audit_base.specs.Deals.{traded, volume, IsDealList, number_at}
 use Rattle.session_audit.specs.declared.phases.Phase.{Phase}
 use Rattle.session_audit.specs.Dealing.{HaveCausesInRange}
 use Rattle.session_audit.specs.Phases.{ArePhases}
 use Rattle.session_audit.specs.PhaseOrders.{list_below, traded_before_phase}
 use Rattle.session_audit.specs.Days.{instant_finding}
 use Rattle.session_audit.specs.Audits.{IsConformingDay}
-use Rattle.session_audit.specs.Numbers.{number_at}
 use Rattle.session_audit.specs.Progress.{IsDaySoFar}
 use Rattle.session_audit.proofs.ListBelowLemmas.{length-list_below, list_below-at, list_below-same}
 use Rattle.session_audit.proofs.PartLemmas.{earlier-whole}

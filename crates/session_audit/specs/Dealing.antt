@@ -2,9 +2,8 @@
 use Rattle.std.specs.Prelude.{◌≤◌, ℕ, zero, suc, Bool, true, false, ◌&&◌, nat_le, List, [], ◌∷◌, ◌++◌, All}
 use Rattle.audit_base.specs.declared.orders.Order.{Order}
 use Rattle.audit_base.specs.declared.orders.Deal.{Deal}
-use Rattle.audit_base.specs.Deals.{deal_at}
+use Rattle.audit_base.specs.Deals.{deal_at, number_at}
 use Rattle.audit_base.specs.Continuous.{cause}
-use Rattle.session_audit.specs.Numbers.{number_at}
 use Rattle.session_audit.specs.Phases.{last_place}
 use Rattle.session_audit.specs.PhaseOrders.{list_below}
 

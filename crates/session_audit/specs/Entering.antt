@@ -4,7 +4,8 @@ use Rattle.std.specs.Prelude.{ℕ, ◌-◌, Bool, true, not, ◌&&◌, nat_lt, L
 use Rattle.audit_base.specs.declared.orders.Order.{Order}
 use Rattle.audit_base.specs.Orders.{order_at}
 use Rattle.audit_base.specs.Continuous.{is_cancelled_at_place}
-use Rattle.session_audit.specs.Numbers.{number_at}
+use Rattle.audit_base.specs.Deals.{number_at}
+use Rattle.session_audit.specs.Leaving.{size_if_target_rests}
 use Rattle.session_audit.specs.PhaseOrders.{RoleInPhase, Carried, Own, Gone, role_in_phase, phase_order, list_below}
 
 -- the number that is kept of an order
@@ -19,12 +20,6 @@ role_of_amount first amount o = if nat_lt 0 amount
     then (if nat_lt o.place first then Carried amount else Own amount)
     else Gone
 
--- the number of an order of the phase, where it is known whether its target isn't gone
-abbrev pub own_amount : Order → Bool → ℕ → ℕ
-own_amount o target_stays chain_traded =
-    if not (is_cancelled_at_place o.cancelled o.place) && target_stays
-    then o.quantity - chain_traded else 0
-
 -- the order has no target, or one whose number isn't 0
 abbrev pub target_has_amount : Option ℕ → List ℕ → Bool
 target_has_amount None amounts = true
@@ -34,7 +29,7 @@ target_has_amount (Some t) amounts = nat_lt 0 (number_at amounts t)
 abbrev pub amount_by_earlier : List Order → ℕ → List ℕ → List ℕ → List ℕ → ℕ → ℕ
 amount_by_earlier orders first left chain_traded amounts i = let o = order_at orders i in
     if nat_lt o.place first then number_at left i
-    else own_amount o (target_has_amount o.target amounts) (number_at chain_traded i)
+    else size_if_target_rests o (target_has_amount o.target amounts) (number_at chain_traded i)
 
 -- the numbers of the first n orders
 abbrev pub amounts_below : List Order → ℕ → List ℕ → List ℕ → ℕ → List ℕ

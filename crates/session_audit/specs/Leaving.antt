@@ -5,8 +5,7 @@ use Rattle.audit_base.specs.declared.orders.Deal.{Deal}
 use Rattle.audit_base.specs.Orders.{order_at, place_at, may_rest}
 use Rattle.audit_base.specs.Continuous.{cause, is_cancelled_at_place, uncancelled_before, size_of_order}
 use Rattle.audit_base.specs.ContinuousRules.{ConformsContinuous}
-use Rattle.audit_base.specs.Deals.{AreTotals}
-use Rattle.session_audit.specs.Numbers.{number_at}
+use Rattle.audit_base.specs.Deals.{AreTotals, number_at}
 use Rattle.session_audit.specs.PhaseOrders.{list_below, left_after_continuous}
 
 -- what a call leaves of an order that has traded this much

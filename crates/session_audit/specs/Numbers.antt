@@ -3,11 +3,8 @@ use Rattle.std.specs.Prelude.{◌≡◌, ◌<◌, ◌≤◌, ℕ, ◌+◌, ◌*�
 use Rattle.audit_base.specs.declared.orders.Order.{Order}
 use Rattle.audit_base.specs.Orders.{quantity_at}
 use Rattle.audit_base.specs.Continuous.{chain}
+use Rattle.audit_base.specs.Deals.{number_at}
 use Rattle.session_audit.specs.PhaseOrders.{list_below}
-
--- the number at an index, or 0
-abbrev pub number_at : List ℕ → ℕ → ℕ
-number_at numbers i = slice_index_or numbers i 0
 
 -- no number is above the written quantity of its order
 abbrev pub WithinQuantities : List Order → List ℕ → Type 0

@@ -2,7 +2,7 @@
 use Rattle.std.specs.Prelude.{◌≡◌, ◌<◌, ℕ, ◌+◌, List, length}
 use Rattle.audit_base.specs.declared.orders.Order.{Order}
 use Rattle.audit_base.specs.declared.orders.Deal.{Deal}
-use Rattle.audit_base.specs.Deals.{AreTotals, traded}
+use Rattle.audit_base.specs.Deals.{AreTotals, traded, number_at}
 use Rattle.audit_base.specs.Rules.{Conforms}
 use Rattle.session_audit.specs.declared.phases.Phase.{Phase}
 use Rattle.session_audit.specs.declared.phases.PhaseKind.{PhaseKind}
@@ -10,7 +10,7 @@ use Rattle.session_audit.specs.Phases.{rule_of}
 use Rattle.session_audit.specs.PhaseOrders.{list_below, traded_before_phase, left_after_phases, left_after_phase}
 use Rattle.session_audit.specs.Days.{PhaseConforms}
 use Rattle.session_audit.specs.Leaving.{EndsBy}
-use Rattle.session_audit.specs.Numbers.{number_at, WithinQuantities}
+use Rattle.session_audit.specs.Numbers.{WithinQuantities}
 
 -- the first k phases conform; what each order traded in them, and what they left of it, which is at
 -- most its written quantity

@@ -3,9 +3,11 @@
 ghost use Rattle.std.specs.Prelude.{◌≡◌, ◌<◌, ◌≤◌, ◌-◌, ◌&&◌, not, nat_lt, if◌then◌else◌, IfOk, IfSome, length};
 ghost use Rattle.audit_base.specs.Continuous.{is_cancelled_at_place};
 ghost use Rattle.audit_base.specs.Orders.{IsOrderList, order_at};
+ghost use Rattle.audit_base.specs.Deals.{number_at};
 ghost use Rattle.order_list.specs.Changed.{with_terms};
 ghost use Rattle.session_audit.specs.Entering as entering;
-ghost use Rattle.session_audit.specs.Numbers.{WithinQuantities, number_at};
+ghost use Rattle.session_audit.specs.Leaving.{size_if_target_rests};
+ghost use Rattle.session_audit.specs.Numbers.{WithinQuantities};
 ghost use Rattle.session_audit.specs.PhaseOrders as spec;
 
 use audit_base::faults::NoMemory;
@@ -38,12 +40,12 @@ pub fn order_count_through(orders: &OrderList<'_>, last: u32) -> usize
     count
 }
 
-/// How much of an order of the phase comes into it: its written quantity less what its chain
-/// traded, if it was placed and its target isn't gone.
-fn own_amount(order: &ListedOrder<'_>, target_stays: bool, chain_traded: u128) -> u64
-    ensures { result ≡ entering.own_amount order.now target_stays chain_traded }
+/// The size of an order: its written quantity less what its chain traded, if it was placed and its
+/// target rests; else nothing.
+pub fn size_if_target_rests(order: &ListedOrder<'_>, target_rests: bool, chain_traded: u128) -> u64
+    ensures { result ≡ size_if_target_rests order.now target_rests chain_traded }
 {
-    if was_placed(order) && target_stays {
+    if was_placed(order) && target_rests {
         left_of(order.quantity().value(), chain_traded)
     } else {
         0
@@ -89,7 +91,7 @@ fn amount_by_earlier(
     if order.place() < first {
         number_at(left, index)
     } else {
-        own_amount(
+        size_if_target_rests(
             &order,
             target_has_amount(order.target(), amounts),
             chain_traded[index],

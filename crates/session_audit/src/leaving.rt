@@ -9,7 +9,7 @@ ghost use Rattle.session_audit.specs.Numbers.{AreBoundedTotals, total_of_chain};
 ghost use Rattle.session_audit.specs.PhaseOrders.{list_below};
 
 use super::chains::chain_totals;
-use super::entering::was_placed;
+use super::entering::size_if_target_rests;
 use audit_base::faults::NoMemory;
 use matching_core::totals::left_of;
 use order_list::listed::ListedOrder;
@@ -88,17 +88,6 @@ fn has_resting_target(orders: &OrderList<'_>, traded: &[u128], sizes: &[u64], in
     }
 }
 
-/// The size of an order: its quantity less what its chain traded, if it entered.
-fn size_of(order: &ListedOrder<'_>, target_rests: bool, chain_traded: u128) -> u64
-    ensures { result ≡ spec.size_if_target_rests order.now target_rests chain_traded }
-{
-    if was_placed(order) && target_rests {
-        left_of(order.quantity().value(), chain_traded)
-    } else {
-        0
-    }
-}
-
 /// The size of each order in a continuous phase that conforms. Err only out of memory.
 fn sizes_of(
     alloc: Global,
@@ -119,7 +108,7 @@ fn sizes_of(
     let mut sizes = Vec::with_capacity(alloc, orders.len())?;
     for index in 0..orders.len() {
         let target_rests = has_resting_target(orders, traded, &sizes, index);
-        sizes.push(size_of(&orders.at(index), target_rests, before[index]))?;
+        sizes.push(size_if_target_rests(&orders.at(index), target_rests, before[index]))?;
     }
     Ok(sizes)
 }

@@ -176,13 +176,13 @@ module _ {K : Type 0} (has_taken : K → List TradeRecord → Type 0) where
   trades-place draft place good =
       let known = place.has.known in
       let few = trades-count (reverse place.entries) in
-      record { entries = trades_of_pairs (report_pairs_newest_first (reverse place.entries)); has = known.handed good; few = omega (arith, few, length-reverse place.entries, place.few) }
+      record { entries = trades_of_pairs (report_pairs_newest_first (reverse place.entries)); has = known.handed good; fits_places = omega (arith, few, length-reverse place.entries, place.fits_places) }
 
   -- and where all reports pair, one for another trade
   pub trades-few : (trades : K) (reports : List Report) → length reports < 2 ^ 32 - 1 → HasTrades (has_taken trades) (pairing reports) → HasPlace has_taken trades
   trades-few trades reports few is =
       let sizes = ap length (pairing-trades reports is.entries is.paired) in
-      record { entries = is.entries; has = is.has; few = omega (arith, few, sizes, trades-count (reverse reports), length-reverse reports) }
+      record { entries = is.entries; has = is.has; fits_places = omega (arith, few, sizes, trades-count (reverse reports), length-reverse reports) }
 
   pub takes-report : (draft : PairingDraft K) (firsts : FirstReports) (trades : K) (found : Option UnpairedReport) (report : Report) (place : ℕ) → place ≡ draft.count + 1
       → ((all : List Report) → place ≡ length all + 1 → IsKnownOfReports has_taken draft.firsts draft.lone draft.trades all → IsKnownOfReports has_taken firsts found trades (report ∷ all))

@@ -114,5 +114,5 @@ module _ (orders : List Order) (units : ℕ → ℕ → ℕ) (price : DealPrice)
             let one : (get_or deals i d).place ≡ i + 1 = ap (λ (d : Deal). d.place) (deal-is i d (omega arith)) in
             let two : (get_or deals j d).place ≡ j + 1 = ap (λ (d : Deal). d.place) (deal-is j d below) in
             omega arith;
-        few = few;
+        fits_indices = few;
       }

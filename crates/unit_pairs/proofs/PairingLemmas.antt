@@ -59,7 +59,7 @@ module _ (orders : List Order) (sides : RankedSides) (volume : ℕ) (lots : Side
     bids_are = lots-apart orders h.order_list Buy bids h.ranked.bids volume bid_lots h.of_bids;
     asks_are = lots-apart orders h.order_list Sell asks h.ranked.asks volume ask_lots h.of_asks;
     same_volume = h.bids_whole ∙ sym h.asks_whole;
-    fits_places = omega (arith, ranks-fit orders h.order_list bids asks h.ranked.bids h.ranked.asks, h.of_bids.bounded, h.of_asks.bounded, h.order_list.few);
+    fits_indices = omega (arith, ranks-fit orders h.order_list bids asks h.ranked.bids h.ranked.asks, h.of_bids.bounded, h.of_asks.bounded, h.order_list.fits_indices);
   }
 
   module _ (price : ℕ) (deals : List Deal) (made : AreLotDeals orders (Same price) bid_lots ask_lots deals) where
@@ -77,7 +77,7 @@ module _ (orders : List Order) (sides : RankedSides) (volume : ℕ) (lots : Side
         let count : length deals ≡ length made.pairs = made.numbered.count in
         deals-listed orders (uniform_units orders volume) (Same price) bid_lots ask_lots
         (total_quantity_ahead orders Buy) (λ i. min volume (total_quantity_ahead orders Buy i + quantity_at orders i)) (total_quantity_ahead orders Sell) (λ i. min volume (total_quantity_ahead orders Sell i + quantity_at orders i))
-        uniform-is bids-follow asks-follow made.pairs made.are made.in_order deals made.numbered (omega (arith, made.bounded, both-sides.fits_places))
+        uniform-is bids-follow asks-follow made.pairs made.are made.in_order deals made.numbered (omega (arith, made.bounded, both-sides.fits_indices))
 
   -- The same with the lots of the bids from the last to the first.
   module _ (turned : List Lot) (is : turned ≡ reverse bid_lots) where
@@ -86,7 +86,7 @@ module _ (orders : List Order) (sides : RankedSides) (volume : ℕ) (lots : Side
       bids_are = lots-reversed bid_lots both-sides.bids_are;
       asks_are = both-sides.asks_are;
       same_volume = total-reversed bid_lots ∙ both-sides.same_volume;
-      fits_places = omega (arith, both-sides.fits_places, length-reverse bid_lots);
+      fits_indices = omega (arith, both-sides.fits_indices, length-reverse bid_lots);
     })
 
     turned-follow : Follow orders Buy (λ i. volume - min volume (total_quantity_ahead orders Buy i + quantity_at orders i)) (λ i. volume - total_quantity_ahead orders Buy i) turned
@@ -108,4 +108,4 @@ module _ (orders : List Order) (sides : RankedSides) (volume : ℕ) (lots : Side
           let count : length deals ≡ length made.pairs = made.numbered.count in
           deals-listed orders (maximum_units orders volume) AskLimit turned ask_lots
           (λ i. volume - min volume (total_quantity_ahead orders Buy i + quantity_at orders i)) (λ i. volume - total_quantity_ahead orders Buy i) (total_quantity_ahead orders Sell) (λ i. min volume (total_quantity_ahead orders Sell i + quantity_at orders i))
-          maximum-is turned-follow asks-follow made.pairs made.are made.in_order deals made.numbered (omega (arith, made.bounded, turned-sides.fits_places))
+          maximum-is turned-follow asks-follow made.pairs made.are made.in_order deals made.numbered (omega (arith, made.bounded, turned-sides.fits_indices))

@@ -10,7 +10,7 @@ pub record AreLotSides (bids asks : List Lot) : Type 0 where
   pub bids_are : AreLots bids
   pub asks_are : AreLots asks
   pub same_volume : lots_total bids ≡ lots_total asks
-  pub fits_places : length bids + length asks < 2 ^ 32
+  pub fits_indices : length bids + length asks < 2 ^ 32
 
 -- how many units come before the first that the bid lot at k and the ask lot at l
 -- could have in common

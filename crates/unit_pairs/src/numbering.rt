@@ -48,7 +48,7 @@ pub fn number_pairs(
     pairs: &[UnitPair],
     price: &DealPrice,
 ) -> Result<Vec<Deal>, NoMemory>
-    requires fits_places { length pairs.now < 2 ^ 32 }
+    requires fits_indices { length pairs.now < 2 ^ 32 }
     requires pairs { All (IsUnitPairInRange orders.now) pairs.now }
     ensures { IfOk result (λ deals. AreUnitPairDeals orders.now price.now pairs.now deals.items) }
 {

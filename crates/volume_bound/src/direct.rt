@@ -41,7 +41,7 @@ fn offered_below(order: &ListedOrder<'_>, price: u64) -> u64
 
 /// The quantity of the bids with limit at least the price.
 pub fn demand_at(orders: &OrderList<'_>, price: u64) -> u128
-    requires fits_places { length orders.now < 2 ^ 32 }
+    requires fits_indices { length orders.now < 2 ^ 32 }
     ensures { result ≡ demand orders.now price }
 {
     let mut sum: u128 = 0;
@@ -53,7 +53,7 @@ pub fn demand_at(orders: &OrderList<'_>, price: u64) -> u128
 
 /// The quantity of the asks with limit at most the price.
 pub fn supply_upto(orders: &OrderList<'_>, price: u64) -> u128
-    requires fits_places { length orders.now < 2 ^ 32 }
+    requires fits_indices { length orders.now < 2 ^ 32 }
     ensures { result ≡ supply orders.now price }
 {
     let mut sum: u128 = 0;
@@ -65,7 +65,7 @@ pub fn supply_upto(orders: &OrderList<'_>, price: u64) -> u128
 
 /// The quantity of the asks with limit below the price.
 pub fn supply_below(orders: &OrderList<'_>, price: u64) -> u128
-    requires fits_places { length orders.now < 2 ^ 32 }
+    requires fits_indices { length orders.now < 2 ^ 32 }
     ensures { result ≡ supply_below orders.now price }
 {
     let mut sum: u128 = 0;

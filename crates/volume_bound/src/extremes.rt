@@ -103,7 +103,7 @@ pub fn best_uniform_of(sums: &Sums) -> Cut
 /// The least cut over all prices from 0 to 10^18, and the least price that reaches it. Err
 /// only out of memory.
 pub fn least_cut(alloc: Global, orders: &OrderList<'_>) -> Result<Cut, NoMemory>
-    requires fits_places { length orders.now < 2 ^ 32 }
+    requires fits_indices { length orders.now < 2 ^ 32 }
     ensures least { IfOk result (IsLeastCut orders.now) }
     ensures in_range { IfOk result (λ cut. cut.price ≤ 10 ^ 18) }
     ensures numbers { OnOk result (OrdersInRange orders.now) }
@@ -115,7 +115,7 @@ pub fn least_cut(alloc: Global, orders: &OrderList<'_>) -> Result<Cut, NoMemory>
 /// The greatest executable volume over these prices, and the least price that reaches it. Err
 /// only out of memory.
 pub fn best_uniform(alloc: Global, orders: &OrderList<'_>) -> Result<Cut, NoMemory>
-    requires fits_places { length orders.now < 2 ^ 32 }
+    requires fits_indices { length orders.now < 2 ^ 32 }
     ensures best { IfOk result (IsGreatestExecutableVolume orders.now) }
     ensures in_range { IfOk result (λ cut. cut.price ≤ 10 ^ 18) }
     ensures numbers { OnOk result (OrdersInRange orders.now) }

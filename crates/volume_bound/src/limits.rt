@@ -37,7 +37,7 @@ impl Model for SortedLimits {
 
 /// All quantities, added.
 fn total_of(limits: &[LimitQuantity]) -> u128
-    requires fits_places { length limits.now < 2 ^ 32 }
+    requires fits_indices { length limits.now < 2 ^ 32 }
     ensures same { result ≡ quantity_of_limits limits.now }
     ensures small { result ≤ 2 ^ 32 * 10 ^ 12 }
 {
@@ -51,7 +51,7 @@ fn total_of(limits: &[LimitQuantity]) -> u128
 impl SortedLimits {
     /// The same limits and quantities, by rising limit.
     pub fn of(mut limits: Vec<LimitQuantity>) -> SortedLimits
-        requires fits_places { length limits.items < 2 ^ 32 }
+        requires fits_indices { length limits.items < 2 ^ 32 }
         ensures { IsPermutation limits.items result }
     {
         limits.sort_unstable_by_key(|limit_quantity| limit_quantity.limit.units());

@@ -57,7 +57,7 @@ impl Sums {
     /// The sides of these orders: each is sorted once, in n log n steps for n orders. Err
     /// only out of memory.
     pub fn build(alloc: Global, orders: &OrderList<'_>) -> Result<Sums, NoMemory>
-        requires fits_places { length orders.now < 2 ^ 32 }
+        requires fits_indices { length orders.now < 2 ^ 32 }
         ensures stands { IfOk result (λ sums. HaveSumsOf orders.now sums) }
         ensures numbers { OnOk result (OrdersInRange orders.now) }
     {

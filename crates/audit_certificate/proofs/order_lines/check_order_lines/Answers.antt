@@ -7,4 +7,4 @@ pub loop-index-init : goal.loop-index-init
 loop-index-init c = none-passed c.args.orders.now c.args.traded.now c.args.bytes.now
 
 pub loop-index-preserved : goal.loop-index-preserved
-loop-index-preserved c = one-passed c.args.orders.now c.args.traded.now c.args.bytes.now c.loop-index.index c.loop-index.rest.now c.in-Some.behind.now _ c.in_ok-behind.ensures (ap (option_map (λ b. b.now)) c.in-Some.is) c.loop-index.invariant
+loop-index-preserved c = one-passed c.args.orders.now c.args.traded.now c.args.bytes.now c.loop-index.index c.loop-index.rest.now c.in-Some.after.now _ c.in_ok-after.ensures (ap (option_map (λ b. b.now)) c.in-Some.is) c.loop-index.invariant

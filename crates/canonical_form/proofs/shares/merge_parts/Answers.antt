@@ -12,7 +12,7 @@ pub merge_part-requires : goal.merge_part-requires
 merge_part-requires c =
     let fits = c.loop-at.invariant.fits in
     let most = (c.requires.each c.loop-at.at part_past_end c.loop-at-test.true).bounded in
-    let few = c.requires.fits_places in
+    let few = c.requires.fits_indices in
     let inside = c.loop-at-test.true in
     record { fits = omega arith }
 

@@ -13,13 +13,13 @@ match_records-requires-clause-endings c = subst (AreEndings c.args.orders.now) (
 pub match_records-requires-clause-matched : goal.match_records-requires-clause-matched
 match_records-requires-clause-matched c = λ deals is. matched-first c.args.orders.now c.requires.order_list c.in_ok-so_far.so_far (subst (λ (n : ℕ). AreTradesAtStart n c.in_ok-so_far.so_far) c.len.ensures c.in_ok-so_far.ensures) deals
 
-pub number_pairs-requires-clause-fits_places : goal.number_pairs-requires-clause-fits_places
-number_pairs-requires-clause-fits_places c =
+pub number_pairs-requires-clause-fits_indices : goal.number_pairs-requires-clause-fits_indices
+number_pairs-requires-clause-fits_indices c =
     let pairs = c.match_records.new.so_far.pairs.items in
     let sorted = c.sort_pairs.new.pairs.items in
     let same = sorted-length c.args.orders.now c.requires.order_list c.requires.regular pairs sorted c.in_ok-sort_pairs.ensures.moved c.in_ok-sort_pairs.ensures.sorted (λ deals is. (c.in_ok-match_records.ensures.matched deals is).pairs) c.in_ok-match_records.ensures.counted.dealt in
-    let few = c.in_ok-match_records.ensures.counted.few in
-    let orders_few = c.requires.order_list.few in
+    let few = c.in_ok-match_records.ensures.counted.within in
+    let orders_few = c.requires.order_list.fits_indices in
     let long = ap (λ (ps : List FillPair). length ps) c.deref-2.ensures.value in
     omega arith
 
@@ -49,7 +49,7 @@ returns-clause-deal_list c =
     let pairs = c.match_records.new.so_far.pairs.items in
     let sorted = c.sort_pairs.new.pairs.items in
     let same = sorted-length c.args.orders.now c.requires.order_list c.requires.regular pairs sorted c.in_ok-sort_pairs.ensures.moved c.in_ok-sort_pairs.ensures.sorted (λ deals is. (c.in_ok-match_records.ensures.matched deals is).pairs) c.in_ok-match_records.ensures.counted.dealt in
-    let few = c.in_ok-match_records.ensures.counted.few in
-    let orders_few = c.requires.order_list.few in
+    let few = c.in_ok-match_records.ensures.counted.within in
+    let orders_few = c.requires.order_list.fits_indices in
     IfOk-weaker c.number_pairs.result _ _ (λ made numbers. made-listed c.args.orders.now c.requires.order_list c.requires.regular pairs sorted c.in_ok-sort_pairs.ensures.moved c.in_ok-sort_pairs.ensures.sorted (λ deals is. (c.in_ok-match_records.ensures.matched deals is).pairs) c.in_ok-match_records.ensures.counted.dealt made.items
     (subst (λ (ps : List FillPair). AreFillPairDeals c.args.orders.now ps made.items) c.deref-2.ensures.value numbers) (omega arith)) c.number_pairs.ensures.numbered

@@ -12,7 +12,7 @@ returns-in-Ok-Trades-clause-decides g c = λ entries may.
 pub returns-in-Ok-Trades-clause-fits_places : goal.returns-in-Ok-Trades-clause-fits_places
 returns-in-Ok-Trades-clause-fits_places g c =
     let place = rw c.in-Ok-Trades.field-0-is at c.in-Ok-Trades.ensures.fits_places in
-    record { entries = place.has.entries; trades = place.entries; has = c.end.ensures place.has.entries place.entries place.has.has place.has; fits_places = place.few }
+    record { entries = place.has.entries; trades = place.entries; has = c.end.ensures place.has.entries place.entries place.has.has place.has; fits_places = place.fits_places }
 
 pub returns-in-Ok-Alone-clause-decides : goal.returns-in-Ok-Alone-clause-decides
 returns-in-Ok-Alone-clause-decides g c = λ entries may.

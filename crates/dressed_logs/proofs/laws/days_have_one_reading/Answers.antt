@@ -1,12 +1,12 @@
 use Rattle.std.specs.Prelude.{length}
-use Rattle.dressed_logs.specs.Framed.{behind_mark, mark_of}
+use Rattle.dressed_logs.specs.Framed.{after_mark, mark_of}
 use Rattle.dressed_logs.proofs.UniqueLemmas.{one-reading, some-reading}
 use Rattle.dressed_logs.proofs.laws.days_have_one_reading.Goals as goal
 
 pub returns : goal.returns
 returns c = record {
   framed = record {
-    some = λ day. some-reading (length (mark_of day)) (behind_mark day);
-    one = λ day reading other. one-reading (length (mark_of day)) (behind_mark day) reading other;
+    some = λ day. some-reading (length (mark_of day)) (after_mark day);
+    one = λ day reading other. one-reading (length (mark_of day)) (after_mark day) reading other;
   };
 }

@@ -4,7 +4,7 @@ use Rattle.history_tests.proofs.deal_drafts.drafted.Goals as goal
 pub hand-requires : goal.hand-requires
 hand-requires g c =
     let before = c.loop-line.invariant in
-    record { entries = before.0; has = before.1; few = omega (arith, before.2, c.requires.bounded, c.loop-line-test.true) }
+    record { entries = before.0; has = before.1; fits_places = omega (arith, before.2, c.requires.bounded, c.loop-line-test.true) }
 
 pub loop-line-preserved : goal.loop-line-preserved
 loop-line-preserved g c =
@@ -14,9 +14,9 @@ loop-line-preserved g c =
 pub count-requires : goal.count-requires
 count-requires g c =
     let before = c.loop-line.invariant in
-    record { entries = before.0; has = before.1; few = omega (arith, before.2, c.requires.bounded) }
+    record { entries = before.0; has = before.1; fits_places = omega (arith, before.2, c.requires.bounded) }
 
 pub end-requires : goal.end-requires
 end-requires g c =
     let before = c.loop-line.invariant in
-    record { entries = before.0; has = before.1; few = omega (arith, before.2, c.requires.bounded) }
+    record { entries = before.0; has = before.1; fits_places = omega (arith, before.2, c.requires.bounded) }

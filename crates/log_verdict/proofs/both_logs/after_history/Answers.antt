@@ -31,7 +31,7 @@ of-requires-clause-counted g c = λ none.
 pub of-requires-clause-fits_places : goal.of-requires-clause-fits_places
 of-requires-clause-fits_places g c =
     let place = rw c.in-Ok-Trades.field-0-is at c.in-Ok-Trades.ensures.fits_places in
-    rw (c.end.ensures.count place.entries place.has) place.few
+    rw (c.end.ensures.count place.entries place.has) place.fits_places
 
 pub returns-in-Err-clause-decides : goal.returns-in-Err-clause-decides
 returns-in-Err-clause-decides g c = λ entries is.

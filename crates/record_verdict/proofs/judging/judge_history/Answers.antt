@@ -4,5 +4,5 @@ use Rattle.record_verdict.proofs.judging.judge_history.Goals as goal
 
 pub returns-in-Alone : goal.returns-in-Alone
 returns-in-Alone c =
-    let none = rw c.orders.ensures.same at (sym c.call_finding.ensures ∙ c.in_default.is) in
+    let none = rw c.orders.ensures.same at (sym c.instant_finding_of_rule.ensures ∙ c.in_default.is) in
     rw c.in-Alone.is (history_alone c.args.question.now c.args.history.now c.in-Alone.finding none)

@@ -25,7 +25,7 @@ list_phase-requires-clause-one_total_per_order c =
 pub list_phase-requires-clause-totals_bounded : goal.list_phase-requires-clause-totals_bounded
 list_phase-requires-clause-totals_bounded c =
     small-so_far c.args.phases.now c.requires.phases c.args.orders.now c.requires.order_list c.args.deals.now c.requires.deal_list.named c.loop-index.index c.loop-index-test.true
-    c.loop-index.so_far.traded.items c.loop-index.so_far.left.items c.loop-index.invariant c.deals_in_range.ensures c.requires.deal_list.few
+    c.loop-index.so_far.traded.items c.loop-index.so_far.left.items c.loop-index.invariant c.deals_in_range.ensures c.requires.deal_list.fits_indices
 
 pub judge_phase-requires : goal.judge_phase-requires
 judge_phase-requires c =
@@ -46,7 +46,7 @@ judge_phase-requires c =
       trade_count_fits = c.requires.fits_places;
       causes_end_by_last = is.ends;
       phase_totals_bounded = is.more;
-      old_totals_bounded = small-so_far phases c.requires.phases orders c.requires.order_list deals c.requires.deal_list.named k c.loop-index-test.true c.loop-index.so_far.traded.items c.loop-index.so_far.left.items c.loop-index.invariant c.deals_in_range.ensures c.requires.deal_list.few;
+      old_totals_bounded = small-so_far phases c.requires.phases orders c.requires.order_list deals c.requires.deal_list.named k c.loop-index-test.true c.loop-index.so_far.traded.items c.loop-index.so_far.left.items c.loop-index.invariant c.deals_in_range.ensures c.requires.deal_list.fits_indices;
       one_total_per_order = let f = is.few in omega arith;
     }
 

@@ -1,6 +1,6 @@
 use Rattle.std.proofs.Common.{◌≡◌, ◌<◌, ◌++◌, ◌∷◌, [], ◌∙◌, ℕ, List, length, ap, arith, subst}
-use Rattle.session_audit.specs.Numbers.{number_at}
 use Rattle.audit_base.specs.Continuous.{size_of_order}
+use Rattle.audit_base.specs.Deals.{number_at}
 use Rattle.audit_base.proofs.OffenceLemmas.{get_or-default}
 use Rattle.session_audit.proofs.ListBelowLemmas.{list_below-at}
 use Rattle.session_audit.proofs.LeavingLemmas.{lefts-more}

@@ -1,5 +1,5 @@
 use Rattle.std.proofs.Common.{◌≡◌, ◌<◌, ◌≤◌, ◌+◌, ℕ, length}
-use Rattle.session_audit.specs.Numbers.{number_at}
+use Rattle.audit_base.specs.Deals.{number_at}
 use Rattle.session_audit.proofs.progress.add_totals.Given as goal
 
 abbrev pub invariant-loop-index : goal.invariant-loop-index

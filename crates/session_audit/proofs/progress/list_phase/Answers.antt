@@ -1,8 +1,9 @@
 use Rattle.std.proofs.Common.{◌≡◌, ◌∙◌, length, sym, ap, arith, subst}
 use Rattle.std.proofs.lemmas.Result.{IfOk-weaker}
+use Rattle.audit_base.specs.Deals.{number_at}
 use Rattle.session_audit.specs.Phases.{first_place, end_place}
 use Rattle.session_audit.specs.PhaseOrders.{role_in_phase, order_count_through}
-use Rattle.session_audit.specs.Numbers.{number_at, WithinQuantities, total_of_chain, AreChainTotals}
+use Rattle.session_audit.specs.Numbers.{WithinQuantities, total_of_chain, AreChainTotals}
 use Rattle.session_audit.specs.Entering.{amount_in_phase, amounts_below, phase_list_by_amounts}
 use Rattle.session_audit.proofs.ListBelowLemmas.{length-list_below}
 use Rattle.session_audit.proofs.PhaseListLemmas.{upto-inside}

@@ -10,11 +10,11 @@ use Rattle.continuous_audit.proofs.books.BooksSoFar.drop_before_next.Goals as go
 pub returns-clause-dropped : goal.returns-clause-dropped
 returns-clause-dropped c =
     dropped-more c.args.endings.now c.args.self.now.start c.drop_ended.new.self.start (suc (place_at c.args.orders.now c.args.order)) (next_order_place c.args.orders.now (suc c.args.order)) c.requires.dropped
-    (next-above c.args.orders.now c.requires.list c.args.order c.requires.order)
+    (next-above c.args.orders.now c.requires.order_list c.args.order c.requires.order)
     (subst (AreEndingsBelow c.args.endings.now c.args.self.now.start c.drop_ended.new.self.start) c.next_place.ensures c.drop_ended.ensures.ended)
 
 pub returns-clause-holds : goal.returns-clause-holds
 returns-clause-holds c = λ deals named hold.
     let orders = c.args.orders.now in
-    next-holds orders c.requires.list deals named c.args.order c.requires.order c.args.endings.now c.requires.endings c.args.self.now.start c.drop_ended.new.self.start _ c.drop_ended.ensures.ended c.next_place.ensures
+    next-holds orders c.requires.order_list deals named c.args.order c.requires.order c.args.endings.now c.requires.endings c.args.self.now.start c.drop_ended.new.self.start _ c.drop_ended.ensures.ended c.next_place.ensures
     c.requires.dropped c.drop_ended.new.self.books (c.drop_ended.ensures.holds (resting_left_before orders (traded_before orders deals) (suc (place_at orders c.args.order))) hold)

@@ -21,5 +21,5 @@ returns-clause-holds c = λ deals named hold.
     let p = place_at orders c.args.order in
     let place_is : c.place-place.result ≡ p = c.place-place.ensures ∙ ap (λ (o : Order). o.place) c.at.ensures in
     let upto_is : c.place-place.result + 1 ≡ suc p = omega arith in
-    others-hold orders c.requires.list deals named c.args.order c.requires.order c.args.endings.now c.requires.endings c.args.self.now.start c.drop_ended.new.self.start _ c.drop_ended.ensures.ended upto_is
+    others-hold orders c.requires.order_list deals named c.args.order c.requires.order c.args.endings.now c.requires.endings c.args.self.now.start c.drop_ended.new.self.start _ c.drop_ended.ensures.ended upto_is
     c.requires.dropped c.drop_ended.new.self.books (c.drop_ended.ensures.holds (resting_left_after_deals orders deals p) hold)

@@ -38,7 +38,7 @@ take-requires g c =
     has.shared has.symbols_are c.in_ok-index.ensures.meets c.symbol.ensures c.in_ok-index.ensures.index (sym c.has.ensures ∙ c.if-not-has.false) c.index_in_share-share_index.ensures c.in_ok-make_room.ensures.room has.histories_are in
     let there : slice_get c.make_room.new.self.histories.items c.index_in_share-share_index.result ≡ Some c.index_mut.result.now =
     slice_get_read c.make_room.new.self.histories.items (length c.make_room.new.self.histories.items) c.index_in_share-share_index.result c.index_mut.result.now refl met.within c.index_mut.ensures.value in
-    is-few g.D.AuditedShare.share c.requires.entries c.args.entry.now c.make_room.new.self.histories.items c.in_ok-index.index c.index_in_share-share_index.result c.index_mut.result.now met there (omega (arith, c.requires.few))
+    is-few g.D.AuditedShare.share c.requires.entries c.args.entry.now c.make_room.new.self.histories.items c.in_ok-index.index c.index_in_share-share_index.result c.index_mut.result.now met there (omega (arith, c.requires.fits_places))
 
 pub returns : goal.returns
 returns g c = on_ok_weaker c.take.result

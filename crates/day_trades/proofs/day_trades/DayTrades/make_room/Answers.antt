@@ -3,7 +3,7 @@ use Rattle.day_orders.proofs.DayOrderLemmas.{still-empty}
 use Rattle.day_trades.proofs.day_trades.DayTrades.make_room.Goals as goal
 
 pub of-symbol_trades-requires : goal.of-symbol_trades-requires
-of-symbol_trades-requires g c = record { symbol = []; entries = []; is = c.new-history.ensures []; few = omega arith }
+of-symbol_trades-requires g c = record { symbol = []; entries = []; is = c.new-history.ensures []; fits_indices = omega arith }
 
 pub returns-in_ok-push-clause-room : goal.returns-in_ok-push-clause-room
 returns-in_ok-push-clause-room g c =

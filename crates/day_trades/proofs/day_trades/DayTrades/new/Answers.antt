@@ -7,7 +7,7 @@ use Rattle.day_trades.proofs.day_trades.DayTrades.new.Goals as goal
 pub begin-requires : goal.begin-requires
 begin-requires g c =
     let orders = c.requires.orders c.requires.some.0 c.requires.some.1 in
-    all-few g.M.AuditedDay.share c.args.orders.histories.items c.requires.some.0 orders.histories_are orders.few
+    all-few g.M.AuditedDay.share c.args.orders.histories.items c.requires.some.0 orders.histories_are orders.fits_indices
 
 pub returns : goal.returns
 returns g c = record {

@@ -11,7 +11,7 @@ take-requires g c = record {
   symbol = g.S.AuditedSymbol.symbol;
   entries = c.requires.entries;
   is = c.requires.has.kept;
-  few = omega (arith, c.requires.few);
+  fits_indices = omega (arith, c.requires.fits_places);
 }
 
 pub returns-then-not-has_symbol : goal.returns-then-not-has_symbol

@@ -11,7 +11,7 @@ pub take-requires : goal.take-requires
 take-requires c =
     let few : length c.args.self.now.so_far.orders.items ≤ length c.requires.entries =
     few-known c.requires.symbol c.requires.entries c.args.self.now.so_far (flaw_finding c.args.self.now.flaw) (ap flaw_finding c.in_default.is) c.requires.is.known in
-    omega (arith, few, c.requires.few, c.args.self.now.so_far.orders.ok.0)
+    omega (arith, few, c.requires.fits_indices, c.args.self.now.so_far.orders.ok.0)
 
 pub returns-in-Some : goal.returns-in-Some
 returns-in-Some c = λ symbol entries has own at.

@@ -17,4 +17,4 @@ returns-clause-pairs g c = λ reports is. ends-paired g.K.Collector.has_taken c.
 pub returns-clause-fits_places : goal.returns-clause-fits_places
 returns-clause-fits_places g c = λ place.
     let paired = ends-paired g.K.Collector.has_taken c.args.self place.entries place.has c.in_default.is c.in-None.ensures.none in
-    trades-few g.K.Collector.has_taken c.args.self.trades place.entries place.few paired
+    trades-few g.K.Collector.has_taken c.args.self.trades place.entries place.fits_places paired

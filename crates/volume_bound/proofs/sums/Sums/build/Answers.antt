@@ -5,10 +5,10 @@ use Rattle.volume_bound.proofs.LimitLemmas.{sides-have_sums}
 use Rattle.volume_bound.proofs.sums.Sums.build.Goals as goal
 
 pub of-requires-2 : goal.of-requires-2
-of-requires-2 c = record { fits_places = omega (arith, ap length c.in_ok-bids.ensures.bids, limits-few Buy c.args.orders.now) }
+of-requires-2 c = record { fits_indices = omega (arith, ap length c.in_ok-bids.ensures.bids, limits-few Buy c.args.orders.now) }
 
 pub of-requires-3 : goal.of-requires-3
-of-requires-3 c = record { fits_places = omega (arith, ap length c.in_ok-bids.ensures.asks, limits-few Sell c.args.orders.now) }
+of-requires-3 c = record { fits_indices = omega (arith, ap length c.in_ok-bids.ensures.asks, limits-few Sell c.args.orders.now) }
 
 pub returns-clause-stands : goal.returns-clause-stands
 returns-clause-stands c =
