@@ -41,7 +41,7 @@ pub(crate) const USAGE: &str =
     "usage: DATABASE file LABEL RULE SYMBOL FORM ORDERS TRADES | list [SYMBOL [RESULT]] | show LABEL, joined by then
 ";
 
-/// The words of a command line, which spaces part.
+/// The words of a command line, split at spaces.
 pub(crate) fn split_words(alloc: Global, line: &str) -> Result<Vec<String>, Fail> {
     let mut words = Vec::new(alloc);
     for word in line.split(' ') {
@@ -261,7 +261,7 @@ fn a_command_behind_a_cut_line_files_nothing(rt: HostRuntime) -> Result<(), Fail
     Ok(())
 }
 
-// A keeper whose first call fails: it is asked only behind two logs that are read and in their
+// A keeper whose first call fails: it is asked only after two logs that are read and in their
 // grammar.
 #[test]
 fn a_log_is_told_before_a_keeper_that_fails(rt: HostRuntime) -> Result<(), Fail> {

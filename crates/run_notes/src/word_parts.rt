@@ -49,6 +49,7 @@ pub(crate) fn is_result(word: &str) -> bool {
     false
 }
 
+/// Whether the word is a rule that has a certificate.
 fn is_bound_rule(word: &str) -> bool {
     word == "uniform" || word == "maximum"
 }
