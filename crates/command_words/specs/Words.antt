@@ -1,6 +1,6 @@
 -- What the words of a command line without the program's name ask for, where they are
--- well-formed. The first word names the command; there is one definition a command of what its
--- words ask for.
+-- well-formed. The first word names the command; what the words of each command ask for has a
+-- definition of its own.
 use Rattle.std.specs.Prelude.{ℕ, Bool, not, ◌==◌, ◌&&◌, ◌||◌, ◌+◌, Option, None, Some, option_and_then, is_none, List, [], ◌∷◌, length, drop, codes, nat_le, if◌then◌else◌, IsTrue}
 use Rattle.audit_base.specs.Least.{first_answer, only_if}
 use Rattle.audit_base.specs.RuleKinds.{asks_for_greatest, has_table}

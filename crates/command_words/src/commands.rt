@@ -1,5 +1,5 @@
 //! The words of each command. The first word names the command. A function gives the request
-//! where the words behind it are those of its command, and nothing, with no memory taken, where
+//! where the words after it are those of its command, and nothing, with no memory taken, where
 //! they are not.
 ghost use Rattle.std.specs.Prelude.{◌≡◌, ◌≤◌, length, map, IfOk, IfSome, IsErr, IsSome, IsTrue};
 ghost use Rattle.audit_base.specs.RuleKinds.{asks_for_greatest, has_table};
@@ -67,7 +67,7 @@ pub(crate) fn command_in(words: &[String]) -> Option<Command>
     command_named(first.as_str())
 }
 
-/// The symbol that a word is, and what the words behind all others say as options.
+/// The symbol that a word is, and what the words after all others say as options.
 fn symbol_and_options(word: &str, behind: &[String]) -> Option<(Name, Options)>
     ensures { result ≡ spec.symbol_and_options word.now (map string_bytes behind.now) }
 {
@@ -84,7 +84,7 @@ struct RuleWords {
     options: Options,
 }
 
-/// RULE and SYMBOL behind the command, and what the words behind all others say as options.
+/// RULE and SYMBOL after the command, and what the words after all others say as options.
 fn rule_words(words: &[String], behind: &[String]) -> Option<RuleWords>
     requires { 3 ≤ length words.now }
     ensures { result
