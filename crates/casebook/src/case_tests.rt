@@ -245,7 +245,7 @@ fn a_case_whose_line_is_cut_stays_filed(rt: HostRuntime) -> Result<(), Fail> {
 // Into a sink of this much room, which the line of the first case fills or not: the second
 // command is done only where the first line was written whole.
 #[test]
-fn a_command_behind_a_cut_line_files_nothing(rt: HostRuntime) -> Result<(), Fail> {
+fn a_command_after_a_cut_line_files_nothing(rt: HostRuntime) -> Result<(), Fail> {
     let line = "file c1 matching Z csv o t then file c2 matching Z csv o t";
     let words = split_words(rt.alloc(), line)?;
     let second = read_name(b"c2").expect(&rt, "a name");

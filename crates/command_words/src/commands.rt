@@ -68,11 +68,11 @@ pub(crate) fn command_in(words: &[String]) -> Option<Command>
 }
 
 /// The symbol that a word is, and what the words after all others say as options.
-fn symbol_and_options(word: &str, behind: &[String]) -> Option<(Name, Options)>
-    ensures { result ≡ spec.symbol_and_options word.now (map string_bytes behind.now) }
+fn symbol_and_options(word: &str, option_words: &[String]) -> Option<(Name, Options)>
+    ensures { result ≡ spec.symbol_and_options word.now (map string_bytes option_words.now) }
 {
     let symbol = symbol_named(word)?;
-    let options = options_in(behind)?;
+    let options = options_in(option_words)?;
     Some((symbol, options))
 }
 
@@ -85,13 +85,13 @@ struct RuleWords {
 }
 
 /// RULE and SYMBOL after the command, and what the words after all others say as options.
-fn rule_words(words: &[String], behind: &[String]) -> Option<RuleWords>
+fn rule_words(words: &[String], option_words: &[String]) -> Option<RuleWords>
     requires { 3 ≤ length words.now }
     ensures { result
-        ≡ spec.rule_words (map string_bytes words.now) (map string_bytes behind.now) }
+        ≡ spec.rule_words (map string_bytes words.now) (map string_bytes option_words.now) }
 {
     let rule = rule_named(word_at(words, 1))?;
-    let (symbol, options) = symbol_and_options(word_at(words, 2), behind)?;
+    let (symbol, options) = symbol_and_options(word_at(words, 2), option_words)?;
     Some(RuleWords {
         rule,
         symbol,
