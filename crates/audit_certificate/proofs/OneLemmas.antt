@@ -15,7 +15,7 @@ use Rattle.audit_base.specs.RuleKinds.{rule_of_volume, volume_rule}
 use Rattle.audit_base.proofs.LeastLemmas.{one-least}
 use Rattle.audit_base.proofs.PriorityLemmas.{outranks-better, outranks-total}
 use Rattle.audit_certificate.specs.Agreement.{Agrees, IsLastOf, order_lines_text}
-use Rattle.audit_certificate.specs.Lines.{after_lines}
+use Rattle.audit_certificate.specs.Lines.{text_after_lines}
 use Rattle.audit_certificate.specs.OneAnswer.{AgreedRuleIsOne, CertificateIsOne, FirstRefusedIsOne}
 use Rattle.audit_certificate.specs.Texts.{bound_text, head_text, last_text}
 use Rattle.audit_certificate.proofs.VerifyLemmas.{one-rule}
@@ -72,7 +72,7 @@ pub agreed-rule : AgreedRuleIsOne
 agreed-rule one other symbol orders deals bytes x y =
     let a = some-and (volume_rule one) (λ r. Agrees r symbol orders deals bytes) x in
     let b = some-and (volume_rule other) (λ r. Agrees r symbol orders deals bytes) y in
-    let same = one-rule a.0 b.0 symbol orders deals (after_lines 0 bytes) (a.2 1 (omega arith)) (b.2 1 (omega arith)) in
+    let same = one-rule a.0 b.0 symbol orders deals (text_after_lines 0 bytes) (a.2 1 (omega arith)) (b.2 1 (omega arith)) in
     volume-rule one a.0 a.1 ∙ ap rule_of_volume same ∙ sym (volume-rule other b.0 b.1)
 
 -- the lines before a later line pass, so an earlier one is not refused

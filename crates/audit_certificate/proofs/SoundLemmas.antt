@@ -20,7 +20,7 @@ use Rattle.audit_base.proofs.VolumeLemmas.{demand-falls, supply-under}
 use Rattle.call_laws.specs.Optimum.{OnePriceIsBounded}
 use Rattle.volume_bound.specs.Laws.{CutBoundsVolume}
 use Rattle.audit_certificate.specs.Laws.{CertificateSoundness}
-use Rattle.audit_certificate.specs.Lines.{ended_line, after_lines}
+use Rattle.audit_certificate.specs.Lines.{ended_line, text_after_lines}
 use Rattle.audit_certificate.specs.Agreement.{IsHeadLine, IsBoundLine, IsLastLine, IsLastOf, IsOrderLineOrEnd, IsOrderLine, OnePriceIfUniform, ShowsNoGreaterVolume, Agrees}
 
 begins-some : (Test : List ℕ → Type 0) (line : Option (List ℕ)) → IsSomeAnd line Test → (text : List ℕ) × Test text
@@ -29,22 +29,22 @@ begins-some Test (Some text) begins = (text, begins)
 
 module _ (cuts : CutBoundsVolume) (bounded : OnePriceIsBounded) (the_rule : VolumeRule) (symbol : List ℕ) (orders : List Order) (deals : List Deal) (bytes : List ℕ) (list : IsOrderList orders) (agrees : Agrees the_rule symbol orders deals bytes) where
   head : (text : List ℕ) × IsHeadLine the_rule symbol orders deals text
-  head = begins-some (IsHeadLine the_rule symbol orders deals) (ended_line (after_lines 0 bytes)) (agrees 1 (omega arith))
+  head = begins-some (IsHeadLine the_rule symbol orders deals) (ended_line (text_after_lines 0 bytes)) (agrees 1 (omega arith))
 
   bound : (text : List ℕ) × IsBoundLine the_rule orders (volume deals) text
-  bound = begins-some (IsBoundLine the_rule orders (volume deals)) (ended_line (after_lines 1 bytes)) (agrees 2 (omega arith))
+  bound = begins-some (IsBoundLine the_rule orders (volume deals)) (ended_line (text_after_lines 1 bytes)) (agrees 2 (omega arith))
 
   last : (side : Side) → (text : List ℕ) × IsLastLine orders deals side text
-  last Buy = begins-some (IsLastLine orders deals Buy) (ended_line (after_lines 2 bytes)) (agrees 3 (omega arith))
-  last Sell = begins-some (IsLastLine orders deals Sell) (ended_line (after_lines 3 bytes)) (agrees 4 (omega arith))
+  last Buy = begins-some (IsLastLine orders deals Buy) (ended_line (text_after_lines 2 bytes)) (agrees 3 (omega arith))
+  last Sell = begins-some (IsLastLine orders deals Sell) (ended_line (text_after_lines 3 bytes)) (agrees 4 (omega arith))
 
-  order-at : (i : ℕ) → i < length orders → IsOrderLineOrEnd orders deals i (after_lines (4 + i) bytes)
+  order-at : (i : ℕ) → i < length orders → IsOrderLineOrEnd orders deals i (text_after_lines (4 + i) bytes)
   order-at i lt = agrees (suc (suc (suc (suc (suc i))))) (omega arith)
 
   matching : Matching orders deals
   matching = record {
     kept = head.1.kept;
-    within = λ i lt. let line = begins-some (IsOrderLine orders deals i) (ended_line (after_lines (4 + i) bytes)) ((order-at i lt).line lt) in line.1.within;
+    within = λ i lt. let line = begins-some (IsOrderLine orders deals i) (ended_line (text_after_lines (4 + i) bytes)) ((order-at i lt).line lt) in line.1.within;
   }
 
   -- an order that is better than one that trades is better than the last one, or is ahead of it

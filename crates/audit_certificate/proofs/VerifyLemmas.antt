@@ -14,7 +14,7 @@ use Rattle.audit_base.specs.RuleKinds.{asks_for_greatest, rule_of_volume, volume
 use Rattle.audit_certificate.specs.declared.faults.VerifyFault.{VerifyFault}
 use Rattle.audit_certificate.specs.declared.faults.VerifyFault.TheVariants.{No, Memory}
 use Rattle.audit_certificate.specs.Texts.{head_text}
-use Rattle.audit_certificate.specs.Lines.{after_line, after_lines, BeginsWith, ended_line}
+use Rattle.audit_certificate.specs.Lines.{text_after_line, text_after_lines, BeginsWith, ended_line}
 use Rattle.audit_certificate.specs.Agreement.{IsHeadLine, IsBoundLine, IsLastLine, IsOrderLineOrEnd, LinePasses, LinesPassBefore, Agrees, AgreesUnder, AgreesUnderNone, IsFirstRefused}
 use Rattle.audit_certificate.specs.Answers.{IfRefused}
 use Rattle.audit_certificate.specs.Steps.{IsRefusedHead, IsRefusedBound, IsRefusedLast, IsAfterHead, IsAfterBound, IsAfterLast}
@@ -98,7 +98,7 @@ module _ (symbol : List ℕ) (orders : List Order) (deals : List Deal) (bytes : 
 
   -- line 1 is refused
   pub refused-head : (number : ℕ) → IsRefusedHead symbol orders deals bytes number → IsFirstRefused symbol orders deals bytes number
-  unfolding after_lines
+  unfolding text_after_lines
   refused-head number refused = subst (IsFirstRefused symbol orders deals bytes) (sym refused.number_is) (record {
     some = of_volume.Uniform;
     passed = none-before of_volume.Uniform;
@@ -108,11 +108,11 @@ module _ (symbol : List ℕ) (orders : List Order) (deals : List Deal) (bytes : 
 
   module _ (r : VolumeRule) (rest1 : List ℕ) (head : IsAfterHead symbol orders deals bytes r rest1) where
     passes1 : LinePasses r symbol orders deals bytes 1
-    unfolding after_lines
+    unfolding text_after_lines
     passes1 = head.begins
 
-    rest1-is : rest1 ≡ after_lines 1 bytes
-    unfolding after_lines
+    rest1-is : rest1 ≡ text_after_lines 1 bytes
+    unfolding text_after_lines
     rest1-is = head.rest_is
 
     before2 : LinesPassBefore r symbol orders deals bytes 2
@@ -121,7 +121,7 @@ module _ (symbol : List ℕ) (orders : List Order) (deals : List Deal) (bytes : 
     -- a later line is refused
     refused-later : (number : ℕ) → 1 < number → number ≤ 5 + length orders → LinesPassBefore r symbol orders deals bytes number → (LinePasses r symbol orders deals bytes number → ⊥)
         → IsFirstRefused symbol orders deals bytes number
-    unfolding after_lines
+    unfolding text_after_lines
     refused-later number late inside before fails = record {
       some = r;
       passed = before;
@@ -140,9 +140,9 @@ module _ (symbol : List ℕ) (orders : List Order) (deals : List Deal) (bytes : 
         passes2 : LinePasses r symbol orders deals bytes 2
         passes2 = subst (BeginsWith (IsBoundLine r orders (volume deals))) rest1-is (subst (λ (v : ℕ). BeginsWith (IsBoundLine r orders v) rest1) reached_is bound.begins)
 
-        rest2-is : rest2 ≡ after_lines 2 bytes
-        unfolding after_lines
-        rest2-is = bound.rest_is ∙ ap after_line rest1-is
+        rest2-is : rest2 ≡ text_after_lines 2 bytes
+        unfolding text_after_lines
+        rest2-is = bound.rest_is ∙ ap text_after_line rest1-is
 
         before3 : LinesPassBefore r symbol orders deals bytes 3
         before3 = one-more r 2 before2 passes2
@@ -156,9 +156,9 @@ module _ (symbol : List ℕ) (orders : List Order) (deals : List Deal) (bytes : 
             passes3 : LinePasses r symbol orders deals bytes 3
             passes3 = subst (BeginsWith (IsLastLine orders deals Buy)) rest2-is (last_buy deals list totals).begins
 
-            rest3-is : rest3 ≡ after_lines 3 bytes
-            unfolding after_lines
-            rest3-is = (last_buy deals list totals).rest_is ∙ ap after_line rest2-is
+            rest3-is : rest3 ≡ text_after_lines 3 bytes
+            unfolding text_after_lines
+            rest3-is = (last_buy deals list totals).rest_is ∙ ap text_after_line rest2-is
 
             before4 : LinesPassBefore r symbol orders deals bytes 4
             before4 = one-more r 3 before3 passes3
@@ -174,29 +174,29 @@ module _ (symbol : List ℕ) (orders : List Order) (deals : List Deal) (bytes : 
               passes4 : LinePasses r symbol orders deals bytes 4
               passes4 = subst (BeginsWith (IsLastLine orders deals Sell)) rest3-is (last_sell deals list totals).begins
 
-              rest4-is : rest4 ≡ after_lines 4 bytes
-              unfolding after_lines
-              rest4-is = (last_sell deals list totals).rest_is ∙ ap after_line rest3-is
+              rest4-is : rest4 ≡ text_after_lines 4 bytes
+              unfolding text_after_lines
+              rest4-is = (last_sell deals list totals).rest_is ∙ ap text_after_line rest3-is
 
               before5 : LinesPassBefore r symbol orders deals bytes 5
               before5 = one-more r 4 before4 passes4
 
               -- what is after the first four lines and some of the orders
-              order-at : (k : ℕ) → after_lines k rest4 ≡ after_lines (4 + k) bytes
-              order-at k = ap (after_lines k) rest4-is ∙ after-both 4 k bytes
+              order-at : (k : ℕ) → text_after_lines k rest4 ≡ text_after_lines (4 + k) bytes
+              order-at k = ap (text_after_lines k) rest4-is ∙ after-both 4 k bytes
 
-              order-passes : (k : ℕ) → IsOrderLineOrEnd orders deals k (after_lines k rest4) → LinePasses r symbol orders deals bytes (5 + k)
+              order-passes : (k : ℕ) → IsOrderLineOrEnd orders deals k (text_after_lines k rest4) → LinePasses r symbol orders deals bytes (5 + k)
               order-passes k at =
                   let number : suc (suc (suc (suc (suc k)))) ≡ 5 + k = omega arith in
                   subst (LinePasses r symbol orders deals bytes) number (subst (IsOrderLineOrEnd orders deals k) (order-at k) at)
 
-              passes-order : (k : ℕ) → LinePasses r symbol orders deals bytes (5 + k) → IsOrderLineOrEnd orders deals k (after_lines k rest4)
+              passes-order : (k : ℕ) → LinePasses r symbol orders deals bytes (5 + k) → IsOrderLineOrEnd orders deals k (text_after_lines k rest4)
               passes-order k passes =
                   let number : 5 + k ≡ suc (suc (suc (suc (suc k)))) = omega arith in
                   let at : LinePasses r symbol orders deals bytes (suc (suc (suc (suc (suc k))))) = subst (LinePasses r symbol orders deals bytes) number passes in
                   subst (IsOrderLineOrEnd orders deals k) (sym (order-at k)) at
 
-              before-order : (n : ℕ) → ((k : ℕ) → k < n → IsOrderLineOrEnd orders deals k (after_lines k rest4)) → LinesPassBefore r symbol orders deals bytes (5 + n)
+              before-order : (n : ℕ) → ((k : ℕ) → k < n → IsOrderLineOrEnd orders deals k (text_after_lines k rest4)) → LinesPassBefore r symbol orders deals bytes (5 + n)
               before-order n passed number lt = elim (cases_lt number 5) [
                 | inl low ↦ before5 number low
                 | inr high ↦

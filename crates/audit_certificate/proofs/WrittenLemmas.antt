@@ -22,7 +22,7 @@ use Rattle.audit_base.specs.Orders.{place_at, quantity_at}
 use Rattle.audit_base.specs.Deals.{traded, volume}
 use Rattle.audit_base.proofs.UnquotedLemmas.{price_is_unquoted}
 use Rattle.audit_certificate.specs.Texts.{head_text, bound_text, last_words, place_or_none, last_text, order_line_text}
-use Rattle.audit_certificate.specs.Lines.{is_line_end, ended_line, after_size, after_line, after_lines, BeginsWith}
+use Rattle.audit_certificate.specs.Lines.{is_line_end, ended_line, text_after_size, text_after_line, text_after_lines, BeginsWith}
 use Rattle.audit_certificate.specs.Agreement.{IsHeadLine, IsBoundLine, IsLastOf, IsLastLine, IsOrderLine, IsOrderLineOrEnd, ShowsNoGreaterVolume, Agrees, order_lines_text, certificate_text}
 use Rattle.audit_certificate.proofs.LineLemmas.{after-first, after-both}
 
@@ -82,8 +82,8 @@ end-at text rest are =
 line-first : (text rest : List ℕ) → IsOneLine text → ended_line (text ++ 10 ∷ rest) ≡ Some text
 line-first text rest are = ap (option_map (λ size. take size (text ++ 10 ∷ rest))) (end-at text rest are) ∙ ap (λ (t : List ℕ). Some t) (take-append_seam text (10 ∷ rest))
 
-line-after : (text rest : List ℕ) → IsOneLine text → after_line (text ++ 10 ∷ rest) ≡ rest
-line-after text rest are = ap (after_size (text ++ 10 ∷ rest)) (end-at text rest are) ∙ drop-append-add text (10 ∷ rest) 1
+line-after : (text rest : List ℕ) → IsOneLine text → text_after_line (text ++ 10 ∷ rest) ≡ rest
+line-after text rest are = ap (text_after_size (text ++ 10 ∷ rest)) (end-at text rest are) ∙ drop-append-add text (10 ∷ rest) 1
 
 begins-written : (Test : List ℕ → Type 0) (text rest bytes : List ℕ) → IsOneLine text → bytes ≡ text ++ 10 ∷ rest → Test text → BeginsWith Test bytes
 begins-written Test text rest bytes are is passes = subst (λ (line : Option (List ℕ)). IsSomeAnd line Test) (sym (ap ended_line is ∙ line-first text rest are)) passes
@@ -125,19 +125,19 @@ module _ (orders : List Order) (deals : List Deal) where
   one-at i = one-order (place_at orders i) (traded deals i)
 
   -- after the first k of them are those from k on
-  after-orders : (k n from : ℕ) → from + n ≤ length orders → k ≤ n → after_lines k (order_lines_text orders deals from n) ≡ order_lines_text orders deals (from + k) (n - k)
-  unfolding after_lines
+  after-orders : (k n from : ℕ) → from + n ≤ length orders → k ≤ n → text_after_lines k (order_lines_text orders deals from n) ≡ order_lines_text orders deals (from + k) (n - k)
+  unfolding text_after_lines
   after-orders zero n from inside le = let a : from ≡ from + 0 = omega arith in let b : n ≡ n - 0 = omega arith in (λ i. order_lines_text orders deals (a i) (b i))
   after-orders (suc k) zero from inside le = absurd (omega arith)
   after-orders (suc k) (suc n) from inside le =
       let a : from + 1 + k ≡ from + suc k = omega arith in
       let b : n - k ≡ suc n - suc k = omega arith in
       after-first k (order_lines_text orders deals from (suc n))
-      ∙ ap (after_lines k) (ap after_line (order-cons orders deals from n) ∙ line-after (order_line_text (place_at orders from) (traded deals from)) (order_lines_text orders deals (from + 1) n) (one-at from))
+      ∙ ap (text_after_lines k) (ap text_after_line (order-cons orders deals from n) ∙ line-after (order_line_text (place_at orders from) (traded deals from)) (order_lines_text orders deals (from + 1) n) (one-at from))
       ∙ after-orders k n (from + 1) (omega arith) (omega arith)
       ∙ (λ i. order_lines_text orders deals (a i) (b i))
 
-  order-passes : ((i : ℕ) → i < length orders → traded deals i ≤ quantity_at orders i) → (k : ℕ) → k ≤ length orders → (rest : List ℕ) → rest ≡ after_lines k (order_lines_text orders deals 0 (length orders)) → IsOrderLineOrEnd orders deals k rest
+  order-passes : ((i : ℕ) → i < length orders → traded deals i ≤ quantity_at orders i) → (k : ℕ) → k ≤ length orders → (rest : List ℕ) → rest ≡ text_after_lines k (order_lines_text orders deals 0 (length orders)) → IsOrderLineOrEnd orders deals k rest
   order-passes within k le rest rest_is =
       let zero_k : 0 + k ≡ k = omega arith in
       let at : rest ≡ order_lines_text orders deals k (length orders - k) = rest_is ∙ after-orders k (length orders) 0 (omega arith) le ∙ ap (λ (i : ℕ). order_lines_text orders deals i (length orders - k)) zero_k in
@@ -195,30 +195,30 @@ module _ (the_rule : VolumeRule) (symbol : List ℕ) (orders : List Order) (deal
   whole : bytes ≡ head_line ++ 10 ∷ (bound_line ++ 10 ∷ (bid_line ++ 10 ∷ (ask_line ++ 10 ∷ rest)))
   whole = four-lines head_line bound_line bid_line ask_line rest
 
-  rest1 : after_lines 1 bytes ≡ bound_line ++ 10 ∷ (bid_line ++ 10 ∷ (ask_line ++ 10 ∷ rest))
-  unfolding after_lines
-  rest1 = ap after_line whole ∙ line-after head_line (bound_line ++ 10 ∷ (bid_line ++ 10 ∷ (ask_line ++ 10 ∷ rest))) (one-head the_rule symbol is.named)
+  rest1 : text_after_lines 1 bytes ≡ bound_line ++ 10 ∷ (bid_line ++ 10 ∷ (ask_line ++ 10 ∷ rest))
+  unfolding text_after_lines
+  rest1 = ap text_after_line whole ∙ line-after head_line (bound_line ++ 10 ∷ (bid_line ++ 10 ∷ (ask_line ++ 10 ∷ rest))) (one-head the_rule symbol is.named)
 
-  rest2 : after_lines 2 bytes ≡ bid_line ++ 10 ∷ (ask_line ++ 10 ∷ rest)
-  unfolding after_lines
-  rest2 = ap after_line rest1 ∙ line-after bound_line (bid_line ++ 10 ∷ (ask_line ++ 10 ∷ rest)) (one-bound price (volume deals) is.in_range)
+  rest2 : text_after_lines 2 bytes ≡ bid_line ++ 10 ∷ (ask_line ++ 10 ∷ rest)
+  unfolding text_after_lines
+  rest2 = ap text_after_line rest1 ∙ line-after bound_line (bid_line ++ 10 ∷ (ask_line ++ 10 ∷ rest)) (one-bound price (volume deals) is.in_range)
 
-  rest3 : after_lines 3 bytes ≡ ask_line ++ 10 ∷ rest
-  unfolding after_lines
-  rest3 = ap after_line rest2 ∙ line-after bid_line (ask_line ++ 10 ∷ rest) (one-last Buy (option_map (place_at orders) bid))
+  rest3 : text_after_lines 3 bytes ≡ ask_line ++ 10 ∷ rest
+  unfolding text_after_lines
+  rest3 = ap text_after_line rest2 ∙ line-after bid_line (ask_line ++ 10 ∷ rest) (one-last Buy (option_map (place_at orders) bid))
 
-  rest4 : after_lines 4 bytes ≡ rest
-  unfolding after_lines
-  rest4 = ap after_line rest3 ∙ line-after ask_line rest (one-last Sell (option_map (place_at orders) ask))
+  rest4 : text_after_lines 4 bytes ≡ rest
+  unfolding text_after_lines
+  rest4 = ap text_after_line rest3 ∙ line-after ask_line rest (one-last Sell (option_map (place_at orders) ask))
 
   pub agrees-written : Agrees the_rule symbol orders deals bytes
-  unfolding after_lines
+  unfolding text_after_lines
   agrees-written zero le = tt
   agrees-written (suc zero) le = begins-written (IsHeadLine the_rule symbol orders deals) head_line (bound_line ++ 10 ∷ (bid_line ++ 10 ∷ (ask_line ++ 10 ∷ rest))) bytes (one-head the_rule symbol is.named) whole is.head
-  agrees-written (suc (suc zero)) le = begins-written (IsBoundLine the_rule orders (volume deals)) bound_line (bid_line ++ 10 ∷ (ask_line ++ 10 ∷ rest)) (after_lines 1 bytes) (one-bound price (volume deals) is.in_range) rest1
+  agrees-written (suc (suc zero)) le = begins-written (IsBoundLine the_rule orders (volume deals)) bound_line (bid_line ++ 10 ∷ (ask_line ++ 10 ∷ rest)) (text_after_lines 1 bytes) (one-bound price (volume deals) is.in_range) rest1
       (record { price = price; in_range = is.in_range; text_is = refl; shows = is.shows })
-  agrees-written (suc (suc (suc zero))) le = begins-written (IsLastLine orders deals Buy) bid_line (ask_line ++ 10 ∷ rest) (after_lines 2 bytes) (one-last Buy (option_map (place_at orders) bid)) rest2
+  agrees-written (suc (suc (suc zero))) le = begins-written (IsLastLine orders deals Buy) bid_line (ask_line ++ 10 ∷ rest) (text_after_lines 2 bytes) (one-last Buy (option_map (place_at orders) bid)) rest2
       (record { last = bid; is_last = is.last_bid; text_is = refl })
-  agrees-written (suc (suc (suc (suc zero)))) le = begins-written (IsLastLine orders deals Sell) ask_line rest (after_lines 3 bytes) (one-last Sell (option_map (place_at orders) ask)) rest3
+  agrees-written (suc (suc (suc (suc zero)))) le = begins-written (IsLastLine orders deals Sell) ask_line rest (text_after_lines 3 bytes) (one-last Sell (option_map (place_at orders) ask)) rest3
       (record { last = ask; is_last = is.last_ask; text_is = refl })
-  agrees-written (suc (suc (suc (suc (suc k))))) le = order-passes orders deals is.within k (omega arith) (after_lines (4 + k) bytes) (sym (after-both 4 k bytes) ∙ ap (after_lines k) rest4)
+  agrees-written (suc (suc (suc (suc (suc k))))) le = order-passes orders deals is.within k (omega arith) (text_after_lines (4 + k) bytes) (sym (after-both 4 k bytes) ∙ ap (text_after_lines k) rest4)

@@ -17,7 +17,7 @@ use Rattle.audit_base.specs.Calls.{IsMatchingDeal, OnePrice}
 use Rattle.audit_base.specs.Bounds.{demand, supply_below}
 use Rattle.audit_base.specs.RuleKinds.{volume_rule}
 use Rattle.audit_certificate.specs.Texts.{head_text, bound_text, last_text, order_line_text}
-use Rattle.audit_certificate.specs.Lines.{after_lines, BeginsWith}
+use Rattle.audit_certificate.specs.Lines.{text_after_lines, BeginsWith}
 
 -- Line 1.
 
@@ -99,15 +99,15 @@ pub record IsOrderLineOrEnd (orders : List Order) (deals : List Deal) (index : �
 abbrev pub LinePasses : VolumeRule → List ℕ → List Order → List Deal → List ℕ → ℕ → Type 0
 LinePasses the_rule symbol orders deals bytes zero = ⊤
 LinePasses the_rule symbol orders deals bytes (suc zero) =
-    BeginsWith (IsHeadLine the_rule symbol orders deals) (after_lines 0 bytes)
+    BeginsWith (IsHeadLine the_rule symbol orders deals) (text_after_lines 0 bytes)
 LinePasses the_rule symbol orders deals bytes (suc (suc zero)) =
-    BeginsWith (IsBoundLine the_rule orders (volume deals)) (after_lines 1 bytes)
+    BeginsWith (IsBoundLine the_rule orders (volume deals)) (text_after_lines 1 bytes)
 LinePasses the_rule symbol orders deals bytes (suc (suc (suc zero))) =
-    BeginsWith (IsLastLine orders deals Buy) (after_lines 2 bytes)
+    BeginsWith (IsLastLine orders deals Buy) (text_after_lines 2 bytes)
 LinePasses the_rule symbol orders deals bytes (suc (suc (suc (suc zero)))) =
-    BeginsWith (IsLastLine orders deals Sell) (after_lines 3 bytes)
+    BeginsWith (IsLastLine orders deals Sell) (text_after_lines 3 bytes)
 LinePasses the_rule symbol orders deals bytes (suc (suc (suc (suc (suc index))))) =
-    IsOrderLineOrEnd orders deals index (after_lines (4 + index) bytes)
+    IsOrderLineOrEnd orders deals index (text_after_lines (4 + index) bytes)
 
 -- Agrees: each line passes, and there are no more and no fewer
 abbrev pub Agrees : VolumeRule → List ℕ → List Order → List Deal → List ℕ → Type 0

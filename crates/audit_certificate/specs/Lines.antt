@@ -12,18 +12,18 @@ abbrev pub ended_line : List ℕ → Option (List ℕ)
 ended_line text = option_map (λ size. take size text) (position is_line_end text)
 
 -- what is after the LF at an index; nothing where there is none
-abbrev pub after_size : List ℕ → Option ℕ → List ℕ
-after_size text None = []
-after_size text (Some size) = drop (size + 1) text
+abbrev pub text_after_size : List ℕ → Option ℕ → List ℕ
+text_after_size text None = []
+text_after_size text (Some size) = drop (size + 1) text
 
 -- what is after the first line; nothing where the text has no LF
-abbrev pub after_line : List ℕ → List ℕ
-after_line text = after_size text (position is_line_end text)
+abbrev pub text_after_line : List ℕ → List ℕ
+text_after_line text = text_after_size text (position is_line_end text)
 
 -- what is after the first n lines
-unfoldable pub after_lines : ℕ → List ℕ → List ℕ
-after_lines zero text = text
-after_lines (suc n) text = after_line (after_lines n text)
+unfoldable pub text_after_lines : ℕ → List ℕ → List ℕ
+text_after_lines zero text = text
+text_after_lines (suc n) text = text_after_line (text_after_lines n text)
 
 -- a text begins with a line that is ended and passes the test
 abbrev pub BeginsWith : (List ℕ → Type 0) → List ℕ → Type 0

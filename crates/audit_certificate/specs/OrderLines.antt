@@ -5,7 +5,7 @@ use Rattle.audit_base.specs.declared.orders.Deal.{Deal}
 use Rattle.audit_base.specs.Orders.{place_at}
 use Rattle.audit_base.specs.Deals.{AreTotals}
 use Rattle.audit_certificate.specs.Texts.{order_line_text}
-use Rattle.audit_certificate.specs.Lines.{after_line, after_lines, BeginsWith}
+use Rattle.audit_certificate.specs.Lines.{text_after_line, text_after_lines, BeginsWith}
 use Rattle.audit_certificate.specs.Agreement.{IsOrderLine, IsOrderLineOrEnd}
 
 -- the lines of the first n orders
@@ -19,7 +19,7 @@ order_lines_upto orders traded (suc n) =
 abbrev pub AllOrderLinesPass : List Order → List ℕ → List ℕ → Type 0
 AllOrderLinesPass orders traded bytes = (deals : List Deal) → AreTotals orders deals traded
     → (index : ℕ) → index ≤ length orders
-    → IsOrderLineOrEnd orders deals index (after_lines index bytes)
+    → IsOrderLineOrEnd orders deals index (text_after_lines index bytes)
 
 -- the first order line that is refused, or the one too many, by its number in the certificate
 pub record IsRefusedLineAt (orders : List Order) (deals : List Deal) (bytes : List ℕ)
@@ -28,8 +28,8 @@ pub record IsRefusedLineAt (orders : List Order) (deals : List Deal) (bytes : Li
   pub number_is : number ≡ 5 + index
   pub inside : index ≤ length orders
   pub passed : (before : ℕ) → before < index
-      → IsOrderLineOrEnd orders deals before (after_lines before bytes)
-  pub fails : IsOrderLineOrEnd orders deals index (after_lines index bytes) → ⊥
+      → IsOrderLineOrEnd orders deals before (text_after_lines before bytes)
+  pub fails : IsOrderLineOrEnd orders deals index (text_after_lines index bytes) → ⊥
 
 -- the first order line that is refused has this number, whichever deals the totals are of
 abbrev pub IsRefusedOrderLine : List Order → List ℕ → List ℕ → ℕ → Type 0
@@ -41,7 +41,7 @@ pub record IsAfterOrder (orders : List Order) (traded : List ℕ) (index : ℕ)
     (rest after : List ℕ) : Type 0 where
   pub begins : (deals : List Deal) → AreTotals orders deals traded
       → BeginsWith (IsOrderLine orders deals index) rest
-  pub after_is : after ≡ after_line rest
+  pub after_is : after ≡ text_after_line rest
   pub shorter : length after + 1 ≤ length rest
 
 -- what is after the line of the order at an index; none where the text does not begin with that

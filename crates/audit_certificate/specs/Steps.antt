@@ -7,13 +7,13 @@ use Rattle.audit_base.specs.declared.orders.Order.{Order}
 use Rattle.audit_base.specs.declared.orders.Deal.{Deal}
 use Rattle.audit_base.specs.Orders.{IsOrderList}
 use Rattle.audit_base.specs.Deals.{AreTotals}
-use Rattle.audit_certificate.specs.Lines.{after_line, BeginsWith}
+use Rattle.audit_certificate.specs.Lines.{text_after_line, BeginsWith}
 use Rattle.audit_certificate.specs.Agreement.{IsHeadLine, IsBoundLine, IsLastLine}
 
 -- the text begins with a line that passes, and this is what is after it
 pub record IsAfter (Test : List ℕ → Type 0) (bytes rest : List ℕ) : Type 0 where
   pub begins : BeginsWith Test bytes
-  pub rest_is : rest ≡ after_line bytes
+  pub rest_is : rest ≡ text_after_line bytes
   pub shorter : length rest ≤ length bytes
 
 -- line 1 passes under this rule, or is refused under each

@@ -1,7 +1,7 @@
 //! A text line by line.
 ghost use Rattle.std.specs.Prelude.{◌≡◌, ◌+◌, ◌≤◌, Some, length, option_map};
 ghost use Rattle.std.specs.List.{position};
-ghost use Rattle.audit_certificate.specs.Lines.{is_line_end, ended_line, after_line};
+ghost use Rattle.audit_certificate.specs.Lines.{is_line_end, ended_line, text_after_line};
 
 /// The place of the first LF.
 fn line_end(text: &[u8]) -> Option<usize>
@@ -21,9 +21,9 @@ pub fn first_line(text: &[u8]) -> Option<&[u8]>
 }
 
 /// What is after the first line, which is ended.
-pub fn after_line<'a>(text: &'a [u8], line: &[u8]) -> &'a [u8]
+pub fn text_after_line<'a>(text: &'a [u8], line: &[u8]) -> &'a [u8]
     requires { ended_line text.now ≡ Some line.now }
-    ensures same { result.now ≡ after_line text.now }
+    ensures same { result.now ≡ text_after_line text.now }
     ensures shorter { length result.now + 1 ≤ length text.now }
 {
     &text[line.len() + 1..]

@@ -8,7 +8,7 @@ ghost use Rattle.audit_certificate.specs.OrderLines as spec;
 ghost use Rattle.audit_certificate.specs.Texts.{order_line_text};
 
 use super::faults::VerifyFault;
-use super::lines::{after_line, first_line};
+use super::lines::{first_line, text_after_line};
 use super::texts::{append, append_order};
 use audit_base::faults::NoMemory;
 use order_list::lists::OrderList;
@@ -67,7 +67,7 @@ fn after_order<'a>(
         return Ok(None);
     };
     if is_order_line(alloc, orders, traded, index, line, text)? {
-        Ok(Some(after_line(rest, line)))
+        Ok(Some(text_after_line(rest, line)))
     } else {
         Ok(None)
     }

@@ -16,7 +16,7 @@ use super::faults::VerifyFault;
 use super::heads::head_rule;
 use super::last_orders::is_last_line;
 use super::laws::certificate_soundness;
-use super::lines::{after_line, first_line};
+use super::lines::{first_line, text_after_line};
 use super::order_lines::check_order_lines;
 use audit_base::faults::NoMemory;
 use audit_base::names::Name;
@@ -44,7 +44,7 @@ fn check_head<'a>(
     };
     match head_rule(symbol, orders, deals, line, text)? {
         None => Err(VerifyFault::No(1)),
-        Some(rule) => Ok((rule, after_line(bytes, line))),
+        Some(rule) => Ok((rule, text_after_line(bytes, line))),
     }
 }
 
@@ -66,7 +66,7 @@ fn check_bound<'a>(
         return Err(VerifyFault::No(2));
     };
     if is_bound_line(alloc, rule, orders, volume, line, text)? {
-        Ok(after_line(bytes, line))
+        Ok(text_after_line(bytes, line))
     } else {
         Err(VerifyFault::No(2))
     }
@@ -101,7 +101,7 @@ fn check_last<'a>(
         return Err(VerifyFault::No(number));
     };
     if is_last_line(alloc, orders, traded, side, line, text)? {
-        Ok(after_line(bytes, line))
+        Ok(text_after_line(bytes, line))
     } else {
         Err(VerifyFault::No(number))
     }

@@ -9,7 +9,7 @@ use Rattle.csv.specs.declared.parser.State.{State}
 use Rattle.csv.specs.declared.parser.State.TheVariants as st
 use Rattle.csv.specs.declared.parser.Terminator.TheVariants as term
 use Rattle.csv_logs.specs.Columns.{has_bad_byte_or_open_quote, is_printable, is_quote, is_unquoted_byte, line_fields}
-use Rattle.csv_logs.specs.Readers.{is_closed, is_quoted, state_after}
+use Rattle.csv_logs.specs.Readers.{is_closed, is_quoted, state_after_bytes}
 use Rattle.csv_logs.proofs.UnquotedLemmas.{printable-bom, unquoted-unbroken}
 
 -- the bytes that may end a line
@@ -17,10 +17,10 @@ abbrev pub IsEnd : ℕ → Type 0
 IsEnd byte = (byte ≡ 10) ⊎ (byte ≡ 13)
 
 pub closed-unbroken : (line : List ℕ) → is_closed line ≡ true → has_bad_byte_or_open_quote line ≡ false
-closed-unbroken line closed = not-true (has_bad_byte_or_open_quote line) (and_parts (not (has_bad_byte_or_open_quote line)) (not (is_quoted (state_after st.StartField line))) closed).0
+closed-unbroken line closed = not-true (has_bad_byte_or_open_quote line) (and_parts (not (has_bad_byte_or_open_quote line)) (not (is_quoted (state_after_bytes st.StartField line))) closed).0
 
-closed-outside : (line : List ℕ) → is_closed line ≡ true → is_quoted (state_after st.StartField line) ≡ false
-closed-outside line closed = not-true (is_quoted (state_after st.StartField line)) (and_parts (not (has_bad_byte_or_open_quote line)) (not (is_quoted (state_after st.StartField line))) closed).1
+closed-outside : (line : List ℕ) → is_closed line ≡ true → is_quoted (state_after_bytes st.StartField line) ≡ false
+closed-outside line closed = not-true (is_quoted (state_after_bytes st.StartField line)) (and_parts (not (has_bad_byte_or_open_quote line)) (not (is_quoted (state_after_bytes st.StartField line))) closed).1
 
 not-not : (b : Bool) → not b ≡ false → b ≡ true
 not-not true e = refl
@@ -106,9 +106,9 @@ at-end st.InEscape fields field end tail is w q = absurd (cc w)
 at-end st.InComment fields field end tail is w q = absurd (cc w)
 at-end st.AfterCr fields field end tail is w q = absurd (cc w)
 
-in-state : (s : State) (fields : List (List ℕ)) (field text : List ℕ) (end : ℕ) (tail : List ℕ) → IsEnd end → list_all is_printable text ≡ true → is_within s ≡ true → is_quoted (state_after s text) ≡ false
+in-state : (s : State) (fields : List (List ℕ)) (field text : List ℕ) (end : ℕ) (tail : List ℕ) → IsEnd end → list_all is_printable text ≡ true → is_within s ≡ true → is_quoted (state_after_bytes s text) ≡ false
     → next_record default_config s fields field (text ++ end ∷ tail) ≡ Some (fields_in s fields field text, after_end term.CRLF end, tail)
-unfolding next_record state_after
+unfolding next_record state_after_bytes
 in-state s fields field [] end tail is printable w q = at-end s fields field end tail is w q
 in-state s fields field (byte ∷ rest) end tail is printable w q =
     let p = and_parts (is_printable byte) (list_all is_printable rest) printable in
@@ -175,8 +175,8 @@ step-plain st.InEscape byte p unquoted = absurd (cc p)
 step-plain st.InComment byte p unquoted = absurd (cc p)
 step-plain st.AfterCr byte p unquoted = absurd (cc p)
 
-behind-plain : (s : State) (line : List ℕ) → is_plain s ≡ true → list_all is_unquoted_byte line ≡ true → is_quoted (state_after s line) ≡ false
-unfolding state_after
+behind-plain : (s : State) (line : List ℕ) → is_plain s ≡ true → list_all is_unquoted_byte line ≡ true → is_quoted (state_after_bytes s line) ≡ false
+unfolding state_after_bytes
 behind-plain s [] p unquoted = plain-outside s p
 behind-plain s (byte ∷ rest) p unquoted =
     let parts = and_parts (is_unquoted_byte byte) (list_all is_unquoted_byte rest) unquoted in
@@ -184,16 +184,16 @@ behind-plain s (byte ∷ rest) p unquoted =
 
 pub unquoted-closed : (line : List ℕ) → list_all is_unquoted_byte line ≡ true → is_closed line ≡ true
 unquoted-closed line unquoted =
-    and_from (not (has_bad_byte_or_open_quote line)) (not (is_quoted (state_after st.StartField line))) (ap not (unquoted-unbroken line unquoted)) (ap not (behind-plain st.StartField line refl unquoted))
+    and_from (not (has_bad_byte_or_open_quote line)) (not (is_quoted (state_after_bytes st.StartField line))) (ap not (unquoted-unbroken line unquoted)) (ap not (behind-plain st.StartField line refl unquoted))
 
 -- one byte more
-pub behind-more : (s : State) (line : List ℕ) (i : ℕ) → i < length line → state_after s (take (i + 1) line) ≡ (step default_config (state_after s (take i line)) (get_or line i 0)).0
-unfolding state_after
+pub behind-more : (s : State) (line : List ℕ) (i : ℕ) → i < length line → state_after_bytes s (take (i + 1) line) ≡ (step default_config (state_after_bytes s (take i line)) (get_or line i 0)).0
+unfolding state_after_bytes
 behind-more s [] i h = absurd (omega (arith, h))
 behind-more s (byte ∷ rest) zero h = refl
 behind-more s (byte ∷ rest) (suc i) h =
     let more : suc i + 1 ≡ suc (i + 1) = omega arith in
-    ap (λ (n : ℕ). state_after s (take n (byte ∷ rest))) more ∙ behind-more (step default_config s byte).0 rest i (omega (arith, h))
+    ap (λ (n : ℕ). state_after_bytes s (take n (byte ∷ rest))) more ∙ behind-more (step default_config s byte).0 rest i (omega (arith, h))
 
 pub printable-at : (line : List ℕ) (i : ℕ) → i < length line → list_all is_printable line ≡ true → is_printable (get_or line i 0) ≡ true
 printable-at [] i h all = absurd (omega (arith, h))

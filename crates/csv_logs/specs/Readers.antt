@@ -26,9 +26,9 @@ abbrev pub is_plain_byte : ℕ → Bool
 is_plain_byte byte = is_unquoted_byte byte || byte == 10
 
 -- the state of `csv`'s machine after these bytes of a line, none of which ends the line
-unfoldable pub state_after : State → List ℕ → State
-state_after state [] = state
-state_after state (byte ∷ rest) = state_after (step default_config state byte).0 rest
+unfoldable pub state_after_bytes : State → List ℕ → State
+state_after_bytes state [] = state
+state_after_bytes state (byte ∷ rest) = state_after_bytes (step default_config state byte).0 rest
 
 -- a quote is open
 abbrev pub is_quoted : State → Bool
@@ -52,7 +52,7 @@ state_of field_state.AfterQuote = st.AfterQuote
 -- and its quotes close before its end
 abbrev pub is_closed : List ℕ → Bool
 is_closed line =
-    not (has_bad_byte_or_open_quote line) && not (is_quoted (state_after st.StartField line))
+    not (has_bad_byte_or_open_quote line) && not (is_quoted (state_after_bytes st.StartField line))
 
 -- The reader reads by `csv`'s defaults with no header row, records of any length.
 pub record IsSetUp {R : Type 0} (reader : Reader R) : Type 0 where

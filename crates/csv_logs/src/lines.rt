@@ -6,7 +6,7 @@ ghost use Rattle.csv_logs.specs.Columns.{has_bad_byte_or_open_quote, is_printabl
 ghost use Rattle.csv_logs.specs.Feeds.{is_lf};
 ghost use Rattle.csv_logs.specs.Steps.{line_at};
 ghost use Rattle.csv_logs.specs.Lines.{mark_size, without_cr};
-ghost use Rattle.csv_logs.specs.Readers.{is_closed, is_plain_byte, is_quoted, state_after, state_of};
+ghost use Rattle.csv_logs.specs.Readers.{is_closed, is_plain_byte, is_quoted, state_after_bytes, state_of};
 ghost use Rattle.csv.specs.Machine.{step};
 ghost use Rattle.csv.specs.declared.parser.State.TheVariants.{StartField};
 
@@ -195,7 +195,7 @@ fn state_after(state: FieldState, byte: u8) -> FieldState
 /// Whether a line of printable bytes ends outside of quotes, as `csv` reads them.
 fn closes_quotes(line: &[u8]) -> bool
     requires { IsTrue (list_all is_printable line.now) }
-    ensures { result ≡ not (is_quoted (state_after StartField line.now)) }
+    ensures { result ≡ not (is_quoted (state_after_bytes StartField line.now)) }
 {
     let mut state = FieldState::FieldStart;
     for byte in line {

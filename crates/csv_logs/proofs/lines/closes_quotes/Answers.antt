@@ -1,5 +1,5 @@
 use Rattle.std.proofs.Common.{ap, sym, get_or, refl, ◌∙◌}
-use Rattle.csv_logs.specs.Readers.{state_after}
+use Rattle.csv_logs.specs.Readers.{state_after_bytes}
 use Rattle.csv.specs.Machine.{step}
 use Rattle.csv.specs.Reading.{default_config}
 use Rattle.csv.specs.declared.parser.State.{State}
@@ -8,7 +8,7 @@ use Rattle.csv_logs.proofs.ClosedLemmas.{behind-more, printable-at}
 use Rattle.csv_logs.proofs.lines.closes_quotes.Goals as goal
 
 pub loop-byte-init : goal.loop-byte-init
-unfolding state_after
+unfolding state_after_bytes
 loop-byte-init c = refl
 
 pub state_after-state-requires : goal.state_after-state-requires
