@@ -1,5 +1,8 @@
 //! The verification of a certificate, line by line. Each step takes what is left of the text and
 //! gives what is after the line that passed.
+//!
+//! Nothing is sorted: a fixed number of passes, one number for each order, one buffer for a line.
+//! What a line has to be is written and compared; only the price is read.
 ghost use Rattle.std.specs.Prelude.{◌≡◌, ◌<◌, ◌≤◌, ◌^◌, IfOk, IsTrue, length};
 ghost use Rattle.audit_base.specs.Deals.{IsDealList};
 ghost use Rattle.audit_base.specs.Orders.{IsOrderList};

@@ -22,7 +22,7 @@ use Rattle.audit_run.specs.ExpectedTrades.{AuditAcceptsExpectedTrades, ExpectedT
 use Rattle.audit_run.specs.Laws.{GenerateWrites}
 use Rattle.audit_run.specs.OtherTexts.{orders_finding, ExpectsRecords, IsAcceptedBeside, IsExpectAnswer, IsExpectedLog}
 use Rattle.command_run.specs.Laws.{HeldLogsAreRead}
-use Rattle.audit_run.specs.Requests.{command_of, IsAnswerTo}
+use Rattle.audit_run.specs.Requests.{auditor_command_of, IsAnswerTo}
 use Rattle.command_run.specs.VerdictAnswers.{IsDone, IsVerdictAnswer}
 use Rattle.record_verdict.specs.RecordVerdicts.{question, IsRecordVerdict}
 use Rattle.log_verdict.specs.LogVerdicts.{Log, log_in, records_of_order_log, trades_of_trade_log}
@@ -38,7 +38,7 @@ same-added (Some xs) None a b some x y = absurd x
 same-added (Some xs) (Some ys) a b some x y = append_cancel_left xs a b (sym x ∙ y)
 
 -- the text that was written is the answer to the log that is held
-answered : ((request : Request) → HeldLogsAreRead (command_of request)) → (the_rule : Rule) (symbol : List ℕ) (orders : Log) (text : List ℕ) → WroteExpected the_rule symbol orders text → IsExpectAnswer the_rule symbol orders status.Accepted text
+answered : ((request : Request) → HeldLogsAreRead (auditor_command_of request)) → (the_rule : Rule) (symbol : List ℕ) (orders : Log) (text : List ℕ) → WroteExpected the_rule symbol orders text → IsExpectAnswer the_rule symbol orders status.Accepted text
 answered read the_rule symbol orders text w =
     let request : Request = Expect the_rule symbol w.name orders.form in
     let done = w.answered.causes in
@@ -79,7 +79,7 @@ module _ (the_rule : Rule) (symbol : List ℕ) (table : Bool) (text : List ℕ) 
       accepted-by entries (trades_of_trade_log Csv text) (log.accepted table)
   accepted-of (Err bad) is = absurd (not_malformed is.status_is)
 
-pub expected-accepted : OneVerdict → ((request : Request) → HeldLogsAreRead (command_of request)) → ExpectedTradesAreAccepted
+pub expected-accepted : OneVerdict → ((request : Request) → HeldLogsAreRead (auditor_command_of request)) → ExpectedTradesAreAccepted
 expected-accepted one read the_rule symbol table orders text w =
     let known = accepted-of the_rule symbol table text (records_of_order_log orders.form orders.bytes) (answered read the_rule symbol orders text w) in
     record {
@@ -88,7 +88,7 @@ expected-accepted one read the_rule symbol table orders text w =
       only = λ other is. one (question the_rule symbol table) orders (log_in Csv text) other (verdict.Accepted known.0) is known.1;
     }
 
-pub audit-accepts : OneVerdict → ((request : Request) → HeldLogsAreRead (command_of request)) → AuditAcceptsExpectedTrades
+pub audit-accepts : OneVerdict → ((request : Request) → HeldLogsAreRead (auditor_command_of request)) → AuditAcceptsExpectedTrades
 audit-accepts one read the_rule symbol table orders text answer w audited =
     let known = expected-accepted one read the_rule symbol table orders text w in
     ⊎_elim (λ written. inl (written.is.answer.status_is ∙ ap verdict_status (known.only written.is.verdict written.is.is))) (λ none. inr none.status_is)

@@ -31,7 +31,7 @@ use Rattle.log_verdict.specs.declared.stops.Stop.TheVariants as stop
 use Rattle.record_verdict.specs.declared.questions.Question.{Question}
 use Rattle.audit_run.specs.Certificates.{IsCertificateOf, IsCertifyAnswer, IsVerdictAnswerWith, IsVerifyAnswer, VerifiesDeals, VerifiesRecords}
 use Rattle.command_run.specs.Deciding.{IsAnswerOfKind}
-use Rattle.audit_run.specs.Deciding.{DecidesAnswer}
+use Rattle.audit_run.specs.Deciding.{DecidesAuditorAnswer}
 use Rattle.command_run.specs.Deciding.{DecidesBytes, DecidesUnread, IsStatusOfLogs}
 use Rattle.audit_run.specs.OtherTexts.{orders_finding, ConvertsTrades, ExpectsRecords, IsConvertAnswer, IsExpectedLog}
 use Rattle.audit_run.specs.Requests.{next_log, IsAnswerTo}
@@ -168,8 +168,8 @@ expects-done the_rule symbol entries answer formed admits done is = rw none (rec
 -- A call whose logs have at most 64 MiB.
 
 module _ {S : Type 0} (shelf : Shelf S) (old new : S) (source : Source) (few : source.limit ≡ longest_log) where
-  pub decides_within : (request : Request) (result : Result Answer Stop) → DecidesAnswer (reading_by source shelf old new) request result → DecidesAnswer (reading shelf old new) request result
-  decides_within request result is = subst (λ (n : ℕ). DecidesAnswer (reading_within n shelf old new) request result) few is
+  pub decides_within : (request : Request) (result : Result Answer Stop) → DecidesAuditorAnswer (reading_by source shelf old new) request result → DecidesAuditorAnswer (reading shelf old new) request result
+  decides_within request result is = subst (λ (n : ℕ). DecidesAuditorAnswer (reading_within n shelf old new) request result) few is
 
   pub stays_within : (result : Result Answer Stop) → StaysWithin (reading_by source shelf old new) result → StaysWithin (reading shelf old new) result
   stays_within result is = subst (λ (n : ℕ). StaysWithin (reading_within n shelf old new) result) few is

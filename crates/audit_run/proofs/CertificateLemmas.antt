@@ -23,7 +23,7 @@ use Rattle.command_run.specs.Deciding.{DecidesAnswer, DecidesBytes, IsAnswerOfKi
 use Rattle.command_run.specs.Laws.{ReadLogsDecide}
 use Rattle.audit_run.specs.Deciding.{request_to_verify}
 use Rattle.audit_run.specs.JudgedAnswers.{IsVerifyAnswerOn}
-use Rattle.audit_run.specs.Requests.{command_of}
+use Rattle.audit_run.specs.Requests.{auditor_command_of}
 use Rattle.command_run.specs.Runs.{ReadingDecides, ReadsOneByOne, ReadsThenStarts}
 use Rattle.log_verdict.specs.Collecting.{step_of, IsReadAs, TouchesOnly}
 use Rattle.log_verdict.specs.LogVerdicts.{log_in, records_of_order_log, trades_of_trade_log}
@@ -98,7 +98,7 @@ module _ (first second : Reading) (after : Continues first second) (later : Faul
   asked = call_scope symbol
 
   abbrev command : Command
-  command = command_of (request_to_verify symbol orders trades certificate)
+  command = auditor_command_of (request_to_verify symbol orders trades certificate)
 
   abbrev first_step : LogStep
   first_step = step_of first Orders orders.name.now

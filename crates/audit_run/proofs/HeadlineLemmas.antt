@@ -14,9 +14,9 @@ use Rattle.log_verdict.specs.LogVerdicts.{Log, log_in, records_of_order_log, IsL
 use Rattle.log_verdict.specs.Steps.{Reading}
 use Rattle.record_verdict.specs.declared.questions.Question.{Question}
 use Rattle.command_run.specs.Runs.{HoldsLog, HoldsNeededLogs, HoldsNext, NothingFails, RunsOutOfMemory, WritesWhole}
-use Rattle.audit_run.specs.Runs.{AnswersHeldLogs}
+use Rattle.audit_run.specs.Runs.{AuditorAnswersHeldLogs}
 use Rattle.command_run.specs.Commands.{Command}
-use Rattle.audit_run.specs.Requests.{command_of}
+use Rattle.audit_run.specs.Requests.{auditor_command_of}
 use Rattle.audit_run.specs.TopCall.{audit_of_logs, AnswersVerdict, WritesVerdict}
 use Rattle.command_run.specs.VerdictAnswers.{IsAuditAnswer}
 
@@ -27,7 +27,7 @@ module _ (one : OneVerdict) (r : Reading) (q : Question) (orders trades : Log) (
   request = audit_of_logs q orders trades orders_name trades_name
 
   abbrev command : Command
-  command = command_of request
+  command = auditor_command_of request
 
   -- the answer by the verdict on the order log and a second log is that by the one verdict on both logs, where
   -- these have the same verdict
@@ -48,7 +48,7 @@ module _ (one : OneVerdict) (r : Reading) (q : Question) (orders trades : Log) (
   whatever_trades bad e second v is = let same : v ≡ verdict.Malformed Orders bad = rw e at is in rw e same
 
   by_orders : (said : Result (List OrderRecord) BadPlace) → records_of_order_log orders.form orders.bytes ≡ said
-      → AnswersHeldLogs (Some request) r old new status → WritesVerdict q orders trades old new status ⊎ RunsOutOfMemory old new status
+      → AuditorAnswersHeldLogs (Some request) r old new status → WritesVerdict q orders trades old new status ⊎ RunsOutOfMemory old new status
   by_orders (Ok entries) e answers =
       let first : HoldsNext r command [] orders.bytes = record { log = Orders; name = orders_name; next = refl; holds = holds_orders } in
       let second : HoldsNext r command (orders.bytes ∷ []) trades.bytes = record { log = Trades; name = trades_name; next = rw e refl; holds = holds_trades } in
@@ -62,8 +62,8 @@ module _ (one : OneVerdict) (r : Reading) (q : Question) (orders trades : Log) (
       (answers (orders.bytes ∷ []) (record { held = held; nothing_fails = nothing_fails }))
 
 -- the headline follows from what is said of every command
-pub answers_verdict : OneVerdict → (asked : Option Request) (r : Reading) (old new : SinkState) (status : Status) → AnswersHeldLogs asked r old new status → AnswersVerdict asked r old new status
+pub answers_verdict : OneVerdict → (asked : Option Request) (r : Reading) (old new : SinkState) (status : Status) → AuditorAnswersHeldLogs asked r old new status → AnswersVerdict asked r old new status
 answers_verdict one asked r old new status answers q orders trades to_audit nothing_fails =
     by_orders one r q orders trades to_audit.orders_name to_audit.trades_name to_audit.holds_orders to_audit.holds_trades old new nothing_fails status
     (records_of_order_log orders.form orders.bytes) refl
-    (subst (λ (x : Option Request). AnswersHeldLogs x r old new status) to_audit.words answers)
+    (subst (λ (x : Option Request). AuditorAnswersHeldLogs x r old new status) to_audit.words answers)

@@ -53,7 +53,7 @@ use Rattle.session_verdict.specs.Sessions.{session_status, IsRejectedSession, Is
 use Rattle.verdict_laws.specs.Histories.{ExpectedTradesAreOne}
 use Rattle.command_run.specs.Laws.{CallsAgree}
 use Rattle.command_words.specs.declared.requests.Request.{Request}
-use Rattle.audit_run.specs.Requests.{command_of}
+use Rattle.audit_run.specs.Requests.{auditor_command_of}
 use Rattle.audit_run.specs.AnswerIsOne.{AnswerIsOne, RunsAgree}
 use Rattle.audit_run.specs.Certificates.{IsCertificateOf, IsCertifyAnswer, IsVerdictAnswerWith, IsVerifyAnswer, VerifiesDeals, VerifiesRecords}
 use Rattle.audit_run.specs.OtherTexts.{orders_finding, ConvertsTrades, ExpectsRecords, IsCallLine, IsContinuousLine, IsConvertAnswer, IsExpectAnswer, IsExpectedLog, IsGeneratedSummary}
@@ -296,6 +296,6 @@ module _ (laws : Laws) where
   answer-is-one (Generate start count) logs s t a b x y = done-one (IsGeneratedSummary start count) (summary-one start count) s t a b x y
 
 -- so two calls for which the same logs are there agree, unless memory ran out in one of them
-pub runs-agree : ((request : Request) → CallsAgree (command_of request)) → AnswerIsOne → RunsAgree
+pub runs-agree : ((request : Request) → CallsAgree (auditor_command_of request)) → AnswerIsOne → RunsAgree
 runs-agree agree answer_is_one request logs r s one_old one_new other_old other_new one other x y ready ready_too =
     agree request (answer_is_one request) logs one_old one_new other_old other_new one other (x logs ready) (y logs ready_too)

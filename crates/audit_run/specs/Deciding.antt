@@ -10,11 +10,12 @@ use Rattle.log_verdict.specs.declared.stops.Stop.{Stop}
 use Rattle.log_verdict.specs.Steps.{Reading}
 use Rattle.record_verdict.specs.declared.questions.Question.{Question}
 use Rattle.session_audit.specs.declared.phases.Phase.{Phase}
-use Rattle.audit_run.specs.Requests.{command_of}
+use Rattle.audit_run.specs.Requests.{auditor_command_of}
 
 -- the answer to a request that the reading decides, or why there is none
-abbrev pub DecidesAnswer : Reading → Request → Result Answer Stop → Type 0
-DecidesAnswer r request result = deciding.DecidesAnswer r (command_of request) result
+abbrev pub DecidesAuditorAnswer : Reading → Request → Result Answer Stop → Type 0
+DecidesAuditorAnswer r request result =
+    deciding.DecidesAnswer r (auditor_command_of request) result
 
 -- the request to audit these logs
 abbrev pub request_to_audit : Question → Source → Source → Request

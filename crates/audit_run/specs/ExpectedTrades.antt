@@ -16,8 +16,8 @@ use Rattle.command_words.specs.declared.requests.Request.TheVariants.{Expect}
 use Rattle.record_verdict.specs.RecordVerdicts.{question}
 use Rattle.log_verdict.specs.LogVerdicts.{Log, log_in, IsLogVerdict}
 use Rattle.command_run.specs.Runs.{AllIsThere, HoldsNeededLogs}
-use Rattle.audit_run.specs.Runs.{AnswersHeldLogs, AnswersWithCause}
-use Rattle.audit_run.specs.Requests.{command_of}
+use Rattle.audit_run.specs.Runs.{AuditorAnswersHeldLogs, AuditorAnswersWithCause}
+use Rattle.audit_run.specs.Requests.{auditor_command_of}
 use Rattle.audit_run.specs.TopCall.{audit_of_logs}
 use Rattle.log_verdict.specs.Steps.{Reading}
 
@@ -25,8 +25,8 @@ use Rattle.log_verdict.specs.Steps.{Reading}
 -- the shelf holds and by what it says of causes.
 pub record IsAnsweredCall (request : Request) (r : Reading) (old new : SinkState)
     (status : Status) : Type 0 where
-  pub commands : AnswersHeldLogs (Some request) r old new status
-  pub causes : AnswersWithCause (Some request) r old new status
+  pub commands : AuditorAnswersHeldLogs (Some request) r old new status
+  pub causes : AuditorAnswersWithCause (Some request) r old new status
 
 -- A call of `expect` answered 0 and wrote this text. It is known what the shelf holds and what
 -- the sink was given, and the shelf holds the order log.
@@ -39,7 +39,7 @@ pub record WroteExpected (the_rule : Rule) (symbol : List ℕ) (orders : Log)
   pub answered : IsAnsweredCall (Expect the_rule symbol name orders.form)
       r old new status.Accepted
   pub shelf_tells : r.tells ≡ true
-  pub held : HoldsNeededLogs r (command_of (Expect the_rule symbol name orders.form)) []
+  pub held : HoldsNeededLogs r (auditor_command_of (Expect the_rule symbol name orders.form)) []
       (orders.bytes ∷ [])
   pub sink_tells : IsSome old.wrote
   pub wrote : Appends old.wrote new.wrote text
@@ -67,7 +67,8 @@ pub record AuditedLogs (q : Question) (orders trades : Log) (status : Status) : 
   pub new : SinkState
   pub answered : IsAnsweredCall (audit_of_logs q orders trades orders_name trades_name)
       r old new status
-  pub ready : AllIsThere r (command_of (audit_of_logs q orders trades orders_name trades_name))
+  pub ready : AllIsThere r
+      (auditor_command_of (audit_of_logs q orders trades orders_name trades_name))
       (orders.bytes ∷ trades.bytes ∷ []) old new
 
 -- so `audit` of the two answers 0, or that memory ran out

@@ -6,7 +6,7 @@ use Rattle.log_source.specs.Sinks.{SinkState}
 use Rattle.record_verdict.specs.declared.questions.Question.{Question}
 use Rattle.command_words.specs.declared.requests.Request.TheVariants.{Generate}
 use Rattle.audit_run.specs.Certificates.{IsCertifyAnswer, IsVerifyAnswer}
-use Rattle.audit_run.specs.Runs.{AnswersWithCause}
+use Rattle.audit_run.specs.Runs.{AuditorAnswersWithCause}
 use Rattle.log_verdict.specs.LogVerdicts.{Log}
 use Rattle.log_verdict.specs.Steps.{Reading}
 
@@ -14,7 +14,7 @@ use Rattle.log_verdict.specs.Steps.{Reading}
 -- (memory ran out)
 abbrev pub GenerateWrites : Type 0
 GenerateWrites = (start count : ℕ) (r : Reading) (old new : SinkState) (the_status : Status)
-    → AnswersWithCause (Some (Generate start count)) r old new the_status
+    → AuditorAnswersWithCause (Some (Generate start count)) r old new the_status
     → (the_status ≡ status.Accepted)
     ⊎ ((the_status ≡ status.WriteFault) ⊎ (the_status ≡ status.Memory))
 

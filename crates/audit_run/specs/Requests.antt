@@ -71,5 +71,5 @@ IsAnswerTo (Generate start count) logs status text =
     IsDone (IsGeneratedSummary start count) status text
 
 -- the command that a request asks for
-abbrev pub command_of : Request → Command
-command_of request = record { next = next_log request; is_answer = IsAnswerTo request }
+abbrev pub auditor_command_of : Request → Command
+auditor_command_of request = record { next = next_log request; is_answer = IsAnswerTo request }

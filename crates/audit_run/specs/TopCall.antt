@@ -16,7 +16,7 @@ use Rattle.log_verdict.specs.Existence.{IsOnlyVerdict}
 use Rattle.log_verdict.specs.LogVerdicts.{Log}
 use Rattle.log_verdict.specs.Steps.{reading, KeepsShelfLogs, FaultsNeverFall, Reading}
 use Rattle.command_run.specs.Runs.{AnswersTooLong, HoldsLog, NothingFails, RunsOutOfMemory}
-use Rattle.audit_run.specs.Runs.{AnswersHeldLogs, AnswersWithCause}
+use Rattle.audit_run.specs.Runs.{AuditorAnswersHeldLogs, AuditorAnswersWithCause}
 
 -- the request that asks this question of two logs under these names
 abbrev pub audit_of_logs : Question → Log → Log → List ℕ → List ℕ → Request
@@ -56,8 +56,8 @@ AnswersVerdict asked r old new status =
 pub record AuditorAnswers {S : Type 0} (shelf : Shelf S) (asked : Option Request) (old new : S)
     (sink_old sink_new : SinkState) (status : Status) : Type 0 where
   pub headline : AnswersVerdict asked (reading shelf old new) sink_old sink_new status
-  pub commands : AnswersHeldLogs asked (reading shelf old new) sink_old sink_new status
-  pub causes : AnswersWithCause asked (reading shelf old new) sink_old sink_new status
+  pub commands : AuditorAnswersHeldLogs asked (reading shelf old new) sink_old sink_new status
+  pub causes : AuditorAnswersWithCause asked (reading shelf old new) sink_old sink_new status
   pub too_long : AnswersTooLong (reading shelf old new) status
   pub logs : KeepsShelfLogs shelf old new
   pub later : FaultsNeverFall (reading shelf old new)

@@ -3,7 +3,7 @@ ghost use Rattle.std.specs.Prelude.{◌≡◌, IsTrue};
 ghost use Rattle.audit_base.specs.RuleKinds.{asks_for_greatest};
 ghost use Rattle.log_source.specs.Sources.{longest_log};
 ghost use Rattle.log_verdict.specs.BothLogs.{HaveOneLimit, StaysWithin};
-ghost use Rattle.audit_run.specs.Deciding.{request_to_audit, request_to_certify, DecidesAnswer};
+ghost use Rattle.audit_run.specs.Deciding.{request_to_audit, request_to_certify, DecidesAuditorAnswer};
 ghost use Rattle.command_words.specs.Words.{MayBeAsked};
 ghost use Rattle.log_verdict.specs.Steps.{reading, reading_by, KeepsShelfLogs, FaultsNeverFall};
 
@@ -41,7 +41,7 @@ fn answer_audit<F: Shelf>(
     requires limit { HaveOneLimit orders.now trades.now }
     ensures logs { KeepsShelfLogs F.Shelf shelf.old shelf.new }
     ensures later { FaultsNeverFall (reading_by orders.now F.Shelf shelf.old shelf.new) }
-    ensures decides { DecidesAnswer (reading_by orders.now F.Shelf shelf.old shelf.new)
+    ensures decides { DecidesAuditorAnswer (reading_by orders.now F.Shelf shelf.old shelf.new)
         (request_to_audit question.now orders.now trades.now) result }
     ensures within { StaysWithin (reading_by orders.now F.Shelf shelf.old shelf.new) result }
 {
@@ -66,7 +66,7 @@ fn answer_certify<F: Shelf>(
     requires limit { HaveOneLimit orders.now trades.now }
     ensures logs { KeepsShelfLogs F.Shelf shelf.old shelf.new }
     ensures later { FaultsNeverFall (reading_by orders.now F.Shelf shelf.old shelf.new) }
-    ensures decides { DecidesAnswer (reading_by orders.now F.Shelf shelf.old shelf.new)
+    ensures decides { DecidesAuditorAnswer (reading_by orders.now F.Shelf shelf.old shelf.new)
         (request_to_certify rule symbol.now orders.now trades.now) result }
     ensures within { StaysWithin (reading_by orders.now F.Shelf shelf.old shelf.new) result }
 {
@@ -102,7 +102,8 @@ pub(crate) fn answer_request<F: Shelf>(
     requires { MayBeAsked request.now }
     ensures logs { KeepsShelfLogs F.Shelf shelf.old shelf.new }
     ensures later { FaultsNeverFall (reading F.Shelf shelf.old shelf.new) }
-    ensures decides { DecidesAnswer (reading F.Shelf shelf.old shelf.new) request.now result }
+    ensures decides { DecidesAuditorAnswer (reading F.Shelf shelf.old shelf.new)
+        request.now result }
     ensures within { StaysWithin (reading F.Shelf shelf.old shelf.new) result }
 {
     // A law that the answers to one log rest on. It computes nothing.

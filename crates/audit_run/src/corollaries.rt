@@ -8,8 +8,8 @@ ghost use Rattle.log_source.specs.declared.quiet_shelf.QuietShelf.{QuietShelf};
 ghost use Rattle.command_words.specs.declared.requests.Request.{Request};
 ghost use Rattle.command_run.specs.Corollaries.{HasRoomForText};
 ghost use Rattle.audit_report.specs.Lines.{auditor_usage_line};
-ghost use Rattle.audit_run.specs.Requests.{command_of};
-ghost use Rattle.audit_run.specs.Runs.{AnswersWithCause};
+ghost use Rattle.audit_run.specs.Requests.{auditor_command_of};
+ghost use Rattle.audit_run.specs.Runs.{AuditorAnswersWithCause};
 ghost use Rattle.log_verdict.specs.Steps.{Reading, reading};
 
 use super::program::Auditor;
@@ -21,7 +21,8 @@ use log_source::shelf::Shelf;
 pub fn a_quiet_shelf_is_read()
     ensures { (asked : Option Request) (old new : QuietShelf) (before after : SinkState)
         (the_status : Status)
-        → AnswersWithCause asked (reading ⟦<QuietShelf as Shelf>⟧ old new) before after the_status
+        → AuditorAnswersWithCause asked (reading ⟦<QuietShelf as Shelf>⟧ old new)
+        before after the_status
         → the_status ≢ Status.ReadFault }
 {
     of_commands::a_quiet_shelf_is_read::<Auditor>();
@@ -32,9 +33,11 @@ pub fn a_quiet_shelf_is_read()
 pub fn a_sink_with_room_is_written()
     ensures { (asked : Option Request) (r : Reading) (old new : MemorySink) (the_status : Status)
         → failing_writes old ≡ []
-        → HasRoomForText command_of auditor_usage_line asked r (sink_length old) (sink_room old)
+        → HasRoomForText auditor_command_of auditor_usage_line asked r
+        (sink_length old) (sink_room old)
         → SinkStays (memory_sink_state old) (memory_sink_state new)
-        → AnswersWithCause asked r (memory_sink_state old) (memory_sink_state new) the_status
+        → AuditorAnswersWithCause asked r
+        (memory_sink_state old) (memory_sink_state new) the_status
         → the_status ≢ Status.WriteFault }
 {
     of_commands::a_sink_with_room_is_written::<Auditor>();

@@ -3,7 +3,7 @@ ghost use Rattle.std.specs.Prelude.{◌≡◌, ◌≢◌, [], map};
 ghost use Rattle.std.specs.String.{string_bytes};
 ghost use Rattle.log_source.specs.MemorySinks.{failing_writes, sink_length, memory_sink_state, sink_room};
 ghost use Rattle.command_run.specs.InMemory.{AnswersInRoom};
-ghost use Rattle.audit_run.specs.Requests.{command_of};
+ghost use Rattle.audit_run.specs.Requests.{auditor_command_of};
 ghost use Rattle.audit_run.specs.TopCall.{AuditorAnswers};
 ghost use Rattle.log_verdict.specs.Steps.{reading};
 ghost use Rattle.command_words.specs.Words.{request_of};
@@ -34,7 +34,7 @@ pub fn run_in_memory(
         (memory_sink_state out.old) (memory_sink_state out.new) result }
     ensures read { result ≢ Status.ReadFault }
     ensures answer { failing_writes out.old ≡ []
-        → AnswersInRoom command_of (request_of (map string_bytes words.now))
+        → AnswersInRoom auditor_command_of (request_of (map string_bytes words.now))
         (reading ⟦<QuietShelf as Shelf>⟧ shelf.old shelf.new)
         (sink_length out.old) (sink_room out.old)
         (memory_sink_state out.old) (memory_sink_state out.new) result }

@@ -8,11 +8,11 @@ pub struct Auditor;
 
 impl Program for Auditor {
     ghost use Rattle.audit_report.specs.Lines.{auditor_usage_line};
-    ghost use Rattle.audit_run.specs.Requests.{command_of};
+    ghost use Rattle.audit_run.specs.Requests.{auditor_command_of};
 
     type Request = Request;
 
-    ghost command = { command_of };
+    ghost command = { auditor_command_of };
 
     ghost usage = { auditor_usage_line };
 

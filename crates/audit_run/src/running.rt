@@ -4,7 +4,7 @@ ghost use Rattle.std.specs.String.{string_bytes};
 ghost use Rattle.log_source.specs.Sinks.{SinkStays};
 ghost use Rattle.command_words.specs.Words.{MayBeAsked};
 ghost use Rattle.command_run.specs.Runs.{AnswersCommand, AnswersTooLong};
-ghost use Rattle.audit_run.specs.Requests.{command_of};
+ghost use Rattle.audit_run.specs.Requests.{auditor_command_of};
 ghost use Rattle.audit_run.specs.TopCall.{AuditorAnswers};
 ghost use Rattle.log_verdict.specs.Steps.{reading, KeepsShelfLogs, FaultsNeverFall};
 ghost use Rattle.command_words.specs.Words.{request_of};
@@ -33,7 +33,8 @@ fn run_request<F: Shelf, K: Sink>(
     ensures logs { KeepsShelfLogs F.Shelf shelf.old shelf.new }
     ensures later { FaultsNeverFall (reading F.Shelf shelf.old shelf.new) }
     ensures stays { SinkStays (K.state out.old) (K.state out.new) }
-    ensures answers { AnswersCommand (reading F.Shelf shelf.old shelf.new) (command_of request.now)
+    ensures answers { AnswersCommand (reading F.Shelf shelf.old shelf.new)
+        (auditor_command_of request.now)
         (K.state out.old) (K.state out.new) result }
     ensures too_long { AnswersTooLong (reading F.Shelf shelf.old shelf.new) result }
 {

@@ -2,7 +2,7 @@
 ghost use Rattle.std.specs.Prelude.{◌≡◌, IfOk};
 ghost use Rattle.log_verdict.specs.BothLogs.{HaveOneLimit, StaysWithin};
 ghost use Rattle.command_run.specs.Deciding.{IsAnswerOfKind};
-ghost use Rattle.audit_run.specs.Deciding.{request_to_judge_session, DecidesAnswer};
+ghost use Rattle.audit_run.specs.Deciding.{request_to_judge_session, DecidesAuditorAnswer};
 ghost use Rattle.audit_run.specs.JudgedAnswers.{IsSessionAnswerOn};
 ghost use Rattle.log_verdict.specs.Steps.{reading_by, KeepsShelfLogs, FaultsNeverFall};
 ghost use Rattle.record_verdict.specs.BeforeRule.{IsJudgeable};
@@ -70,7 +70,7 @@ pub(crate) fn answer_session<F: Shelf>(
     requires limit { HaveOneLimit orders.now trades.now }
     ensures logs { KeepsShelfLogs F.Shelf shelf.old shelf.new }
     ensures later { FaultsNeverFall (reading_by orders.now F.Shelf shelf.old shelf.new) }
-    ensures decides { DecidesAnswer (reading_by orders.now F.Shelf shelf.old shelf.new)
+    ensures decides { DecidesAuditorAnswer (reading_by orders.now F.Shelf shelf.old shelf.new)
         (request_to_judge_session symbol.now phases.now table orders.now trades.now) result }
     ensures within { StaysWithin (reading_by orders.now F.Shelf shelf.old shelf.new) result }
 {

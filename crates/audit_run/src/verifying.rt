@@ -7,7 +7,7 @@ ghost use Rattle.log_source.specs.Sources.{longest_log};
 ghost use Rattle.log_verdict.specs.BothLogs.{HaveOneLimit, StaysWithin, StaysWithinAt};
 ghost use Rattle.audit_run.specs.Certificates.{VerifiesDeals};
 ghost use Rattle.command_run.specs.Deciding.{IsAnswerOfKind};
-ghost use Rattle.audit_run.specs.Deciding.{request_to_verify, DecidesAnswer};
+ghost use Rattle.audit_run.specs.Deciding.{request_to_verify, DecidesAuditorAnswer};
 ghost use Rattle.audit_run.specs.JudgedAnswers.{IsVerifyAnswerOn};
 ghost use Rattle.command_run.specs.Deciding.{DecidesBytes};
 ghost use Rattle.command_run.specs.VerdictAnswers.{IsAnswerWith};
@@ -143,7 +143,7 @@ pub(crate) fn answer_verify<F: Shelf>(
     requires small { orders.now.limit ≤ longest_log }
     ensures logs { KeepsShelfLogs F.Shelf shelf.old shelf.new }
     ensures later { FaultsNeverFall (reading_by orders.now F.Shelf shelf.old shelf.new) }
-    ensures decides { DecidesAnswer (reading_by orders.now F.Shelf shelf.old shelf.new)
+    ensures decides { DecidesAuditorAnswer (reading_by orders.now F.Shelf shelf.old shelf.new)
         (request_to_verify symbol.now orders.now trades.now certificate.now) result }
     ensures within { StaysWithin (reading_by orders.now F.Shelf shelf.old shelf.new) result }
 {

@@ -1,5 +1,10 @@
 //! The audit of a rule that asks for the greatest volume: a fair matching, and whether its
 //! volume is the greatest.
+//!
+//! What makes the comparison of volumes right is a law: the Expected trades conform and have just
+//! the bound's volume. A due follows from rank alone; at most two such sums are taken. `uniform`
+//! and `maximum` share `audit_call` and no trait, since they differ in the law, the extreme and the
+//! pairs.
 ghost use Rattle.std.specs.Prelude.{◌≡◌, ◌<◌, ◌-◌, ◌^◌, IfOk, IfSome, length};
 ghost use Rattle.audit_base.specs.Orders.{IsOrderList};
 ghost use Rattle.audit_base.specs.Deals.{IsDealList};

@@ -1,4 +1,7 @@
 //! The run of the commands, and the close of the database after it.
+//!
+//! The database's log is removed while the files are still locked, and only under the name that was
+//! opened. A close that fails removes nothing.
 ghost use Rattle.std.specs.Prelude.{map};
 ghost use Rattle.std.specs.String.{string_bytes};
 ghost use Rattle.case_files.specs.ClosedRuns.{RunsThenCloses};

@@ -1,4 +1,6 @@
 //! The opener of the program: databases, each in a file under its path.
+//!
+//! 512 pages (2 MB) in place of the crate's 2,000, whose room is taken at the open.
 ghost use Rattle.std.specs.Prelude.{◌≡◌, false, IsTrue, IfOk};
 ghost use Rattle.case_files.specs.FileOpeners.{file_opener_state, fresh_opener, RefusesPath};
 ghost use Rattle.case_run.specs.Openers.{OpensCasebook};

@@ -1,4 +1,8 @@
 //! A keeper: what holds cases under their labels.
+//!
+//! A keeper's meaning is one record: its cases, where known, and its faults. So "the cases stay"
+//! and "the case is after the others" are one equation each. That no two cases have one label is a
+//! law of the trait, which each keeper proves of itself.
 ghost use Rattle.std.specs.Prelude.{◌≡◌};
 ghost use Rattle.case_keeper.specs.Keepers.{KeeperState, KnownLabelsDiffer, LacksLabel, FindsLabel, AddsCase, ListsCases};
 

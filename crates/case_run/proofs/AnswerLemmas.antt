@@ -14,7 +14,7 @@ use Rattle.case_run.specs.Play.{list_turn, show_turn, verdict_turn}
 use Rattle.std.specs.Prelude.{IfSome}
 use Rattle.case_run.specs.Causes.{IsHaltCause, StartsNoLog, ReadsGoodLogs, ReadsLogsFor}
 use Rattle.case_run.specs.Statuses.{ends_run}
-use Rattle.case_run.specs.Turns.{AnswersFromCasebook, AnswersCommand, AsksKeeperFor, FilesVerdict, HasVerdictStatus, IsKeeperCause, IsLogHalt, ReadsFilingVerdict, ReadsForVerdict, EndsWithinOrHalts}
+use Rattle.case_run.specs.Turns.{AnswersFromCasebook, AnswersCaseCommand, AsksKeeperFor, FilesVerdict, HasVerdictStatus, IsKeeperCause, IsLogHalt, ReadsFilingVerdict, ReadsForVerdict, EndsWithinOrHalts}
 use Rattle.case_run.specs.declared.answers.Answer.{Answer}
 use Rattle.case_run.specs.declared.commands.Command.{Command}
 use Rattle.case_run.specs.declared.commands.Command.TheVariants as command
@@ -43,14 +43,14 @@ module _ (r : Reading) (keeper_old keeper_new : KeeperState) where
   keeper_cause the_command halt.KeeperFault read is = (read refl, is)
   keeper_cause the_command halt.Memory read is = tt
 
-  pub answers_list : StartsNoLog r → (filter : Filter) (result : Result Answer Halt) → AnswersFromCasebook (λ cases. list_turn cases filter) keeper_old keeper_new result → AnswersCommand r keeper_old keeper_new (command.List filter) result
+  pub answers_list : StartsNoLog r → (filter : Filter) (result : Result Answer Halt) → AnswersFromCasebook (λ cases. list_turn cases filter) keeper_old keeper_new result → AnswersCaseCommand r keeper_old keeper_new (command.List filter) result
   answers_list alone filter (Ok answer) is = record {
     read = reads_going r (command.List filter) answer.status is.goes_on alone;
     known = λ cases tells has. record { turn = list_turn cases filter; is = refl; has = is.known cases has };
   }
   answers_list alone filter (Err why) is = record { cause = keeper_cause (command.List filter) why (λ e. alone) is.cause; stays = is.stays }
 
-  pub answers_show : StartsNoLog r → (label : List ℕ) (result : Result Answer Halt) → AnswersFromCasebook (λ cases. show_turn cases label) keeper_old keeper_new result → AnswersCommand r keeper_old keeper_new (command.Show label) result
+  pub answers_show : StartsNoLog r → (label : List ℕ) (result : Result Answer Halt) → AnswersFromCasebook (λ cases. show_turn cases label) keeper_old keeper_new result → AnswersCaseCommand r keeper_old keeper_new (command.Show label) result
   answers_show alone label (Ok answer) is = record {
     read = reads_going r (command.Show label) answer.status is.goes_on alone;
     known = λ cases tells has. record { turn = show_turn cases label; is = refl; has = is.known cases has };
@@ -69,7 +69,7 @@ module _ (r : Reading) (keeper_old keeper_new : KeeperState) where
   asked_good wanted (verdict.Malformed log place) why read asks e = absurd (cc)
 
   -- a verdict that was filed
-  pub answers_file : (wanted : Filing) (v : Verdict) (result : Result Answer Halt) → ReadsFilingVerdict r wanted v → FilesVerdict keeper_old keeper_new wanted v result → AnswersCommand r keeper_old keeper_new (command.File wanted) result
+  pub answers_file : (wanted : Filing) (v : Verdict) (result : Result Answer Halt) → ReadsFilingVerdict r wanted v → FilesVerdict keeper_old keeper_new wanted v result → AnswersCaseCommand r keeper_old keeper_new (command.File wanted) result
   answers_file wanted v (Ok answer) judges is = record {
     read = verdict_read wanted v answer.status is.status_is judges.read;
     known = λ cases tells has. record { turn = verdict_turn cases wanted v; is = (v, judges.on tells, refl); has = is.known cases has };
@@ -78,7 +78,7 @@ module _ (r : Reading) (keeper_old keeper_new : KeeperState) where
       record { cause = keeper_cause (command.File wanted) why (asked_good wanted v why judges.read is.1) is.0.cause; stays = is.0.stays }
 
 -- there was no verdict to file
-pub halts_file : (r : Reading) (keeper : KeeperState) (wanted : Filing) (why : Halt) → IsLogHalt r wanted why → AnswersCommand r keeper keeper (command.File wanted) (Err why)
+pub halts_file : (r : Reading) (keeper : KeeperState) (wanted : Filing) (why : Halt) → IsLogHalt r wanted why → AnswersCaseCommand r keeper keeper (command.File wanted) (Err why)
 halts_file r keeper wanted (halt.ReadFault log) is = record { cause = is; stays = refl }
 halts_file r keeper wanted (halt.TooLong log) is = record { cause = is; stays = refl }
 halts_file r keeper wanted halt.Memory is = record { cause = tt; stays = refl }

@@ -157,9 +157,9 @@ pub record IsHaltOf (r : Reading) (keeper_old keeper_new : KeeperState) (the_com
   pub stays : keeper_new.cases ≡ keeper_old.cases
 
 -- the command was answered, or halted
-abbrev pub AnswersCommand : Reading → KeeperState → KeeperState → Command → Result Answer Halt
+abbrev pub AnswersCaseCommand : Reading → KeeperState → KeeperState → Command → Result Answer Halt
     → Type 0
-AnswersCommand r keeper_old keeper_new the_command result =
+AnswersCaseCommand r keeper_old keeper_new the_command result =
     MatchResult result (IsAnswerToCommand r keeper_old keeper_new the_command)
     (IsHaltOf r keeper_old keeper_new the_command)
 

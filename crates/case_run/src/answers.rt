@@ -7,7 +7,7 @@ ghost use Rattle.log_verdict.specs.Steps.{reading, KeepsShelfLogs, FaultsNeverFa
 ghost use Rattle.case_run.specs.Lines.{case_line, known_line};
 ghost use Rattle.case_run.specs.Play as spec;
 ghost use Rattle.case_run.specs.Runs.{EndsWithinOrTooLong, known_logs, run_state};
-ghost use Rattle.case_run.specs.Turns.{AnswersCommand, AnswersFromCasebook, EndsWithinOrHalts};
+ghost use Rattle.case_run.specs.Turns.{AnswersCaseCommand, AnswersFromCasebook, EndsWithinOrHalts};
 ghost use Rattle.case_run.specs.Turns.{FilesVerdict, KeepsAll, TakesTurn};
 
 use super::commands::{Command, Filing};
@@ -175,7 +175,7 @@ fn file<F: Shelf, B: Keeper>(
     ensures logs { KeepsShelfLogs F.Shelf shelf.old shelf.new }
     ensures later { FaultsNeverFall (reading F.Shelf shelf.old shelf.new) }
     ensures book { (B.state book.old).faults ≤ (B.state book.new).faults }
-    ensures answers { AnswersCommand (reading F.Shelf shelf.old shelf.new)
+    ensures answers { AnswersCaseCommand (reading F.Shelf shelf.old shelf.new)
         (B.state book.old) (B.state book.new) (Command.File filing.now) result }
     ensures within { EndsWithinOrHalts (reading F.Shelf shelf.old shelf.new) result }
 {
@@ -223,7 +223,7 @@ fn answer_to<F: Shelf, B: Keeper>(
     ensures logs { KeepsShelfLogs F.Shelf shelf.old shelf.new }
     ensures later { FaultsNeverFall (reading F.Shelf shelf.old shelf.new) }
     ensures book { (B.state book.old).faults ≤ (B.state book.new).faults }
-    ensures answers { AnswersCommand (reading F.Shelf shelf.old shelf.new)
+    ensures answers { AnswersCaseCommand (reading F.Shelf shelf.old shelf.new)
         (B.state book.old) (B.state book.new) command.now result }
     ensures within { EndsWithinOrHalts (reading F.Shelf shelf.old shelf.new) result }
 {

@@ -1,4 +1,7 @@
 //! What opens casebooks.
+//!
+//! What is under a path before it is opened is known to no keeper, so an opener is a trait of its
+//! own, with one record as its meaning.
 ghost use Rattle.case_run.specs.Openers.{OpensCasebook, OpenerState};
 
 use case_keeper::keeper::{KeepFault, Keeper};

@@ -1,4 +1,9 @@
 //! A keeper that has its cases in a database.
+//!
+//! The keeper asks for whole answers and believes no row: `read_case` gives a case exactly where
+//! the row is that of one, and label and filter are tested again. What statements did is said in
+//! the words of `sqlite`: which text ran with which values, that it was committed, which rows it
+//! showed.
 ghost use Rattle.std.specs.Prelude.{◌≡◌, None, false, [], IfOk, IfSome, OnOk, OnErr, All, IsTrue};
 ghost use Rattle.case_keeper.specs.Cases.{passes_filter};
 ghost use Rattle.case_keeper.specs.Keepers.{CountsKeeperFaults};

@@ -1,4 +1,7 @@
 //! What the chain of an order has traded.
+//!
+//! What a chain traded is kept, not summed anew. Order lists that no history gives are still
+//! judged, by going along the chain.
 ghost use Rattle.std.specs.Prelude.{◌≡◌, ◌<◌, ◌≤◌, ◌*◌, ◌^◌, ℕ, List, true, length, sum_by};
 ghost use Rattle.audit_base.specs.declared.orders.Deal.{Deal as ADeal};
 ghost use Rattle.audit_base.specs.Orders.{IsOrderList};

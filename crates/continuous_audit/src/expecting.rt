@@ -1,4 +1,7 @@
 //! The Expected trades of continuous trading.
+//!
+//! One pass with the audit's two order books. Each deal takes an order out of a book or uses up the
+//! incoming one, so there are never more deals than orders.
 ghost use Rattle.std.specs.Prelude.{◌≡◌, ◌<◌, ◌≤◌, suc, IfOk, OnOk, length};
 ghost use Rattle.audit_base.specs.Orders.{IsOrderList};
 ghost use Rattle.audit_base.specs.Deals.{DealsInRange, IsDealList};

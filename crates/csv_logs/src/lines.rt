@@ -1,4 +1,7 @@
 //! The bytes of one line: what is taken off it, whether it may be read, and its fields.
+//!
+//! Whether a line is unquoted is tested over all of it, though its first byte may settle it. A way
+//! out of the loop costs a third more.
 ghost use Rattle.std.specs.Prelude.{◌≡◌, ◌==◌, ◌%◌, ◌+◌, ◌<◌, ◌^◌, ◌++◌, ◌∷◌, false, not, IfOk, IsTrue, MatchOption, drop, count_by};
 ghost use Rattle.std.specs.List.{list_all, list_any};
 ghost use Rattle.csv.specs.Reading.{default_config};

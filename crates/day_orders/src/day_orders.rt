@@ -1,4 +1,7 @@
 //! The histories of the symbols of a day, record by record.
+//!
+//! Of the whole day `wants` is true without a look-up, so a record costs one. Of a share K/N with N
+//! above 1 a kept record costs two, and one outside it one.
 ghost use Rattle.std.specs.Prelude.{◌≡◌, ◌+◌, ◌<◌, ◌∷◌, [], OnOk, slice_get, Some};
 ghost use Rattle.log_source.specs.Collectors.{HasPlace};
 ghost use Rattle.log_source.specs.Handing.{HandsOnMore};

@@ -1,4 +1,7 @@
 //! What is known of the symbols of a day, trade by trade.
+//!
+//! Which order records there may be is a predicate (`may_have`), since a caller knows what the
+//! order log gave and not the list.
 ghost use Rattle.std.specs.Prelude.{⊤, ◌≡◌, ◌+◌, ◌<◌, ◌∷◌, [], List, IfOk, OnOk, slice_get, Some, length};
 ghost use Rattle.audit_base.specs.declared.records.OrderRecord.{OrderRecord as AnEntry};
 ghost use Rattle.log_source.specs.Collectors.{HasPlace};

@@ -1,4 +1,7 @@
 //! A name as it is in a message.
+//!
+//! All bytes of a name are looked up in a table of 256, with no way out of the loop, since names
+//! are short.
 ghost use Rattle.std.specs.Prelude.{◌≡◌};
 ghost use Rattle.audit_base.specs.Names.{name_form};
 

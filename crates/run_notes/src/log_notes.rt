@@ -1,4 +1,7 @@
 //! What is said of a log that could not be read, is too long or is malformed.
+//!
+//! Why a file could not be read is asked of the system once more, so what has changed meanwhile is
+//! shown as it is now. A pipe is not asked again.
 use crate::noted_shelf::NotedShelf;
 use audit_base::sizes::LONGEST_LOG;
 use audit_base::terms::Which;

@@ -1,4 +1,7 @@
 //! Whether the deals of a day conform, phase by phase.
+//!
+//! The audit keeps two numbers for each order: what it traded and what is left. From these it makes
+//! the phase list, in which a carried order has no target and a gone one is cancelled.
 ghost use Rattle.std.specs.Prelude.{◌≡◌, ◌<◌, ◌≤◌, ◌-◌, ◌^◌, IfOk, None, length};
 ghost use Rattle.audit_base.specs.Orders.{IsOrderList};
 ghost use Rattle.audit_base.specs.Deals.{IsDealList};

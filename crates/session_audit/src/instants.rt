@@ -1,4 +1,7 @@
 //! Orders that a call does not admit: immediate and market orders.
+//!
+//! Finding 16 looks at an order by itself. An order with a target rests in every order list
+//! (`IsOrderList.resting`), so nothing need be known of phases that fail.
 ghost use Rattle.std.specs.Prelude.{◌≡◌, ◌<◌, ◌&&◌, length};
 ghost use Rattle.session_audit.specs.Instants as spec;
 ghost use Rattle.session_audit.specs.Phases.{ArePhases, is_call, phase_kind, is_in_phase};

@@ -1,4 +1,7 @@
 //! What a phase leaves of each order, from its order list and what each order traded in it.
+//!
+//! What a continuous phase leaves is read off the totals of its audit. Where the phase conforms,
+//! what a chain traded before an order's place is what it trades in the whole phase.
 ghost use Rattle.std.specs.Prelude.{◌≡◌, ◌<◌, ◌≤◌, ◌+◌, ◌^◌, ◌&&◌, ℕ, List, IfOk, length, nat_lt};
 ghost use Rattle.audit_base.specs.declared.orders.Deal.{Deal as ADeal};
 ghost use Rattle.audit_base.specs.Continuous.{uncancelled_before};

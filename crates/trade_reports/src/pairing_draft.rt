@@ -1,4 +1,7 @@
 //! Pairing the trade reports of a log as they come.
+//!
+//! The finding is changed where it lies, since it is hundreds of bytes long. An empty map of
+//! earlier reports is not asked, which would hash the id.
 ghost use Rattle.std.specs.Prelude.{◌≡◌, ◌∷◌, ◌+◌, [], List, IfOk, OnOk, None, false, length};
 ghost use Rattle.log_source.specs.Collectors.{HasPlace};
 ghost use Rattle.log_source.specs.Handing.{HandsOnMore};

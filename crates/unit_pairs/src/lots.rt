@@ -1,4 +1,7 @@
 //! Lots: the volume filled along the orders of a side in rank order (price-time priority).
+//!
+//! `maximum` takes the bids' lots from last to first. That reversal and the price are all in which
+//! the two rules differ.
 ghost use Rattle.std.specs.Prelude.{◌≡◌, ◌<◌, ◌≤◌, ◌^◌, IfOk, All, length, min, sum_by};
 ghost use Rattle.audit_base.specs.Orders.{IsOrderList, quantity_at};
 ghost use Rattle.rank_order.specs.Sides.{AreRanked};

@@ -5,7 +5,7 @@ use Rattle.command_words.specs.declared.requests.WordsFault.TheVariants.{Usage, 
 use Rattle.command_words.specs.declared.requests.Request.{Request}
 use Rattle.log_verdict.specs.Steps.{reading}
 use Rattle.command_words.specs.Words.{request_of}
-use Rattle.audit_run.specs.Runs.{AnswersHeldLogs}
+use Rattle.audit_run.specs.Runs.{AuditorAnswersHeldLogs}
 use Rattle.audit_run.proofs.HeadlineLemmas.{answers_verdict}
 use Rattle.audit_run.proofs.running.run_seeded.Goals as goal
 
@@ -13,7 +13,7 @@ pub returns-in-Ok : goal.returns-in-Ok
 returns-in-Ok g c =
     let asked = request_of (map string_bytes c.args.words.now) in
     let r = reading g.F.Shelf c.args.shelf.now c.run_request.new.shelf in
-    let commands : AnswersHeldLogs asked r (g.K.Sink.state c.args.out.now) (g.K.Sink.state c.run_request.new.out) c.run_request.result =
+    let commands : AuditorAnswersHeldLogs asked r (g.K.Sink.state c.args.out.now) (g.K.Sink.state c.run_request.new.out) c.run_request.result =
     rw c.in-Ok.ensures.request (λ logs ready. c.held_logs_are_answered.ensures.written c.in-Ok.request r logs _ _ c.run_request.result ready c.run_request.ensures.answers) in
     record {
       headline = answers_verdict c.one_verdict.ensures asked r _ _ c.run_request.result commands;
@@ -29,7 +29,7 @@ pub returns-in-Err-Usage : goal.returns-in-Err-Usage
 returns-in-Err-Usage g c =
     let asked = request_of (map string_bytes c.args.words.now) in
     let r = reading g.F.Shelf c.args.shelf.now c.args.shelf.now in
-    let commands : AnswersHeldLogs asked r (g.K.Sink.state c.args.out.now) (g.K.Sink.state c.write_usage.new.out) c.write_usage.result = search rules in
+    let commands : AuditorAnswersHeldLogs asked r (g.K.Sink.state c.args.out.now) (g.K.Sink.state c.write_usage.new.out) c.write_usage.result = search rules in
     record {
       headline = answers_verdict c.one_verdict.ensures asked r _ _ c.write_usage.result commands;
       commands = commands;
