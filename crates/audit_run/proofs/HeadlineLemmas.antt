@@ -13,7 +13,7 @@ use Rattle.log_verdict.specs.Laws.{OneVerdict}
 use Rattle.log_verdict.specs.LogVerdicts.{Log, log_in, records_of_order_log, IsLogVerdict}
 use Rattle.log_verdict.specs.Steps.{Reading}
 use Rattle.record_verdict.specs.declared.questions.Question.{Question}
-use Rattle.command_run.specs.Runs.{HoldsLog, HoldsNeededLogs, HoldsNext, NothingFails, RunsOutOfMemory, WritesWhole}
+use Rattle.command_run.specs.Runs.{HoldsLog, HoldsNeededLogs, HoldsNext, IsKnown, NothingFails, RunsOutOfMemory, WritesWhole}
 use Rattle.audit_run.specs.Runs.{AuditorAnswersHeldLogs}
 use Rattle.command_run.specs.Commands.{Command}
 use Rattle.audit_run.specs.Requests.{auditor_command_of}
@@ -22,7 +22,7 @@ use Rattle.command_run.specs.VerdictAnswers.{IsAuditAnswer}
 
 module _ (one : OneVerdict) (r : Reading) (q : Question) (orders trades : Log) (orders_name trades_name : List ℕ)
     (holds_orders : HoldsLog r Orders orders_name orders.bytes) (holds_trades : HoldsLog r Trades trades_name trades.bytes)
-    (old new : SinkState) (nothing_fails : NothingFails r old new) (status : Status) where
+    (old new : SinkState) (known : IsKnown r old) (nothing_fails : NothingFails r old new) (status : Status) where
   abbrev request : Request
   request = audit_of_logs q orders trades orders_name trades_name
 
@@ -54,16 +54,16 @@ module _ (one : OneVerdict) (r : Reading) (q : Question) (orders trades : Log) (
       let second : HoldsNext r command (orders.bytes ∷ []) trades.bytes = record { log = Trades; name = trades_name; next = rw e refl; holds = holds_trades } in
       let held : HoldsNeededLogs r command [] (orders.bytes ∷ trades.bytes ∷ []) = (first, (second, refl)) in
       ⊎_elim (λ written. inl (of_answer trades (λ v is. is) written)) (λ memory. inr memory)
-      (answers (orders.bytes ∷ trades.bytes ∷ []) (record { held = held; nothing_fails = nothing_fails }))
+      (answers (orders.bytes ∷ trades.bytes ∷ []) (record { known = known; held = held; nothing_fails = nothing_fails }))
   by_orders (Err bad) e answers =
       let first : HoldsNext r command [] orders.bytes = record { log = Orders; name = orders_name; next = refl; holds = holds_orders } in
       let held : HoldsNeededLogs r command [] (orders.bytes ∷ []) = (first, rw e refl) in
       ⊎_elim (λ written. inl (of_answer (log_in trades.form []) (whatever_trades bad e (log_in trades.form [])) written)) (λ memory. inr memory)
-      (answers (orders.bytes ∷ []) (record { held = held; nothing_fails = nothing_fails }))
+      (answers (orders.bytes ∷ []) (record { known = known; held = held; nothing_fails = nothing_fails }))
 
 -- the headline follows from what is said of every command
 pub answers_verdict : OneVerdict → (asked : Option Request) (r : Reading) (old new : SinkState) (status : Status) → AuditorAnswersHeldLogs asked r old new status → AnswersVerdict asked r old new status
-answers_verdict one asked r old new status answers q orders trades to_audit nothing_fails =
-    by_orders one r q orders trades to_audit.orders_name to_audit.trades_name to_audit.holds_orders to_audit.holds_trades old new nothing_fails status
+answers_verdict one asked r old new status answers q orders trades to_audit known nothing_fails =
+    by_orders one r q orders trades to_audit.orders_name to_audit.trades_name to_audit.holds_orders to_audit.holds_trades old new known nothing_fails status
     (records_of_order_log orders.form orders.bytes) refl
     (subst (λ (x : Option Request). AuditorAnswersHeldLogs x r old new status) to_audit.words answers)

@@ -27,12 +27,12 @@ pub record IsCertificateOf (q : Question) (orders trades : Log) (text : List ℕ
   pub entries : List OrderRecord
   pub paired : Result (List TradeRecord) Finding
   pub logs : HaveRecords orders trades entries paired
-  pub certificate : let history = order_list q.symbol entries in
-      IsCertificateUnder q.rule q.symbol history
-      (deals_of_symbol history q.symbol (paired_trades paired)) text
-  pub agrees : let history = order_list q.symbol entries in
-      AgreesUnder q.rule q.symbol history
-      (deals_of_symbol history q.symbol (paired_trades paired)) text
+  pub certificate : let orders = order_list q.symbol entries in
+      IsCertificateUnder q.rule q.symbol orders
+      (deals_of_symbol orders q.symbol (paired_trades paired)) text
+  pub agrees : let orders = order_list q.symbol entries in
+      AgreesUnder q.rule q.symbol orders
+      (deals_of_symbol orders q.symbol (paired_trades paired)) text
 
 -- the answer by a verdict, but with a text of this kind in the place of the accepted text
 abbrev pub IsVerdictAnswerWith : (List ℕ → Type 0) → Verdict → Status → List ℕ → Type 0

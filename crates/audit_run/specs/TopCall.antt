@@ -15,7 +15,7 @@ use Rattle.record_verdict.specs.declared.questions.Question.{Question}
 use Rattle.log_verdict.specs.Existence.{IsOnlyVerdict}
 use Rattle.log_verdict.specs.LogVerdicts.{Log}
 use Rattle.log_verdict.specs.Steps.{reading, KeepsShelfLogs, FaultsNeverFall, Reading}
-use Rattle.command_run.specs.Runs.{AnswersTooLong, HoldsLog, NothingFails, RunsOutOfMemory}
+use Rattle.command_run.specs.Runs.{AnswersTooLong, HoldsLog, IsKnown, NothingFails, RunsOutOfMemory}
 use Rattle.audit_run.specs.Runs.{AuditorAnswersHeldLogs, AuditorAnswersWithCause}
 
 -- the request that asks this question of two logs under these names
@@ -23,7 +23,7 @@ abbrev pub audit_of_logs : Question → Log → Log → List ℕ → List ℕ �
 audit_of_logs q orders trades orders_name trades_name =
     Audit q.rule q.symbol orders_name trades_name orders.form trades.form q.table
 
--- The call is to audit these two logs: the words ask for that, and the source holds both.
+-- The call is to audit these two logs: the words ask for that, and the shelf holds both.
 pub record IsToAudit (asked : Option Request) (r : Reading) (q : Question)
     (orders trades : Log) : Type 0 where
   pub orders_name : List ℕ
@@ -40,13 +40,13 @@ pub record WritesVerdict (q : Question) (orders trades : Log) (old new : SinkSta
   pub status_is : status ≡ verdict_status verdict
   pub wrote : Appends old.wrote new.wrote (verdict_text verdict)
 
--- the headline: whatever two logs the source holds, in whatever forms, and however their bytes
--- are cut, where nothing fails, exactly the text of their one verdict is written and its status
--- is answered, or memory ran out and nothing was written
+-- the headline: whatever two logs the shelf holds, in whatever forms, and however their bytes are
+-- cut, where it is known what shelf and sink hold and nothing fails, exactly the text of their one
+-- verdict is written and its status is answered, or memory ran out and nothing was written
 abbrev pub AnswersVerdict : Option Request → Reading → SinkState → SinkState → Status → Type 0
 AnswersVerdict asked r old new status =
     (q : Question) (orders trades : Log) → IsToAudit asked r q orders trades
-    → NothingFails r old new
+    → IsKnown r old → NothingFails r old new
     → WritesVerdict q orders trades old new status ⊎ RunsOutOfMemory old new status
 
 -- What the auditor does in a call of these words, `asked` being what well-formed words ask for:

@@ -46,7 +46,7 @@ module _ (r : Reading) (command : Command) (logs : List (List ℕ)) (tells : r.t
   pub no_length : (text : List ℕ) → StopsTooLong r command text → ⊥
   no_length text stops =
       let next = last_held stops.last stops.reads in
-      held_within r.limit (r.log_of stops.last.log stops.last.name) next.0 next.1.there next.1.short (stops.cause.longer tells)
+      held_within r.limit (r.log_of stops.last.log stops.last.name) next.0 next.1.there next.1.fits_limit (stops.cause.longer tells)
 
   pub of_held : (the_status : Status) (text : List ℕ) → IsAnswerToReadLogs r command the_status text → command.is_answer logs the_status text
   of_held the_status text is = held_answer r command logs the_status text tells held is
@@ -66,7 +66,7 @@ module _ (r : Reading) (command : Command) (logs : List (List ℕ)) (tells : r.t
 -- where all is there, the answer is written
 pub answer_written : (r : Reading) (command : Command) (logs : List (List ℕ)) (old new : SinkState) (result : Status) → AllIsThere r command logs old new → AnswersCommand r command old new result → WritesAnswer command logs old new result
 answer_written r command logs old new result ready is =
-    answer_unless r command logs ready.nothing_fails.shelf_tells ready.held ready.nothing_fails.no_fault_of_shelf old new result (λ e part. ready.nothing_fails.no_fault_of_sink part.cause.rose) is
+    answer_unless r command logs ready.known.shelf_tells ready.held ready.nothing_fails.no_fault_of_shelf old new result (λ e part. ready.nothing_fails.no_fault_of_sink part.cause.rose) is
 
 module _ (r : Reading) (command : Command) (logs : List (List ℕ)) (tells : r.tells ≡ true) (quiet : (log : Which) → ¬ RoseOrIsFull (r.before log).faults (r.after log).faults) where
   -- every text that may be written has room

@@ -14,7 +14,7 @@ use Rattle.log_verdict.specs.Steps.{Reading, LogStep, IsRead, IsReadFault, IsToo
 -- The shelf holds a log with these bytes under this name, and it is no longer than a log may be.
 pub record HoldsLog (r : Reading) (log : Which) (name bytes : List ℕ) : Type 0 where
   pub there : r.log_of log name ≡ Some bytes
-  pub short : length bytes ≤ r.limit
+  pub fits_limit : length bytes ≤ r.limit
 
 -- The next log that the command needs is this one, which the shelf holds with these bytes.
 pub record HoldsNext (r : Reading) (command : Command) (earlier : List (List ℕ))
@@ -31,18 +31,23 @@ HoldsNeededLogs r command earlier [] = command.next earlier ≡ None
 HoldsNeededLogs r command earlier (bytes ∷ logs) =
     HoldsNext r command earlier bytes × HoldsNeededLogs r command (earlier ++ bytes ∷ []) logs
 
--- It is known what the shelf holds and what the sink was given, no fault of either was counted
--- in the call, and no count of faults is at its greatest value.
-pub record NothingFails (r : Reading) (old new : SinkState) : Type 0 where
+-- It is known what the shelf holds, and what the sink was given before the call. Of shelves and
+-- sinks in memory it is; of files and standard output the runtime says nothing.
+pub record IsKnown (r : Reading) (old : SinkState) : Type 0 where
   pub shelf_tells : r.tells ≡ true
   pub sink_tells : IsSome old.wrote
+
+-- No fault of the shelf or of the sink was counted in the call, and no count of faults is at its
+-- greatest value.
+pub record NothingFails (r : Reading) (old new : SinkState) : Type 0 where
   pub no_fault_of_shelf : (log : Which) → ¬ RoseOrIsFull (r.before log).faults (r.after log).faults
   pub no_fault_of_sink : ¬ RoseOrIsFull old.faults new.faults
 
--- All is there for an answer on these logs: the shelf holds them, they are all that the command
--- needs, and nothing fails.
+-- All is there for an answer on these logs: it is known what shelf and sink hold, the shelf holds
+-- the logs, they are all that the command needs, and nothing fails.
 pub record AllIsThere (r : Reading) (command : Command) (logs : List (List ℕ))
     (old new : SinkState) : Type 0 where
+  pub known : IsKnown r old
   pub held : HoldsNeededLogs r command [] logs
   pub nothing_fails : NothingFails r old new
 

@@ -24,8 +24,8 @@ use Rattle.record_verdict.specs.Laws.{RecordVerdictIsOne}
 pub shares-have-verdicts : RecordVerdictIsOne → SharesHaveTheVerdicts
 shares-have-verdicts one rule table entries trades share other symbol a b in_one in_other =
     one (question rule symbol table) entries (Ok trades) a b
-    (in_one.are.each in_one.place symbol a in_one.symbol_there in_one.verdict_there)
-    (in_other.are.each in_other.place symbol b in_other.symbol_there in_other.verdict_there)
+    (in_one.are.each in_one.index symbol a in_one.symbol_there in_one.verdict_there)
+    (in_other.are.each in_other.index symbol b in_other.symbol_there in_other.verdict_there)
 
 module _ (one : OneDay) (q : DayQuestion) (judged_by : List ℕ) where
   -- two judged days of the same records

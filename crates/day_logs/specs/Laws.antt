@@ -20,10 +20,10 @@ pub record HasVerdictInShare (rule : Rule) (table : Bool) (entries : List OrderR
   pub verdicts : List Verdict
   pub are : AreVerdicts rule table entries trades
       (symbols_in share (symbols_of_day entries trades)) verdicts
-  pub place : ℕ
-  pub symbol_there : slice_get (symbols_in share (symbols_of_day entries trades)) place
+  pub index : ℕ
+  pub symbol_there : slice_get (symbols_in share (symbols_of_day entries trades)) index
       ≡ Some symbol
-  pub verdict_there : slice_get verdicts place ≡ Some the_verdict
+  pub verdict_there : slice_get verdicts index ≡ Some the_verdict
 
 -- shares are the day: a symbol has the same verdict in every share that has it
 abbrev pub SharesHaveTheVerdicts : Type 0

@@ -11,7 +11,7 @@ use Rattle.audit_base.specs.Words.{rule_word}
 use Rattle.audit_report.specs.declared.statuses.Status.{Status}
 use Rattle.audit_report.specs.declared.verdicts.Verdict.TheVariants as verdict
 use Rattle.command_run.specs.Commands.{Command, log_read_at, next_of_both_logs}
-use Rattle.command_run.specs.Runs.{AllIsThere, AnswersHeldLogs, HoldsLog, HoldsNeededLogs, HoldsNext, NothingFails, RunsOutOfMemory, WritesAnswer, WritesWhole}
+use Rattle.command_run.specs.Runs.{AllIsThere, AnswersHeldLogs, HoldsLog, HoldsNeededLogs, HoldsNext, IsKnown, NothingFails, RunsOutOfMemory, WritesAnswer, WritesWhole}
 use Rattle.day_logs.specs.declared.answers.DayAnswer.{DayAnswer}
 use Rattle.day_logs.specs.declared.answers.DayAnswer.TheVariants as answer
 use Rattle.day_logs.specs.DayAnswers.{AreVerdictsOfDay, DayMeaning, IsAnswerToRecords}
@@ -77,7 +77,7 @@ module _ (meaning : DayMeaning) (judged_by : List ℕ) (old new : SinkState) (st
   whatever_trades orders trades second bad e written = let same : WroteVerdict (verdict.Malformed Orders bad) old new status = rw e at written in rw e same
 
   module _ (r : Reading) (command : Command) (orders trades : Log) (orders_name trades_name : List ℕ)
-      (holds_orders : HoldsLog r Orders orders_name orders.bytes) (holds_trades : HoldsLog r Trades trades_name trades.bytes) (nothing_fails : NothingFails r old new)
+      (holds_orders : HoldsLog r Orders orders_name orders.bytes) (holds_trades : HoldsLog r Trades trades_name trades.bytes) (known : IsKnown r old) (nothing_fails : NothingFails r old new)
       (nexts : (bytes : List (List ℕ)) → command.next bytes ≡ next_of_both_logs orders_name trades_name orders.form bytes)
       (reports : (bytes : List (List ℕ)) (text : List ℕ) → command.is_answer bytes status text
       → IsDayAnswer meaning judged_by (log_in orders.form (log_read_at bytes 0)) (log_in trades.form (log_read_at bytes 1)) status text)
@@ -92,12 +92,12 @@ module _ (meaning : DayMeaning) (judged_by : List ℕ) (old new : SinkState) (st
         let second : HoldsNext r command (orders.bytes ∷ []) trades.bytes = record { log = Trades; name = trades_name; next = nexts (orders.bytes ∷ []) ∙ (rw e refl); holds = holds_trades } in
         let held : HoldsNeededLogs r command [] (orders.bytes ∷ trades.bytes ∷ []) = (first, (second, nexts (orders.bytes ∷ trades.bytes ∷ []))) in
         ⊎_elim (λ written. inl (written_day orders trades (as_day (orders.bytes ∷ trades.bytes ∷ []) written))) (λ memory. inr memory)
-        (answers (orders.bytes ∷ trades.bytes ∷ []) (record { held = held; nothing_fails = nothing_fails }))
+        (answers (orders.bytes ∷ trades.bytes ∷ []) (record { known = known; held = held; nothing_fails = nothing_fails }))
     by_orders (Err bad) e =
         let first : HoldsNext r command [] orders.bytes = record { log = Orders; name = orders_name; next = nexts []; holds = holds_orders } in
         let held : HoldsNeededLogs r command [] (orders.bytes ∷ []) = (first, nexts (orders.bytes ∷ []) ∙ (rw e refl)) in
         ⊎_elim (λ written. inl (whatever_trades orders trades (log_in trades.form []) bad e (written_day orders (log_in trades.form []) (as_day (orders.bytes ∷ []) written)))) (λ memory. inr memory)
-        (answers (orders.bytes ∷ []) (record { held = held; nothing_fails = nothing_fails }))
+        (answers (orders.bytes ∷ []) (record { known = known; held = held; nothing_fails = nothing_fails }))
 
     pub wrote_day : WroteDay of_records orders trades old new status ⊎ RunsOutOfMemory old new status
     wrote_day = by_orders (records_of_order_log orders.form orders.bytes) refl
@@ -107,7 +107,7 @@ pub answers_day : (asked : Option DeskRequest) (r : Reading) (old new : SinkStat
 answers_day asked r old new status answers = record { of_rule = of_rule; of_phases = of_phases }
   where
     of_rule : AnswersDayOfRule asked r old new status
-    of_rule rule table share orders trades to_judge nothing_fails =
+    of_rule rule table share orders trades to_judge known nothing_fails =
         let q = day_question rule table share in
         wrote_day (AreVerdictsOfDay q) (rule_word rule) old new status (WroteVerdicts q old new status)
         (λ entries judged day_trades is written. record {
@@ -116,11 +116,11 @@ answers_day asked r old new status answers = record { of_rule = of_rule; of_phas
           wrote = same_symbols judged (counts_of is.verdicts) (day_lines_of (symbols_in q.share (symbols_of_day entries day_trades)) is.verdicts) (rule_word rule) old new status is.counts_are is.lines_are written;
         })
         r (desk_command_of (Audit rule (logs_named orders trades to_judge.orders_name to_judge.trades_name) table share)) orders trades to_judge.orders_name to_judge.trades_name
-        to_judge.holds_orders to_judge.holds_trades nothing_fails (λ bytes. refl) (λ bytes text is. is)
+        to_judge.holds_orders to_judge.holds_trades known nothing_fails (λ bytes. refl) (λ bytes text is. is)
         (subst (λ (x : Option DeskRequest). AnswersHeldLogs desk_command_of x r old new status) to_judge.words answers)
 
     of_phases : AnswersDayOfPhases asked r old new status
-    of_phases phases table share orders trades to_judge nothing_fails =
+    of_phases phases table share orders trades to_judge known nothing_fails =
         wrote_day (AreSessionsOfDay phases table (share_or_whole share)) (phases_text phases) old new status (WroteSessions phases table (share_or_whole share) old new status)
         (λ entries judged day_trades is written. record {
           sessions = is.sessions;
@@ -129,5 +129,5 @@ answers_day asked r old new status answers = record { of_rule = of_rule; of_phas
               is.counts_are is.lines_are written;
         })
         r (desk_command_of (Session phases (logs_named orders trades to_judge.orders_name to_judge.trades_name) table share)) orders trades to_judge.orders_name to_judge.trades_name
-        to_judge.holds_orders to_judge.holds_trades nothing_fails (λ bytes. refl) (λ bytes text is. is)
+        to_judge.holds_orders to_judge.holds_trades known nothing_fails (λ bytes. refl) (λ bytes text is. is)
         (subst (λ (x : Option DeskRequest). AnswersHeldLogs desk_command_of x r old new status) to_judge.words answers)

@@ -13,7 +13,7 @@ use Rattle.audit_report.specs.declared.verdicts.Verdict.{Verdict}
 use Rattle.audit_report.specs.declared.verdicts.Verdict.TheVariants as verdict
 use Rattle.audit_report.specs.Statuses.{verdict_status}
 use Rattle.audit_report.specs.Texts.{verdict_text}
-use Rattle.command_run.specs.Runs.{AnswersHeldLogs, AnswersTooLong, AnswersWithCause, HoldsLog, NothingFails, RunsOutOfMemory}
+use Rattle.command_run.specs.Runs.{AnswersHeldLogs, AnswersTooLong, AnswersWithCause, HoldsLog, IsKnown, NothingFails, RunsOutOfMemory}
 use Rattle.day_logs.specs.declared.answers.DayQuestion.{DayQuestion}
 use Rattle.day_report.specs.declared.day_line.DayCounts.{DayCounts}
 use Rattle.day_report.specs.DayTexts.{day_line}
@@ -105,15 +105,15 @@ WroteDay of_records orders trades old new status =
     (λ finding. WroteVerdict (verdict.Rejected finding) old new status))
     (λ log bad. WroteVerdict (verdict.Malformed log bad) old new status) orders trades
 
--- whatever two logs the shelf holds, in whatever forms, and however their bytes are cut, where
--- nothing fails and the words ask for the day of a rule, exactly its text is written and its
--- status is answered, or memory ran out and nothing was written
+-- whatever two logs the shelf holds, in whatever forms, and however their bytes are cut, where it
+-- is known what shelf and sink hold, nothing fails and the words ask for the day of a rule, exactly
+-- its text is written and its status is answered, or memory ran out and nothing was written
 abbrev pub AnswersDayOfRule : Option DeskRequest → Reading → SinkState → SinkState → Status
     → Type 0
 AnswersDayOfRule asked r old new status = (rule : Rule) (table : Bool) (share : Option DayShare)
     (orders trades : Log)
     → IsToJudgeDay (λ logs. Audit rule logs table share) asked r orders trades
-    → NothingFails r old new
+    → IsKnown r old → NothingFails r old new
     → WroteDay (WroteVerdicts (day_question rule table share) old new status) orders trades
     old new status
     ⊎ RunsOutOfMemory old new status
@@ -124,7 +124,7 @@ abbrev pub AnswersDayOfPhases : Option DeskRequest → Reading → SinkState →
 AnswersDayOfPhases asked r old new status = (phases : List Phase) (table : Bool)
     (share : Option DayShare) (orders trades : Log)
     → IsToJudgeDay (λ logs. Session phases logs table share) asked r orders trades
-    → NothingFails r old new
+    → IsKnown r old → NothingFails r old new
     → WroteDay (WroteSessions phases table (share_or_whole share) old new status) orders trades
     old new status
     ⊎ RunsOutOfMemory old new status

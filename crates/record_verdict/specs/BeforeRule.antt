@@ -20,8 +20,8 @@ pub record IsResolvedWithoutFinding (scope : Scope) (entries : List OrderRecord)
     (paired : Result (List TradeRecord) Finding) (resolved : ResolvedTrades) : Type 0 where
   pub none : finding_before_rule_in_scope scope entries paired ≡ None
   pub orders : resolved.history ≡ order_list scope.symbol entries
-  pub deals : let history = order_list scope.symbol entries in
-      resolved.deals.items ≡ deals_of_symbol history scope.symbol (paired_trades paired)
+  pub deals : let orders = order_list scope.symbol entries in
+      resolved.deals.items ≡ deals_of_symbol orders scope.symbol (paired_trades paired)
   pub count : resolved.count ≡ length (paired_trades paired)
 
 -- what records give before the rule is looked at: the first finding there, or sound trades
