@@ -20,6 +20,7 @@ use Rattle.log_verdict.specs.Collecting.{step_of}
 use Rattle.log_verdict.specs.LogVerdicts.{log_in, records_of_order_log, trades_of_trade_log, OfLogs}
 use Rattle.log_verdict.specs.Steps.{Reading, LogStep, IsRead, StepsLead, FaultsNeverFall, with_slot}
 use Rattle.command_run.proofs.OneLogLemmas.{text-of}
+use Rattle.command_run.proofs.StepLemmas.{two-lead}
 
 module _ (r : Reading) (later : FaultsNeverFall r) (orders trades : Source) (command : Command) (starts : StartsBoth command orders trades) where
   abbrev first_step : LogStep
@@ -38,11 +39,7 @@ module _ (r : Reading) (later : FaultsNeverFall r) (orders trades : Source) (com
 
   -- both logs were started
   both_lead : StepsLead r.before (first_step ∷ second_step ∷ []) r.after
-  both_lead = (record { at = refl; later = later Orders }, (record { at = refl; later = later Trades }, ends))
-    where
-      ends : (log : Which) → r.after log ≡ with_slot (with_slot r.before Orders (r.after Orders)) Trades (r.after Trades) log
-      ends Orders = refl
-      ends Trades = refl
+  both_lead = two-lead r orders.name.now trades.name.now later
 
   one_next : (bytes : List ℕ) (bad : BadPlace) → records_of_order_log orders.form bytes ≡ Err bad → command.next (bytes ∷ []) ≡ None
   one_next bytes bad e = starts.second bytes ∙ (rw e refl)

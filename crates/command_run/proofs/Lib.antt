@@ -5,5 +5,6 @@ mod ReadyLemmas
 mod MemoryLemmas
 mod OneLogLemmas
 mod BothLogsLemmas
+mod InTurnLemmas
 mod AgreeLemmas
 mod NoMemoryLemmas

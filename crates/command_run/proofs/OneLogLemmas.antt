@@ -40,7 +40,7 @@ module _ (r : Reading) (command : Command) where
         ends Trades same Orders = same
         ends Trades same Trades = refl
 
-    one-reaches : command.next [] ≡ Some (log, name) → ReadsThenStarts r command one_step
+    pub one-reaches : command.next [] ≡ Some (log, name) → ReadsThenStarts r command one_step
     one-reaches first = record {
       steps = [];
       logs = [];

@@ -5,7 +5,8 @@ use Rattle.audit_base.specs.declared.terms.Which.TheVariants.{Orders, Trades}
 use Rattle.log_source.specs.Sources.{Slot, RoseOrIsFull}
 use Rattle.command_run.specs.Commands.{Command}
 use Rattle.command_run.specs.Runs.{HoldsLog, HoldsNeededLogs, HoldsNext, ReadsNext, ReadsOneByOne}
-use Rattle.log_verdict.specs.Steps.{Reading, LogStep, StepsLead, with_slot}
+use Rattle.log_verdict.specs.Collecting.{step_of}
+use Rattle.log_verdict.specs.Steps.{Reading, LogStep, StepsLead, FaultsNeverFall, with_slot}
 
 -- what is in a slot after it was changed
 with_slot-same : (slots : Which → Slot) (log : Which) (slot : Slot) → with_slot slots log slot log ≡ slot
@@ -19,6 +20,14 @@ with_slot-later slots Orders slot Orders later = later
 with_slot-later slots Orders slot Trades later = omega arith
 with_slot-later slots Trades slot Orders later = omega arith
 with_slot-later slots Trades slot Trades later = later
+
+-- the order log was started, and then the trade log
+pub two-lead : (r : Reading) (orders trades : List ℕ) → FaultsNeverFall r → StepsLead r.before (step_of r Orders orders ∷ step_of r Trades trades ∷ []) r.after
+two-lead r orders trades later = (record { at = refl; later = later Orders }, (record { at = refl; later = later Trades }, ends))
+  where
+    ends : (log : Which) → r.after log ≡ with_slot (with_slot r.before Orders (r.after Orders)) Trades (r.after Trades) log
+    ends Orders = refl
+    ends Trades = refl
 
 rose-earlier : (a b c : ℕ) → a ≤ b → RoseOrIsFull b c → RoseOrIsFull a c
 rose-earlier a b c le (inl lt) = inl (omega arith)

@@ -28,6 +28,13 @@ next_of_both_logs orders trades orders_form (first ∷ []) =
     only_if (is_ok (records_of_order_log orders_form first)) (Trades, trades)
 next_of_both_logs orders trades orders_form (first ∷ second ∷ rest) = None
 
+-- the next log of a command that reads both whatever is in them: it starts the order log, and
+-- after it the trade log
+abbrev pub next_of_any_two_logs : List ℕ → List ℕ → List (List ℕ) → Option (Which × List ℕ)
+next_of_any_two_logs orders trades [] = Some (Orders, orders)
+next_of_any_two_logs orders trades (first ∷ []) = Some (Trades, trades)
+next_of_any_two_logs orders trades (first ∷ second ∷ rest) = None
+
 -- the bytes of the log that was read after this many others; none where it was not read
 abbrev pub log_read_at : List (List ℕ) → ℕ → List ℕ
 log_read_at logs others = slice_index_or logs others []
@@ -42,3 +49,9 @@ pub record StartsBoth (command : Command) (orders trades : Source) : Type 0 wher
 pub record StartsOne (command : Command) (log : Which) (name : List ℕ) : Type 0 where
   pub first : command.next [] ≡ Some (log, name)
   pub last : (bytes : List ℕ) → command.next (bytes ∷ []) ≡ None
+
+-- The command starts the order log, and after it the trade log, whatever is in them, and no other.
+pub record StartsAnyTwo (command : Command) (orders trades : List ℕ) : Type 0 where
+  pub first : command.next [] ≡ Some (Orders, orders)
+  pub second : (bytes : List ℕ) → command.next (bytes ∷ []) ≡ Some (Trades, trades)
+  pub last : (first second : List ℕ) → command.next (first ∷ second ∷ []) ≡ None

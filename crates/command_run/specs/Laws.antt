@@ -1,25 +1,27 @@
 -- The laws of calls that run a command, as statements about one command.
-use Rattle.std.specs.Prelude.{◌≡◌, ◌⊎◌, ℕ, true, List, [], ◌∷◌, None, Ok, Result, MatchResult}
+use Rattle.std.specs.Prelude.{◌≡◌, ◌≤◌, ◌⊎◌, ℕ, true, List, [], ◌∷◌, None, Ok, Result, MatchResult}
 use Rattle.std.specs.Io.KnownBytes.{Appends}
 use Rattle.audit_base.specs.declared.faults.BadPlace.{BadPlace}
 use Rattle.audit_base.specs.declared.findings.Finding.{Finding}
 use Rattle.audit_base.specs.declared.records.OrderRecord.{OrderRecord}
 use Rattle.audit_base.specs.declared.records.TradeRecord.{TradeRecord}
 use Rattle.audit_base.specs.declared.terms.Which.{Which}
-use Rattle.audit_base.specs.declared.terms.Which.TheVariants.{Trades}
+use Rattle.audit_base.specs.declared.terms.Which.TheVariants.{Orders, Trades}
 use Rattle.audit_report.specs.declared.statuses.Status.{Status}
 use Rattle.audit_report.specs.declared.statuses.Status.TheVariants.{Memory}
 use Rattle.log_source.specs.Sinks.{SinkState}
 use Rattle.log_verdict.specs.declared.sources.Source.{Source}
 use Rattle.log_verdict.specs.declared.stops.Stop.{Stop}
 use Rattle.log_verdict.specs.declared.stops.Stop.TheVariants as stop
-use Rattle.log_verdict.specs.BothLogs.{IsStopOfTwoLogs, ReadsLogs}
-use Rattle.log_verdict.specs.Collecting.{TouchesOnly}
+use Rattle.log_verdict.specs.BothLogs.{IsLogStop, IsStopOfTwoLogs, ReadsLogs}
+use Rattle.log_verdict.specs.BothLogs.{StaysWithin, StaysWithinAt}
+use Rattle.log_verdict.specs.Collecting.{step_of, TouchesOnly}
 use Rattle.log_verdict.specs.LogVerdicts.{OfLogs, log_in, records_of_order_log, trades_of_trade_log}
-use Rattle.log_verdict.specs.Steps.{FaultsNeverFall, Reading}
+use Rattle.log_verdict.specs.Steps.{FaultsNeverFall, IsRead, Reading}
 use Rattle.command_run.specs.declared.answers.Answer.{Answer}
-use Rattle.command_run.specs.Commands.{Command, StartsBoth, StartsOne, log_read_at}
+use Rattle.command_run.specs.Commands.{Command, StartsAnyTwo, StartsBoth, StartsOne, log_read_at}
 use Rattle.command_run.specs.Deciding.{DecidesAnswer, DecidesBytes, IsStatusOfLogs, ReadingStops}
+use Rattle.command_run.specs.InTurn.{ReadsInTurn, reading_of_both}
 use Rattle.command_run.specs.Runs.{AllIsThere, AnswersCommand, HoldsNeededLogs}
 use Rattle.command_run.specs.Runs.{IsAnswerToReadLogs, ReadingDecides, WritesAnswer}
 
@@ -128,3 +130,33 @@ abbrev pub BothLogsStop : Command → Type 0
 BothLogsStop command = (r : Reading) (orders trades : Source) (the_stop : Stop)
     → FaultsNeverFall r → StartsBoth command orders trades
     → IsStopOfTwoLogs r orders trades the_stop → ReadingStops r command the_stop
+
+-- What is read of both logs, whatever is in them.
+
+-- why the order log was not read decides the command, which starts it first
+abbrev pub FirstLogStops : Command → Type 0
+FirstLogStops command = (r : Reading) (orders trades : List ℕ) (the_stop : Stop)
+    → TouchesOnly r Orders → StartsAnyTwo command orders trades → IsLogStop r Orders orders the_stop
+    → ReadingStops r command the_stop
+
+-- what is decided of the trade log, after an order log with these bytes that was read to its end,
+-- is decided of the whole call
+abbrev pub SecondLogDecides : Command → Type 0
+SecondLogDecides command = (first second : Reading) (orders trades bytes : List ℕ)
+    (result : Result Answer Stop) → ReadsInTurn first second → StartsAnyTwo command orders trades
+    → ((logs : List (List ℕ)) (status : Status) (text : List ℕ)
+    → command.is_answer logs status text → IsStatusOfLogs status)
+    → IsRead first (step_of first Orders orders) bytes
+    → DecidesBytes second Trades trades (λ later. command.is_answer (bytes ∷ later ∷ [])) result
+    → DecidesAnswer (reading_of_both first second) command result
+
+-- two readings in turn let no count of faults fall
+abbrev pub InTurnFaultsNeverFall : Type 0
+InTurnFaultsNeverFall = (first second : Reading) → ReadsInTurn first second
+    → FaultsNeverFall (reading_of_both first second)
+
+-- after an order log that was not too long, what is answered says so where the trade log is
+abbrev pub InTurnStaysWithin : Type 0
+InTurnStaysWithin = (first second : Reading) (result : Result Answer Stop)
+    → ReadsInTurn first second → (first.after Orders).taken ≤ first.limit
+    → StaysWithinAt second Trades result → StaysWithin (reading_of_both first second) result

@@ -3,6 +3,7 @@
 pub mod Commands
 pub mod Runs
 pub mod VerdictAnswers
+pub mod InTurn
 pub mod Laws
 pub mod InMemory
 pub mod Corollaries

@@ -2,7 +2,9 @@
 //! nothing, for the requests of one program.
 ghost use Rattle.std.specs.Prelude.{◌≢◌, Option};
 ghost use Rattle.command_run.specs.Laws.{BothLogsDecide, BothLogsStop, CallsAgree};
+ghost use Rattle.command_run.specs.Laws.{FirstLogStops, SecondLogDecides};
 ghost use Rattle.command_run.specs.Laws.{HeldLogsAreAnswered, HeldLogsAreRead};
+ghost use Rattle.command_run.specs.Laws.{InTurnFaultsNeverFall, InTurnStaysWithin};
 ghost use Rattle.command_run.specs.Laws.{NoLogDecides, OneLogDecides, ReadLogsDecide};
 ghost use Rattle.command_run.specs.Runs.{AnswersHeldLogs, AnswersWithCause};
 ghost use Rattle.log_source.specs.Sinks.{SinkState};
@@ -50,6 +52,20 @@ pub fn both_logs_decide<P: Program, G: GivenByLogs>()
     ensures answers { (request : P.Request)
         → BothLogsDecide G.of_records G.of_bad (P.command request) }
     ensures stops { (request : P.Request) → BothLogsStop (P.command request) }
+{}
+
+/// What is read of one log after the other, whatever is in them, decides a command that answers
+/// by the bytes of both; and so does why one of them was not read.
+pub fn any_two_logs_decide<P: Program>()
+    ensures first { (request : P.Request) → FirstLogStops (P.command request) }
+    ensures second { (request : P.Request) → SecondLogDecides (P.command request) }
+{}
+
+/// Two readings in turn, of the order log and of the trade log, let no count of faults fall, and
+/// where neither log is too long, neither slot ends past the limit.
+pub fn readings_in_turn_are_one()
+    ensures later { InTurnFaultsNeverFall }
+    ensures within { InTurnStaysWithin }
 {}
 
 /// Where memory ran out for well-formed words, and nothing was done to the sink, that is an answer
