@@ -112,8 +112,11 @@ module _ (first second : Reading) (on : ReadsInTurn first second) where
           steps = step_of whole Orders orders ∷ step_of whole Trades trades ∷ [];
           logs = bytes ∷ is.bytes ∷ [];
           lead = two-lead whole orders trades later-in_turn;
-          read = (bytes, record { next = starts.first; read = stays-read orders bytes read },
-              (is.bytes, record { next = starts.second bytes; read = read-after trades is.bytes is.read }, refl));
+          read = (
+            bytes,
+            record { next = starts.first; read = stays-read orders bytes read },
+            (is.bytes, record { next = starts.second bytes; read = read-after trades is.bytes is.read }, refl),
+          );
           all = starts.last bytes is.bytes;
           answer = is.holds;
         })
