@@ -4,3 +4,4 @@ pub mod TopCall
 pub mod Requests
 -- What private functions pass on to one another.
 pub mod Deciding
+pub mod Digesting

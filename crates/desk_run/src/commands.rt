@@ -11,6 +11,7 @@ ghost use Rattle.log_verdict.specs.BothLogs.{StaysWithin};
 ghost use Rattle.log_verdict.specs.Steps.{FaultsNeverFall, KeepsShelfLogs};
 
 use super::days::{answer_audit, answer_session};
+use super::digests::answer_digest;
 use super::program::Desk;
 use super::sources::{day_source, share_asked};
 use audit_base::faults::NoMemory;
@@ -94,6 +95,7 @@ pub(crate) fn answer_request<F: Shelf>(
                 &trades,
             )
         }
+        DeskRequest::Digest { orders, trades } => answer_digest(alloc, shelf, orders, trades),
         DeskRequest::Help(about) => Ok(answer_help(alloc, *about)?),
         DeskRequest::Version => Ok(answer_version(alloc)?),
     }

@@ -16,8 +16,8 @@ N,B,s1,20240102-09:00:00,Z,S,100,9,
 const ONE_TRADE: [&str; 2] = [TRADES, "T1,20240102-09:00:01,Z,A,b1,B,s1,100,9.5\n"];
 
 /// A day of a rule, one of phases, and one whose order log is out of its grammar, so that the
-/// trade log is not started.
-const SHELF_ROWS: [ShelfRow; 3] = [
+/// trade log is not started; and digests, for which it is.
+const SHELF_ROWS: [ShelfRow; 4] = [
     ShelfRow {
         row: Row {
             name: "a day of a rule",
@@ -54,10 +54,24 @@ const SHELF_ROWS: [ShelfRow; 3] = [
         order_calls: 3,
         calls: 3,
     },
+    ShelfRow {
+        row: Row {
+            name: "digests of two logs",
+            words: "digest orders trades",
+            orders: &["abc"],
+            trades: &ONE_TRADE,
+            status: 0,
+            report: "sha256,orders,ba7816bf8f01cfea414140de5dae2223b00361a396177a9cb410ff61f20015ad
+sha256,trades,f544c800b95c6335be7ac53ba9a24b09ae0ef08fd8c1b0fc6fb07d6071dfbdfa
+",
+        },
+        order_calls: 3,
+        calls: 9,
+    },
 ];
 
 /// A text of each status but that of a log that is too long.
-const SINK_ROWS: [Row; 5] = [
+const SINK_ROWS: [Row; 6] = [
     Row {
         name: "a day of no symbol",
         words: "audit matching orders trades",
@@ -85,7 +99,18 @@ Z,order,3,buy,A,b1,10,10,11
         orders: &[ORDERS],
         trades: &[TRADES],
         status: 2,
-        report: "usage: audit RULE ORDERS TRADES | session PHASES ORDERS TRADES | help [COMMAND]\n",
+        report: "usage: audit RULE ORDERS TRADES | session PHASES ORDERS TRADES \
+                 | digest ORDERS TRADES | help [COMMAND]\n",
+    },
+    Row {
+        name: "digests of two logs",
+        words: "digest orders trades",
+        orders: &["abc"],
+        trades: &[],
+        status: 0,
+        report: "sha256,orders,ba7816bf8f01cfea414140de5dae2223b00361a396177a9cb410ff61f20015ad
+sha256,trades,e3b0c44298fc1c149afbf4c8996fb92427ae41e4649b934ca495991b7852b855
+",
     },
     Row {
         name: "a log that is not there",

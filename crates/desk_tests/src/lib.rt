@@ -1,6 +1,6 @@
 //! Tests of `desk`: what a row of a whole call is and what checks it (`checks`), and the rows:
-//! days of several symbols and their shares, words that are not well-formed, help and version,
-//! every cut in every piece, and every call that fails.
+//! days of several symbols and their shares, digests, words that are not well-formed, help and
+//! version, every cut in every piece, and every call that fails.
 #![tactic(auto)]
 
 #[cfg(test)]
@@ -9,6 +9,8 @@ mod checks;
 mod cut_rows;
 #[cfg(test)]
 mod day_rows;
+#[cfg(test)]
+mod digest_rows;
 #[cfg(test)]
 mod fault_rows;
 #[cfg(test)]

@@ -6,7 +6,7 @@ use log_source::endless_shelf::EndlessShelf;
 use std::alloc::Global;
 use std::test::Fail;
 
-const WORDS: [&str; 24] = [
+const WORDS: [&str; 28] = [
     "",
     "audit",
     "audit matching",
@@ -25,6 +25,10 @@ const WORDS: [&str; 24] = [
     "session orders trades",
     "session uniform@2 orders trades",
     "session uniform@1 orders trades --table --table",
+    "digest",
+    "digest orders",
+    "digest orders trades --table",
+    "digest -orders trades",
     "help help help",
     "help usage",
     "--help audit",
@@ -56,6 +60,7 @@ fn check_helps(alloc: Global) -> Result<(), RowFault> {
     check_help(alloc, "--help", None)?;
     check_help(alloc, "help audit", Some(DeskCommand::Audit))?;
     check_help(alloc, "help session", Some(DeskCommand::Session))?;
+    check_help(alloc, "help digest", Some(DeskCommand::Digest))?;
     check_help(alloc, "help help", Some(DeskCommand::Help))
 }
 

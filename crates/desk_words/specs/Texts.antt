@@ -7,7 +7,8 @@ use Rattle.desk_words.specs.declared.commands.DeskCommand.TheVariants as command
 -- how the command line is used
 abbrev pub desk_usage_line : List ℕ
 desk_usage_line = codes "usage: audit RULE ORDERS TRADES"
-    ++ codes " | session PHASES ORDERS TRADES" ++ codes " | help [COMMAND]" ++ 10 ∷ []
+    ++ codes " | session PHASES ORDERS TRADES" ++ codes " | digest ORDERS TRADES"
+    ++ codes " | help [COMMAND]" ++ 10 ∷ []
 
 -- these lines, each with its end
 abbrev pub text_of_lines : List (List ℕ) → List ℕ
@@ -51,13 +52,25 @@ session_help = text_of_lines (
     ∷ codes "    Example: desk session uniform@1,continuous@5001 orders.csv trades.csv"
     ∷ [])
 
+-- what `digest` does, with its words and an example
+unfoldable pub digest_help : List ℕ
+digest_help = text_of_lines (
+    codes "digest ORDERS TRADES"
+    ∷ codes "    Writes the SHA-256 digest of each log, whatever is in it, in the 64 hexadecimal"
+    ∷ codes "    digits that sha256sum writes of the same file. By these a copy of a log can be"
+    ∷ codes "    compared with the log that was judged. No record is read, and no log is kept."
+    ∷ codes "    ORDERS              the path of the order log"
+    ∷ codes "    TRADES              the path of the trade log"
+    ∷ codes "    Example: desk digest orders.csv trades.csv"
+    ∷ [])
+
 -- what `help` does, with its word and an example
 unfoldable pub help_help : List ℕ
 help_help = text_of_lines (
     codes "help [COMMAND]"
-    ∷ codes "    Writes what each command does, or what COMMAND does: audit, session or help."
-    ∷ codes "    --help alone does as help, and --version writes the version of the program and"
-    ∷ codes "    the kit that it is proved with."
+    ∷ codes "    Writes what each command does, or what COMMAND does: audit, session, digest or"
+    ∷ codes "    help. --help alone does as help, and --version writes the version of the program"
+    ∷ codes "    and the kit that it is proved with."
     ∷ codes "    Example: desk help audit"
     ∷ [])
 
@@ -65,11 +78,12 @@ help_help = text_of_lines (
 abbrev pub command_help : DeskCommand → List ℕ
 command_help command.Audit = audit_help
 command_help command.Session = session_help
+command_help command.Digest = digest_help
 command_help command.Help = help_help
 
 -- what each command does, with an empty line between two
 abbrev pub whole_help : List ℕ
-whole_help = audit_help ++ 10 ∷ session_help ++ 10 ∷ help_help
+whole_help = audit_help ++ 10 ∷ session_help ++ 10 ∷ digest_help ++ 10 ∷ help_help
 
 -- what is written for `help`, or for `help` and a command
 abbrev pub help_text : Option DeskCommand → List ℕ

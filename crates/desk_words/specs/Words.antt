@@ -15,13 +15,14 @@ use Rattle.desk_words.specs.declared.commands.DeskCommand.TheVariants as command
 use Rattle.desk_words.specs.declared.options.DeskOptions.{DeskOptions}
 use Rattle.desk_words.specs.declared.requests.DayLogs.{DayLogs}
 use Rattle.desk_words.specs.declared.requests.DeskRequest.{DeskRequest}
-use Rattle.desk_words.specs.declared.requests.DeskRequest.TheVariants.{Audit, Session, Help, Version}
+use Rattle.desk_words.specs.declared.requests.DeskRequest.TheVariants.{Audit, Session, Digest, Help, Version}
 use Rattle.desk_words.specs.Options.{desk_options_in}
 
 -- the command that a word names
 abbrev pub desk_command_named : List ℕ → Option DeskCommand
 desk_command_named word = first_answer (only_if (word_equals word (codes "audit")) command.Audit
     ∷ only_if (word_equals word (codes "session")) command.Session
+    ∷ only_if (word_equals word (codes "digest")) command.Digest
     ∷ only_if (word_equals word (codes "help")) command.Help ∷ [])
 
 -- ORDERS and TRADES, which follow the command and one other word, with the forms that options
@@ -62,6 +63,12 @@ desk_session_asked words =
     Some (Session phases (day_logs words said) said.common.table said.share)))
     else None
 
+-- `digest ORDERS TRADES`
+abbrev pub digest_asked : List (List ℕ) → Option DeskRequest
+digest_asked words =
+    if length words == 3 && names_logs words 1
+    then Some (Digest (nth_word words 1) (nth_word words 2)) else None
+
 -- `help`, or `help COMMAND`
 abbrev pub help_asked : List (List ℕ) → Option DeskRequest
 help_asked words =
@@ -74,6 +81,7 @@ help_asked words =
 abbrev pub desk_asked_by : DeskCommand → List (List ℕ) → Option DeskRequest
 desk_asked_by command.Audit words = desk_audit_asked words
 desk_asked_by command.Session words = desk_session_asked words
+desk_asked_by command.Digest words = digest_asked words
 desk_asked_by command.Help words = help_asked words
 
 -- what a word asks for that is no command and is the only word: `--help`, as `help`,
@@ -101,5 +109,6 @@ desk_request_of words = asked_by_first (desk_command_named (nth_word words 0)) w
 abbrev pub MayBeAskedOfDesk : DeskRequest → Type 0
 MayBeAskedOfDesk (Audit rule logs table share) = IsTrue (table_fits_rule table rule)
 MayBeAskedOfDesk (Session phases logs table share) = ArePhases phases
+MayBeAskedOfDesk (Digest orders trades) = Unit {0}
 MayBeAskedOfDesk (Help about) = Unit {0}
 MayBeAskedOfDesk Version = Unit {0}

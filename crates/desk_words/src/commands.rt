@@ -21,6 +21,7 @@ use std::alloc::Global;
 pub enum DeskCommand {
     Audit,
     Session,
+    Digest,
     Help,
 }
 
@@ -33,6 +34,9 @@ fn desk_command_named(word: &str) -> Option<DeskCommand>
     }
     if is_word(word, b"session") {
         return Some(DeskCommand::Session);
+    }
+    if is_word(word, b"digest") {
+        return Some(DeskCommand::Digest);
     }
     if is_word(word, b"help") {
         return Some(DeskCommand::Help);
@@ -126,6 +130,20 @@ fn desk_session_request(alloc: Global, words: &[String]) -> Result<Option<DeskRe
     }))
 }
 
+/// `digest ORDERS TRADES`.
+fn digest_request(alloc: Global, words: &[String]) -> Result<Option<DeskRequest>, NoMemory>
+    ensures request { IfOk result
+        (λ made. made ≡ spec.digest_asked (map string_bytes words.now)) }
+    ensures memory { IsErr result → IsSome (spec.digest_asked (map string_bytes words.now)) }
+    ensures asked { IfOk result (λ made. IfSome made spec.MayBeAskedOfDesk) }
+{
+    if words.len() != 3 || !names_logs(words, 1) {
+        return Ok(None);
+    }
+    let LogPaths { orders, trades } = log_paths(alloc, words, 1)?;
+    Ok(Some(DeskRequest::Digest { orders, trades }))
+}
+
 /// `help`, or `help COMMAND`. Takes no memory.
 fn help_request(words: &[String]) -> Option<DeskRequest>
     ensures request { result ≡ spec.help_asked (map string_bytes words.now) }
@@ -181,6 +199,7 @@ fn desk_request_by(
     match command {
         DeskCommand::Audit => desk_audit_request(alloc, words),
         DeskCommand::Session => desk_session_request(alloc, words),
+        DeskCommand::Digest => digest_request(alloc, words),
         DeskCommand::Help => Ok(help_request(words)),
     }
 }

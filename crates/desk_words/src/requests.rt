@@ -39,6 +39,11 @@ pub enum DeskRequest {
         table: bool,
         share: Option<Share>,
     },
+    /// To write the digest of each log.
+    Digest {
+        orders: PathText,
+        trades: PathText,
+    },
     /// To write what each command does, or one of them.
     Help(Option<DeskCommand>),
     /// To write which version of the program this is.
@@ -51,8 +56,9 @@ pub enum DeskRequest {
 ///   `--orders-form FORM`, `--trades-form FORM`, `--share K/N` and, where the rule has one,
 ///   `--table`;
 /// - `session PHASES ORDERS TRADES`, and after them the same options;
-/// - `help`, which `--help` asks for too, and `help COMMAND`, COMMAND being `audit`, `session`
-///   or `help`;
+/// - `digest ORDERS TRADES`;
+/// - `help`, which `--help` asks for too, and `help COMMAND`, COMMAND being `audit`, `session`,
+///   `digest` or `help`;
 /// - `--version`.
 ///
 /// RULE, FORM and PHASES are those of `read_words` of `command_words`. K/N is two decimal

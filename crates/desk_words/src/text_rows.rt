@@ -5,13 +5,14 @@ use std::test::Fail;
 
 #[test]
 fn lines_of_usage_and_version(rt: HostRuntime) {
-    let usage = "usage: audit RULE ORDERS TRADES | session PHASES ORDERS TRADES | help [COMMAND]\n";
+    let usage = "usage: audit RULE ORDERS TRADES | session PHASES ORDERS TRADES \
+                 | digest ORDERS TRADES | help [COMMAND]\n";
     assert_eq!(rt; desk_usage_text(), usage.as_bytes());
     assert!(rt; version_text().starts_with(b"desk (Mekdrox) "));
 }
 
 /// How the help of each command begins and ends.
-const HELPS: [(DeskCommand, &str, &str); 3] = [
+const HELPS: [(DeskCommand, &str, &str); 4] = [
     (
         DeskCommand::Audit,
         "audit RULE ORDERS TRADES\n",
@@ -21,6 +22,11 @@ const HELPS: [(DeskCommand, &str, &str); 3] = [
         DeskCommand::Session,
         "session PHASES ORDERS TRADES\n",
         "Example: desk session uniform@1,continuous@5001 orders.csv trades.csv\n",
+    ),
+    (
+        DeskCommand::Digest,
+        "digest ORDERS TRADES\n",
+        "Example: desk digest orders.csv trades.csv\n",
     ),
     (
         DeskCommand::Help,
@@ -47,6 +53,8 @@ fn whole_help_has_each_command_after_an_empty_line(rt: HostRuntime) -> Result<()
     append_help(Some(DeskCommand::Audit), &mut joined)?;
     joined.push(b'\n')?;
     append_help(Some(DeskCommand::Session), &mut joined)?;
+    joined.push(b'\n')?;
+    append_help(Some(DeskCommand::Digest), &mut joined)?;
     joined.push(b'\n')?;
     append_help(Some(DeskCommand::Help), &mut joined)?;
     assert_eq!(rt; whole.as_slice(), joined.as_slice());

@@ -10,7 +10,10 @@ use audit_base::faults::NoMemory;
 pub fn desk_usage_text() -> &'static [u8]
     ensures { result.now ≡ text.desk_usage_line }
 {
-    b"usage: audit RULE ORDERS TRADES | session PHASES ORDERS TRADES | help [COMMAND]\n"
+    b"usage: audit RULE ORDERS TRADES \
+      | session PHASES ORDERS TRADES \
+      | digest ORDERS TRADES \
+      | help [COMMAND]\n"
 }
 
 /// The version of the program, which is that of the file `VERSION`, and the line that
@@ -66,15 +69,30 @@ fn session_help() -> &'static [u8]
 "
 }
 
+/// What `digest` does.
+#[tactic(auto, unfolding(crate::specs::Texts::digest_help))]
+fn digest_help() -> &'static [u8]
+    ensures { result.now ≡ text.digest_help }
+{
+    b"digest ORDERS TRADES
+    Writes the SHA-256 digest of each log, whatever is in it, in the 64 hexadecimal
+    digits that sha256sum writes of the same file. By these a copy of a log can be
+    compared with the log that was judged. No record is read, and no log is kept.
+    ORDERS              the path of the order log
+    TRADES              the path of the trade log
+    Example: desk digest orders.csv trades.csv
+"
+}
+
 /// What `help` does.
 #[tactic(auto, unfolding(crate::specs::Texts::help_help))]
 fn help_help() -> &'static [u8]
     ensures { result.now ≡ text.help_help }
 {
     b"help [COMMAND]
-    Writes what each command does, or what COMMAND does: audit, session or help.
-    --help alone does as help, and --version writes the version of the program and
-    the kit that it is proved with.
+    Writes what each command does, or what COMMAND does: audit, session, digest or
+    help. --help alone does as help, and --version writes the version of the program
+    and the kit that it is proved with.
     Example: desk help audit
 "
 }
@@ -86,6 +104,7 @@ fn command_help(command: DeskCommand) -> &'static [u8]
     match command {
         DeskCommand::Audit => audit_help(),
         DeskCommand::Session => session_help(),
+        DeskCommand::Digest => digest_help(),
         DeskCommand::Help => help_help(),
     }
 }
@@ -107,6 +126,7 @@ fn append_whole_help(out: &mut Vec<u8>) -> Result<(), NoMemory>
 {
     out.extend_from_slice(audit_help())?;
     append_after_empty_line(session_help(), out)?;
+    append_after_empty_line(digest_help(), out)?;
     append_after_empty_line(help_help(), out)
 }
 

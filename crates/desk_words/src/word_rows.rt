@@ -220,12 +220,34 @@ fn check_rules(alloc: Global, rows: &[(&str, Rule, bool)]) -> Result<(), RowFaul
     Ok(())
 }
 
+/// Lines that ask for digests, and of which logs.
+const DIGESTS: [(&str, &str, &str); 3] = [
+    ("digest o t", "o", "t"),
+    ("digest help ./-t", "help", "./-t"),
+    ("digest o o", "o", "o"),
+];
+
+fn check_digests(alloc: Global, rows: &[(&str, &str, &str)]) -> Result<(), RowFault> {
+    for &(line, wanted_orders, wanted_trades) in rows {
+        let words = words_of(alloc, line)?;
+        let holds = match read_desk_words(alloc, &words) {
+            Ok(DeskRequest::Digest { orders, trades }) => {
+                orders.as_str() == wanted_orders && trades.as_str() == wanted_trades
+            }
+            _ => false,
+        };
+        check_row(alloc, line, holds)?;
+    }
+    Ok(())
+}
+
 /// Lines that ask for help, and of which command.
-const HELPS: [(&str, Option<DeskCommand>); 5] = [
+const HELPS: [(&str, Option<DeskCommand>); 6] = [
     ("help", None),
     ("--help", None),
     ("help audit", Some(DeskCommand::Audit)),
     ("help session", Some(DeskCommand::Session)),
+    ("help digest", Some(DeskCommand::Digest)),
     ("help help", Some(DeskCommand::Help)),
 ];
 
@@ -248,7 +270,7 @@ const OTHER_WORDS: [&str; 18] = [
     "Audit uniform o t",
     "offences uniform Z o t",
     "page uniform Z o t",
-    "digest o t",
+    "digests o t",
     "orders 7 4",
     "plain o",
     "contents o t",
@@ -341,6 +363,20 @@ const SESSION_WORDS: [&str; 14] = [
     "session uniform@1 o t --page",
 ];
 
+/// Lines of `digest` with too few or too many words, or with a word that is no path.
+const DIGEST_WORDS: [&str; 10] = [
+    "digest",
+    "digest o",
+    "digest o t more",
+    "digest o t --table",
+    "digest o t --orders-form fix",
+    "digest --table o t",
+    "digest -o t",
+    "digest o -t",
+    "digest  t",
+    "digest o ",
+];
+
 fn check_usage(alloc: Global, lines: &[&str]) -> Result<(), RowFault> {
     for line in lines {
         let words = words_of(alloc, line)?;
@@ -362,6 +398,12 @@ fn audits_of_a_day(rt: HostRuntime) -> Result<(), Fail> {
 #[test]
 fn days_of_phases(rt: HostRuntime) -> Result<(), Fail> {
     Ok(check_sessions(rt.alloc(), &SESSIONS)?)
+}
+
+#[test]
+fn digests_of_two_logs(rt: HostRuntime) -> Result<(), Fail> {
+    check_digests(rt.alloc(), &DIGESTS)?;
+    Ok(check_usage(rt.alloc(), &DIGEST_WORDS)?)
 }
 
 #[test]

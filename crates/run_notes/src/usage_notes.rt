@@ -20,6 +20,8 @@ const DAY_AUDIT: [Part; 3] = [Part::Rule, Part::Path, Part::Path];
 
 const DAY_SESSION: [Part; 3] = [Part::Phases, Part::Path, Part::Path];
 
+const DIGEST: [Part; 2] = [Part::Path, Part::Path];
+
 const FILE: [Part; 6] = [
     Part::Label,
     Part::Rule,
@@ -35,7 +37,7 @@ const SHOW: [Part; 1] = [Part::Label];
 
 const AUDITOR_COMMANDS: &str = "audit, expect, convert, generate, certify, verify, session";
 
-const DESK_COMMANDS: &str = "audit, session, help";
+const DESK_COMMANDS: &str = "audit, session, digest, help";
 
 const CASEBOOK_COMMANDS: &str = "file, list, show";
 
@@ -95,12 +97,14 @@ pub fn print_auditor_usage(rt: &HostRuntime, words: &[String]) {
     }
 }
 
-/// The parts of a command of `desk` that judges a day, after its word.
+/// The parts of a command of `desk` that reads logs, after its word.
 fn desk_parts(command: &str) -> Option<&'static [Part]> {
     if command == "audit" {
         Some(&DAY_AUDIT)
     } else if command == "session" {
         Some(&DAY_SESSION)
+    } else if command == "digest" {
+        Some(&DIGEST)
     } else {
         None
     }

@@ -13,3 +13,6 @@ returns-in-Session-clause-decides g c =
     let decides = rw (c.share_asked-share.ensures, c.as_slice.ensures, c.day_source-orders-in-Session.ensures.name, c.day_source-orders-in-Session.ensures.form, c.day_source-trades-in-Session.ensures.name, c.day_source-trades-in-Session.ensures.form) at c.answer_session.ensures.decides in
     rw c.in-Session.is (decides_within g.F.Shelf c.args.shelf.now c.answer_session.new.shelf c.day_source-orders-in-Session.result c.day_source-orders-in-Session.ensures.limit
     (Session c.in-Session.phases c.in-Session.logs c.in-Session.table c.in-Session.share) c.answer_session.result decides)
+
+pub returns-in-Digest-clause-decides : goal.returns-in-Digest-clause-decides
+returns-in-Digest-clause-decides g c = rw c.in-Digest.is c.answer_digest.ensures.decides

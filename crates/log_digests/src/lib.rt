@@ -1,0 +1,13 @@
+//! The SHA-256 digest of a log (FIPS 180-4): which bytes it was that a shelf gave.
+//!
+//! `digests::digest_log` reads a log of a shelf to its end and gives its digest, whatever bytes
+//! it has. It takes no memory for them: `feeds` has the feed that keeps the hash of what it is
+//! handed, and one that keeps it beside another feed, so that a log is digested in the same pass
+//! in which it is read. `lines` writes digests.
+#![tactic(auto)]
+
+#[cfg(test)]
+mod digest_rows;
+pub mod digests;
+pub mod feeds;
+pub mod lines;
