@@ -1,0 +1,4 @@
+pub mod CountLemmas
+pub mod FactLemmas
+pub mod KeyLemmas
+pub mod SpanLemmas
