@@ -6,7 +6,7 @@ use Rattle.day_symbols.specs.Symbols.{distinct_names}
 use Rattle.log_contents.specs.Facts.{AreFactsOf, AreWithin}
 use Rattle.log_contents.specs.declared.record_facts.RecordFacts.{RecordFacts}
 
-map-more : {X Y : Type 0} (f : X → Y) (xs : List X) (x : X) → map f (xs ++ x ∷ []) ≡ map f xs ++ f x ∷ []
+pub map-more : {X Y : Type 0} (f : X → Y) (xs : List X) (x : X) → map f (xs ++ x ∷ []) ≡ map f xs ++ f x ∷ []
 map-more f [] x = refl
 map-more f (y ∷ xs) x = ap (λ (l : List _). f y ∷ l) (map-more f xs x)
 

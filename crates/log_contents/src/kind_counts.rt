@@ -1,5 +1,5 @@
 //! How often each kind is there. A kind is a text: how one message or record is counted.
-ghost use Rattle.std.specs.Prelude.{◌≡◌, ◌+◌, ◌-◌, ◌<◌, ◌^◌, ◌∷◌, ◌++◌, [], OnOk, false, length, slice_index, slice_set};
+ghost use Rattle.std.specs.Prelude.{◌≡◌, ◌+◌, ◌-◌, ◌<◌, ◌^◌, ◌∷◌, ◌++◌, [], OnOk, false, length, slice_index, slice_index_or, slice_set};
 ghost use Rattle.std.specs.List.{list_any};
 ghost use Rattle.audit_base.specs.Orders.{same_name};
 ghost use Rattle.log_source.specs.Collectors.{HasPlace};
@@ -72,6 +72,26 @@ impl KindCounts {
                 Ok(())
             }
             None => self.count_first(kind),
+        }
+    }
+
+    /// The kind at an index, in the order in which each was counted first; none has no bytes.
+    pub fn kind_at(&self, index: usize) -> &[u8]
+        ensures { result.now ≡ slice_index_or (kinds_counted self.now) index [] }
+    {
+        match self.kinds.get_index(index) {
+            Some(kind) => kind.as_slice(),
+            None => &[],
+        }
+    }
+
+    /// How often the kind at an index was counted.
+    pub fn count_at(&self, index: usize) -> u32
+        ensures { result ≡ slice_index_or self.now.counts.items index 0 }
+    {
+        match self.counts.get(index) {
+            Some(count) => *count,
+            None => 0,
         }
     }
 
