@@ -144,6 +144,7 @@ pub kept-first : (kinds : List (List ℕ)) (more : List ℕ) (names new : List (
     → (new ≡ distinct_names (kinds ++ more ∷ [])) × (later ≡ counts_of (distinct_names (kinds ++ more ∷ [])) (kinds ++ more ∷ []))
 kept-first kinds more names new counts later are counted lacks names-are counts-are =
     let away : list_any (same_name more) (distinct_names kinds) ≡ false = subst (λ (n : List (List ℕ)). list_any (same_name more) n ≡ false) are lacks in
-    let grown : distinct_names (kinds ++ more ∷ []) ≡ distinct_names kinds ++ more ∷ [] = distinct-more kinds more ∙ ap (λ (b : Bool). cond b (distinct_names kinds) (distinct_names kinds ++ more ∷ [])) away in
-    (names-are ∙ ap (λ (n : List (List ℕ)). n ++ more ∷ []) are ∙ sym grown,
-      counts-are ∙ ap (λ (l : List ℕ). l ++ 1 ∷ []) counted ∙ sym (counts-first kinds more away) ∙ ap (λ (n : List (List ℕ)). counts_of n (kinds ++ more ∷ [])) (sym grown))
+    let grown : distinct_names (kinds ++ more ∷ []) ≡ distinct_names kinds ++ more ∷ [] = distinct-more kinds more ∙ ap (λ (b : Bool). cond b (distinct_names kinds) (distinct_names kinds ++ more ∷ [])) away in (
+      names-are ∙ ap (λ (n : List (List ℕ)). n ++ more ∷ []) are ∙ sym grown,
+      counts-are ∙ ap (λ (l : List ℕ). l ++ 1 ∷ []) counted ∙ sym (counts-first kinds more away) ∙ ap (λ (n : List (List ℕ)). counts_of n (kinds ++ more ∷ [])) (sym grown),
+    )

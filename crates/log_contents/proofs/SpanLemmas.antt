@@ -41,6 +41,7 @@ from-says a b is =
       | inr (inl less) ↦ absurd (omega (arith, less, le))
       | inr (inr more) ↦ inl more
     ]
+
     from-high : (a b : Moment) → b.second ≤ a.second → b.nano ≤ a.nano → IsFrom a b
     from-high a b le high = elim (cases_order a.second b.second) [
       | inl same ↦ inr (same, high)

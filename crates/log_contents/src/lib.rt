@@ -2,10 +2,13 @@
 //! a log has, of which symbols its records are, and from when to when.
 //!
 //! `message_feed` reads a FIX log piece by piece: each message is read as for an audit, and its
-//! kind is counted, that of one that is passed over too. `contents` has what is known of a log,
-//! message by message: `record_facts` what its records say (`time_spans`), `kind_counts` how often
-//! each kind is there. `message_kinds` says of a message why it is passed over, by the values of
-//! its fields (`message_values`).
+//! kind is counted, that of one that is passed over too. Of a CSV log the contents are a collector
+//! (`csv_contents`): each record has a kind. `contents` has what is known of a log, message by
+//! message: `record_facts` what its records say (`time_spans`), `kind_counts` how often each kind
+//! is there. `message_kinds` says of a message why it is passed over, by the values of its fields
+//! (`message_values`). `laws` says that nothing is left out or counted twice. In `specs/`, `Kinds`
+//! has the kind of a message and of a record, `Counts` and `Facts` what is counted and kept, and
+//! `MessageFeeds` what a feed stands for.
 #![tactic(auto)]
 
 pub mod contents;

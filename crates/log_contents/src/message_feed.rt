@@ -151,11 +151,7 @@ impl<R: FixRecord + TimedRecord> MessageFeed<R> {
         }
         match self.feed.framer.finish() {
             Ok(()) => Ok(self.feed.entries),
-            Err(at) => Err(LogFault::Bad(bad_at(
-                &self.feed.entries,
-                at,
-                Reason::Truncated,
-            ))),
+            Err(at) => Err(LogFault::Bad(bad_at(&self.feed.entries, at, Reason::Truncated))),
         }
     }
 }

@@ -32,11 +32,7 @@ fn joined(alloc: Global, front: &[u8], value: &[u8]) -> Result<Vec<u8>, NoMemory
 /// The kind of a message that is passed over, by its body and the notes of its fields: it is a
 /// possible duplicate (tag 43), or a report of its first execution type (tag 150), or of its type.
 /// A value is written as it is in the message, whatever its length: it may hold a comma.
-pub(crate) fn passed_kind(
-    alloc: Global,
-    body: &[u8],
-    notes: &TagNotes,
-) -> Result<Vec<u8>, NoMemory>
+pub(crate) fn passed_kind(alloc: Global, body: &[u8], notes: &TagNotes) -> Result<Vec<u8>, NoMemory>
     requires { HasNotes body.now notes.now }
     ensures { IfOk result (λ kind. kind.items ≡ passed_kind (fields_of body.now)) }
 {

@@ -15,7 +15,7 @@ pub returns-in-Some : goal.returns-in-Some
 returns-in-Some c = λ list has.
     let found = found-text c.args.kind.now c.args.self.now.kinds.keys c.in-Some.index c.in-Some.ensures.index in
     let kept = kept-again list c.args.kind.now (kinds_counted c.args.self.now) c.args.self.now.counts.items c.count_again.new.self.counts.items c.in-Some.index has.order has.counts
-        (any-texts c.args.kind.now c.args.self.now.kinds.keys ∙ sym c.in-Some.ensures.found) found.0 found.1 c.count_again.ensures.counts in
+    (any-texts c.args.kind.now c.args.self.now.kinds.keys ∙ sym c.in-Some.ensures.found) found.0 found.1 c.count_again.ensures.counts in
     record { order = ap (λ k. map (λ (key : _). key.items) k.keys) c.count_again.ensures.kinds ∙ kept.0; counts = kept.1 }
 
 pub returns-in-None : goal.returns-in-None
