@@ -1,0 +1,9 @@
+pub mod CountLemmas
+pub mod CsvLemmas
+pub mod FactLemmas
+pub mod KeyLemmas
+pub mod MessageFeedLemmas
+pub mod MessageLemmas
+pub mod SpanLemmas
+pub mod SumLemmas
+pub mod ValueLemmas

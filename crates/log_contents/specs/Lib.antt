@@ -1,0 +1,7 @@
+-- What a reader must believe: what the contents of a log are, by counts and first appearances.
+pub mod Contents
+pub mod Counts
+pub mod Facts
+pub mod Kinds
+pub mod Laws
+pub mod MessageFeeds
