@@ -4,3 +4,4 @@ pub mod MarkLemmas
 pub mod StartLemmas
 pub mod UniqueLemmas
 pub mod LogLemmas
+pub mod UndressLemmas

@@ -6,10 +6,13 @@
 //! first bad one (`faults`). `laws` has what holds of every day.
 #![tactic(auto)]
 
+mod beginnings;
 pub mod bodies;
 pub mod faults;
 pub mod framed;
 #[cfg(test)]
 mod joined;
 pub mod laws;
+pub mod lines;
 mod messages;
+mod undressing;
