@@ -1,4 +1,4 @@
--- What a date and a clock write does not depend on the fraction behind them.
+-- What a date and a clock write does not depend on the fraction after them.
 use Rattle.std.proofs.Common.{◌≡◌, ℕ, Bool, true, false, nat_le, ◌&&◌, Option, Some, None, List, [], ◌++◌, length, take, drop, if◌then◌else◌, refl, ap, ◌∙◌, sym, arith, append-nil}
 use Rattle.std.proofs.lemmas.Bool.{le-leb}
 use Rattle.std.proofs.lemmas.List.{take-append-le, drop-append-le, length-append, length-drop, drop_at, get_or_append_left}
@@ -41,7 +41,7 @@ with_clock clock rest size =
     ∙ from_parts (slice_index clock 8 == 45) (date_form (take 8 clock)) (clock_form (take 8 (drop 9 clock))) (fraction_form rest)
     ∙ sym (λ i. with_fraction (if long' i && (slice_index clock 8 == 45) then moment_of (date_form (take 8 clock)) (clock_form (take 8 (drop 9 clock))) (fraction_form (none i)) else None) (fraction_form rest))
 
--- a text that is read, cut behind its clock, writes the same second without a fraction
+-- a text that is read, cut after its clock, writes the same second without a fraction
 pub clock_read : (clock rest : List ℕ) (moment : Moment) → length clock ≡ 17 → stamp_form (clock ++ rest) ≡ Some moment
     → stamp_form clock ≡ Some (record { second = moment.second; nano = 0 })
 clock_read clock rest moment size read =

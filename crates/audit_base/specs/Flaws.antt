@@ -19,7 +19,7 @@ use Rattle.audit_base.specs.declared.flaws.Flaw.{Flaw}
 use Rattle.audit_base.specs.Orders.{order_at}
 use Rattle.audit_base.specs.Shows.{with_traded_number, show_place, priority_property}
 
--- the quantity finding of a side
+-- the property that is broken where an order of a side trades too much
 abbrev pub quantity_property : Side → Property
 quantity_property Buy = property.BuyQuantity
 quantity_property Sell = property.SellQuantity

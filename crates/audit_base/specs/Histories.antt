@@ -167,6 +167,7 @@ is_placed_within (suc n) records k None = true
 is_placed_within (suc n) records k (Some t) =
     not (is_ended_before records k t) && is_placed_within n records t (replaced_order_at records t)
 
+-- the record at k is placed; k + 1 steps are enough to go back over all its targets
 abbrev pub is_placed : List (ℕ × OrderRecord) → ℕ → Bool
 is_placed records k = is_placed_within (suc k) records k (replaced_order_at records k)
 

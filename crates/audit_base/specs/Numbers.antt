@@ -5,6 +5,7 @@ use Rattle.audit_base.specs.declared.terms.Side.{Side}
 use Rattle.audit_base.specs.declared.terms.Side.TheVariants.{Buy, Sell}
 use Rattle.audit_base.specs.Digits.{digits_form, fraction_digits}
 
+-- the byte of a decimal point
 abbrev pub is_point : ℕ → Bool
 is_point b = b == 46
 
@@ -20,6 +21,8 @@ price_with_fraction (Some whole) places None = None
 price_with_fraction (Some whole) places (Some fraction) =
     Some (whole * 10 ^ 8 + fraction * 10 ^ (8 - places))
 
+-- the price in units of 10^-8 that a text writes, by the index of its point: 1 to 10 digits before
+-- the point and 1 to 8 after it; where it has no point, 1 to 10 digits
 abbrev pub price_by_point : List ℕ → Option ℕ → Option ℕ
 price_by_point text None = whole_price (digits_form 10 text)
 price_by_point text (Some point) =
@@ -35,6 +38,7 @@ abbrev pub market_price : Side → ℕ
 market_price Buy = 10 ^ 18 - 1
 market_price Sell = 0
 
+-- the byte of the digit 0
 abbrev pub is_zero_digit : ℕ → Bool
 is_zero_digit b = b == 48
 
@@ -46,10 +50,13 @@ are_zero_digits text = nat_le 1 (length text) && list_all is_zero_digit text
 abbrev pub is_quantity : ℕ → Bool
 is_quantity value = nat_lt 0 value && nat_le value (10 ^ 12)
 
+-- the value, where it is a quantity
 abbrev pub quantity_in_range : Option ℕ → Option ℕ
 quantity_in_range None = None
 quantity_in_range (Some value) = if is_quantity value then Some value else None
 
+-- the quantity that a text writes, by the index of its point: 1 to 13 digits before the point and
+-- one or more zeros after it; where it has no point, 1 to 13 digits
 abbrev pub quantity_by_point : List ℕ → Option ℕ → Option ℕ
 quantity_by_point text None = quantity_in_range (digits_form 13 text)
 quantity_by_point text (Some point) =

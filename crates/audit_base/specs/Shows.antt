@@ -55,7 +55,7 @@ show_if_found orders traded found = option_and_then (show_order orders traded) f
 abbrev pub show_place : Which → ℕ → Option Shown
 show_place log place = Some (shown.Place log place)
 
--- the priority finding of a side
+-- the property that is broken where an order of a side is passed over
 abbrev pub priority_property : Side → Property
 priority_property Buy = property.BuyPriority
 priority_property Sell = property.SellPriority

@@ -1,7 +1,7 @@
 -- The greatest sizes of logs and messages, and the byte that ends a FIX field.
 use Rattle.std.specs.Prelude.{ℕ}
 
--- the number of bytes of the longest log that is read, 64 MiB
+-- the greatest number of bytes of a log where no other limit is given, 64 MiB
 abbrev pub longest_log : ℕ
 longest_log = 67108864
 

@@ -96,8 +96,8 @@ pub fn read_digits(text: &[u8], most: usize) -> Option<u64>
     number_of(text)
 }
 
-/// The number from `low` to `high` that a text of exactly `width` digits writes, at most 19,
-/// and of nothing else. None exactly where it writes another number.
+/// The number that exactly `width` digits write, at most 19. None exactly where it is not from
+/// `low` to `high`.
 pub fn value_between(digits: &[u8], width: usize, low: u64, high: u64) -> Option<u64>
     requires digits { IsTrue (list_all is_ascii_digit digits.now) }
     requires width { (length digits.now ≡ width) × (width ≤ 19) }

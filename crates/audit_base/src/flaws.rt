@@ -24,7 +24,8 @@ pub struct DueOrder {
     pub due: u128,
 }
 
-/// What is wrong with a record, and what shows it. Each is a property, those of two sides are two.
+/// What is wrong with a record, and what shows it. Each breaks the property of its number;
+/// `Quantity` and `Priority` have a number for each side.
 #[derive(Clone, Copy)]
 pub enum Evidence {
     /// 1: the order record at this place has its key.

@@ -233,8 +233,8 @@ pub fn read_name(text: &[u8]) -> Option<Name>
     }
 }
 
-/// Whether a text is a name whose bytes are known to be such as a name may hold.
-/// Only its size is asked.
+/// Whether a text is a name, where each of its bytes is known to be one that a name may hold:
+/// only its size is tested.
 pub fn is_name_by_size(text: &[u8]) -> bool
     requires { IsTrue (list_all form.is_name_byte text.now) }
     ensures { result ≡ form.is_name text.now }
@@ -242,7 +242,7 @@ pub fn is_name_by_size(text: &[u8]) -> bool
     1 <= text.len() && text.len() <= 64
 }
 
-/// The name that a text writes whose bytes are known to be such as a name may hold.
+/// The name that a text writes, where each of its bytes is known to be one that a name may hold.
 /// None exactly where it is empty or has more than 64 bytes.
 pub fn read_name_by_size(text: &[u8]) -> Option<Name>
     requires { IsTrue (list_all form.is_name_byte text.now) }

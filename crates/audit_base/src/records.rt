@@ -64,7 +64,7 @@ impl OrderRecord {
         }
     }
 
-    /// The side of a new order or a replacement; None of a cancel.
+    /// The side of a new order or a replacement; None for a cancel.
     pub fn side(&self) -> Option<Side>
         ensures { result ≡ history.side_of self.now }
     {
@@ -76,7 +76,7 @@ impl OrderRecord {
     }
 
     /// The key that a cancel or a replacement names: its own firm, and the target's id.
-    /// None of a new order.
+    /// None for a new order.
     pub fn target_key(&self) -> Option<Key>
         ensures { result ≡ history.target_key self.now }
     {

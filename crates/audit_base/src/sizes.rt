@@ -1,6 +1,7 @@
 //! The greatest sizes of logs and messages, and the byte that ends a FIX field.
 
-/// The number of bytes of the longest log that is read, 64 MiB.
+/// The greatest number of bytes of a log where no other limit is given, 64 MiB. The greatest limit
+/// that may be given is `log_source::limits::LONGEST_READ`.
 pub const LONGEST_LOG: usize = 67_108_864;
 
 /// The number of bytes of the longest FIX message body that is read, 1 MiB.

@@ -10,7 +10,7 @@ use Rattle.audit_certificate.specs.Texts.{order_line_text}
 use Rattle.audit_certificate.specs.OrderLines.{order_lines_upto, IsAfterOrderOrNone, IsAfterOrder}
 use Rattle.audit_certificate.specs.Agreement.{IsOrderLine}
 
--- the lines of the first n orders pass, and this is what is behind them
+-- the lines of the first n orders pass, and this is what is after them
 pub record AreOrderLinesUpto (orders : List Order) (traded : List ℕ) (bytes : List ℕ) (n : ℕ) (rest : List ℕ) : Type 0 where
   pub passed : (deals : List Deal) → AreTotals orders deals traded → (index : ℕ) → index < n → BeginsWith (IsOrderLine orders deals index) (after_lines index bytes)
   pub rest_is : rest ≡ after_lines n bytes

@@ -181,7 +181,7 @@ module _ (symbol : List ℕ) (orders : List Order) (deals : List Deal) (bytes : 
               before5 : LinesPassBefore r symbol orders deals bytes 5
               before5 = one-more r 4 before4 passes4
 
-              -- what is behind the first four lines and some of the orders
+              -- what is after the first four lines and some of the orders
               order-at : (k : ℕ) → after_lines k rest4 ≡ after_lines (4 + k) bytes
               order-at k = ap (after_lines k) rest4-is ∙ after-both 4 k bytes
 

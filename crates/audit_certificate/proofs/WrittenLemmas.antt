@@ -78,7 +78,7 @@ end-at text rest are =
     lt-ltb (position_or_len is_line_end (text ++ 10 ∷ rest)) (length (text ++ 10 ∷ rest)) (omega (arith, length-append text (10 ∷ rest))) in
     cond-true _ _ _ within ∙ ap (λ (n : ℕ). Some n) at
 
--- a line that is written is the first one, and the rest is behind it
+-- a line that is written is the first one, and the rest is after it
 line-first : (text rest : List ℕ) → IsOneLine text → ended_line (text ++ 10 ∷ rest) ≡ Some text
 line-first text rest are = ap (option_map (λ size. take size (text ++ 10 ∷ rest))) (end-at text rest are) ∙ ap (λ (t : List ℕ). Some t) (take-append_seam text (10 ∷ rest))
 
@@ -124,7 +124,7 @@ module _ (orders : List Order) (deals : List Deal) where
   one-at : (i : ℕ) → IsOneLine (order_line_text (place_at orders i) (traded deals i))
   one-at i = one-order (place_at orders i) (traded deals i)
 
-  -- behind the first k of them are those from k on
+  -- after the first k of them are those from k on
   after-orders : (k n from : ℕ) → from + n ≤ length orders → k ≤ n → after_lines k (order_lines_text orders deals from n) ≡ order_lines_text orders deals (from + k) (n - k)
   unfolding after_lines
   after-orders zero n from inside le = let a : from ≡ from + 0 = omega arith in let b : n ≡ n - 0 = omega arith in (λ i. order_lines_text orders deals (a i) (b i))

@@ -10,19 +10,21 @@ use Rattle.audit_base.specs.Orders.{order_at, is_uncancelled_on}
 use Rattle.audit_base.specs.Bounds.{IsLeastCut}
 pub use Rattle.audit_base.specs.Names.{is_comma}
 
--- a text up to its first comma
+-- a text up to this index, or all of it where there is none
 abbrev pub take_upto : List ℕ → Option ℕ → List ℕ
 take_upto text None = text
 take_upto text (Some at) = take at text
 
+-- a text up to its first comma, or all of it where it has none
 abbrev pub before_comma : List ℕ → List ℕ
 before_comma text = take_upto text (position is_comma text)
 
--- the price that a text writes, or 10^18, whose text is not one of a price
+-- the price that was read, or 10^18, which is above every price, where there is none
 abbrev pub price_or_above : Option ℕ → ℕ
 price_or_above None = 10 ^ 18
 price_or_above (Some price) = price
 
+-- the price that a text writes, or 10^18 where it writes none
 abbrev pub price_in_text : List ℕ → ℕ
 price_in_text text = price_or_above (price_form text)
 

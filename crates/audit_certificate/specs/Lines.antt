@@ -3,6 +3,7 @@
 use Rattle.std.specs.Prelude.{ℕ, zero, suc, ◌+◌, ◌==◌, Bool, List, [], Option, None, Some, IsSomeAnd, option_map, take, drop}
 use Rattle.std.specs.List.{position}
 
+-- the byte that ends a line, LF
 abbrev pub is_line_end : ℕ → Bool
 is_line_end byte = byte == 10
 
@@ -10,11 +11,12 @@ is_line_end byte = byte == 10
 abbrev pub ended_line : List ℕ → Option (List ℕ)
 ended_line text = option_map (λ size. take size text) (position is_line_end text)
 
--- what is after the first line
+-- what is after the LF at an index; nothing where there is none
 abbrev pub after_size : List ℕ → Option ℕ → List ℕ
 after_size text None = []
 after_size text (Some size) = drop (size + 1) text
 
+-- what is after the first line; nothing where the text has no LF
 abbrev pub after_line : List ℕ → List ℕ
 after_line text = after_size text (position is_line_end text)
 

@@ -31,11 +31,12 @@ pub record IsRefusedLineAt (orders : List Order) (deals : List Deal) (bytes : Li
       → IsOrderLineOrEnd orders deals before (after_lines before bytes)
   pub fails : IsOrderLineOrEnd orders deals index (after_lines index bytes) → ⊥
 
+-- the first order line that is refused has this number, whichever deals the totals are of
 abbrev pub IsRefusedOrderLine : List Order → List ℕ → List ℕ → ℕ → Type 0
 IsRefusedOrderLine orders traded bytes number = (deals : List Deal) → AreTotals orders deals traded
     → IsRefusedLineAt orders deals bytes number
 
--- whether a text begins with the line of the order at an index, and what is then after it
+-- a text begins with the line of the order at an index, and this is what is after it
 pub record IsAfterOrder (orders : List Order) (traded : List ℕ) (index : ℕ)
     (rest after : List ℕ) : Type 0 where
   pub begins : (deals : List Deal) → AreTotals orders deals traded
@@ -43,6 +44,8 @@ pub record IsAfterOrder (orders : List Order) (traded : List ℕ) (index : ℕ)
   pub after_is : after ≡ after_line rest
   pub shorter : length after + 1 ≤ length rest
 
+-- what is after the line of the order at an index; none where the text does not begin with that
+-- line, whichever deals the totals are of
 abbrev pub IsAfterOrderOrNone : List Order → List ℕ → ℕ → List ℕ → Option (List ℕ) → Type 0
 IsAfterOrderOrNone orders traded index rest (Some after) =
     IsAfterOrder orders traded index rest after

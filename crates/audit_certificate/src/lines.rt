@@ -20,7 +20,7 @@ pub fn first_line(text: &[u8]) -> Option<&[u8]>
     }
 }
 
-/// What is behind the first line, which is ended.
+/// What is after the first line, which is ended.
 pub fn after_line<'a>(text: &'a [u8], line: &[u8]) -> &'a [u8]
     requires { ended_line text.now ≡ Some line.now }
     ensures same { result.now ≡ after_line text.now }

@@ -49,7 +49,7 @@ fn is_order_line(
     is_order_text(alloc, order.place(), traded[index], line, text)
 }
 
-/// Whether the text begins with the line of the order at the index; what is behind it if so.
+/// Whether the text begins with the line of the order at the index; what is after it if so.
 fn after_order<'a>(
     alloc: Global,
     orders: &OrderList<'_>,
@@ -73,7 +73,7 @@ fn after_order<'a>(
     }
 }
 
-/// The lines of the orders, from the number 5 on, and nothing behind them. Err(No) has the first
+/// The lines of the orders, from the number 5 on, and nothing after them. Err(No) has the first
 /// line that is missing, not ended, too many, or fails its test.
 pub fn check_order_lines(
     alloc: Global,

@@ -1,5 +1,5 @@
 //! The verification of a certificate, line by line. Each step takes what is left of the text and
-//! gives what is behind the line that passed.
+//! gives what is after the line that passed.
 ghost use Rattle.std.specs.Prelude.{◌≡◌, ◌<◌, ◌≤◌, ◌^◌, IfOk, IsTrue, length};
 ghost use Rattle.audit_base.specs.Deals.{IsDealList};
 ghost use Rattle.audit_base.specs.Orders.{IsOrderList};
@@ -25,7 +25,7 @@ use audit_base::terms::{Rule, Side, VolumeRule};
 use order_list::lists::OrderList;
 use std::alloc::Global;
 
-/// The rule under which line 1 passes, and what is behind the line.
+/// The rule under which line 1 passes, and what is after the line.
 fn check_head<'a>(
     symbol: &Name,
     orders: &OrderList<'_>,
@@ -48,7 +48,7 @@ fn check_head<'a>(
     }
 }
 
-/// What is behind line 2, where it passes.
+/// What is after line 2, where it passes.
 fn check_bound<'a>(
     alloc: Global,
     rule: VolumeRule,
@@ -82,7 +82,7 @@ fn last_line_number(side: Side) -> u32
     }
 }
 
-/// What is behind line 3 or 4, where it passes.
+/// What is after line 3 or 4, where it passes.
 fn check_last<'a>(
     alloc: Global,
     orders: &OrderList<'_>,

@@ -52,7 +52,7 @@ pub fn append_totals_line(
     append_line(alloc, b"totals", &parts, out)
 }
 
-/// `bound,PRICE,VOLUME`. The price may be 10^18 units, which no part of a line can be.
+/// `bound,PRICE,VOLUME`. The price may be 10^18 units, one more than any `Price`.
 pub fn append_bound_line(alloc: Global, cut: &Cut, out: &mut Vec<u8>) -> Result<(), NoMemory>
     requires { IsBoundInRange cut.now }
     ensures { OnOk result (out.new.items ≡ out.old.items ++ text.bound_line cut.now) }

@@ -118,7 +118,7 @@ pub fn read_fault_text(log: Which) -> &'static [u8]
     }
 }
 
-/// The line that says that a log has more than 67,108,864 bytes.
+/// The line that says that a log has more bytes than the program reads.
 pub fn too_long_text(log: Which) -> &'static [u8]
     ensures { result.now ≡ text.too_long_line log }
 {

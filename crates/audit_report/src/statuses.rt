@@ -17,7 +17,8 @@ pub enum Status {
     ReadFault,
     /// The text could not be written in full.
     WriteFault,
-    /// A log has more than 67,108,864 bytes.
+    /// A log has more bytes than the program reads: 67,108,864 for `auditor`, 34,359,738,368 for
+    /// `desk`.
     TooLong,
     /// There was not enough memory.
     Memory,

@@ -28,7 +28,7 @@ pub fn append_generated_line(
 }
 
 /// `RULE,TRADES,VOLUME,PRICE`, with the volume and the price of a bound.
-/// The price may be 10^18 units, which no part of a line can be.
+/// The price may be 10^18 units, one more than any `Price`.
 pub fn append_call_line(
     alloc: Global,
     rule: Rule,

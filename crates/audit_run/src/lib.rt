@@ -3,8 +3,8 @@
 //! `running::run` is the top call. It reads the words (`command_words`), makes the whole answer
 //! of the command (`commands`) and hands it to `command_run`, which writes it, or one line, and
 //! says what follows for every command (`program` and `given_logs` say what the auditor's are).
-//! `audit` is the verdict on
-//! two logs (`log_verdict`); `judged_answers`, `verifying` and `sessions` go their own way from
+//! `audit` is the verdict on two logs (`log_verdict`);
+//! `judged_answers`, `verifying` and `sessions` go their own way from
 //! what is known of two logs before the rule is looked at; `expecting`, `converting` and
 //! `generating` are the commands that write logs. The contract of `run` is the claim of the
 //! project, composed from the contracts of the crates below; `laws` has what one call makes of

@@ -3,7 +3,7 @@ use crate::checks::inputs::{ORDERS, TRADES};
 use crate::checks::rows::{Row, check_rows, check_rows_in_pieces};
 use std::test::Fail;
 
-/// Bad lines, first in their log or behind a finding.
+/// Bad lines, first in their log or after a finding.
 const ROWS: [Row; 5] = [
     Row {
         name: "quantity too great",
@@ -37,7 +37,7 @@ N,B,s1,20240102-09:00:00,Z,S,100,9,
 ",
     },
     Row {
-        name: "a bad order line behind a finding",
+        name: "a bad order line after a finding",
         words: "audit matching Z orders trades",
         orders: &[
             ORDERS,
@@ -56,7 +56,7 @@ N,A,b3
 ",
     },
     Row {
-        name: "a bad trade line behind a finding of the orders",
+        name: "a bad trade line after a finding of the orders",
         words: "audit matching Z orders trades",
         orders: &[
             ORDERS,
@@ -75,7 +75,7 @@ T2,20240102-09:00:01,Z,A,b1,B,s1,100,9.5,
 ",
     },
     Row {
-        name: "a bad trade line behind an unknown order",
+        name: "a bad trade line after an unknown order",
         words: "audit matching Z orders trades",
         orders: &[
             ORDERS,

@@ -174,7 +174,7 @@ bound,10.00000001,9
 ",
     },
     Row {
-        name: "volume behind another symbol's trades",
+        name: "volume after another symbol's trades",
         words: "audit maximum Z orders trades",
         orders: &[
             ORDERS,

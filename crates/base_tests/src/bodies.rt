@@ -88,7 +88,7 @@ const FAULTS: [(&str, &str); 23] = [
     ("35=D|5 8=x|", "field 5"),
     ("35=D|58|49=x|", "field 5"),
     ("35=D|58", "field 5"),
-    // The value has a byte, and SOH is behind it.
+    // The value has a byte, and SOH is after it.
     ("35=D|58=a=b|", "35:3-4 58:8-11"),
     ("35=D|58=|", "field 5"),
     ("35=D|58=", "field 5"),

@@ -41,7 +41,7 @@ fn short_with_due(
     })
 }
 
-/// Finding 14: the volume is below the greatest. Its place is behind the last trade of the log, and
+/// Finding 14: the volume is below the greatest. Its place is after the last trade of the log, and
 /// it shows the best short order of both sides with their dues.
 fn volume_finding(orders: &OrderList<'_>, totals: &Totals, count: u32, greatest: u128) -> Finding
     requires order_list { IsOrderList orders.now }
@@ -79,8 +79,8 @@ fn outcome_of(orders: &OrderList<'_>, totals: Totals, count: u32, most: Cut) -> 
 /// The audit of a rule that asks for the greatest volume, against the greatest volume that it
 /// allows, with its bound. Conforms exactly where the rule holds, out of memory aside: with what
 /// each order traded, which is then the same in every list of deals that conforms. Else Broken has
-/// the first offence. The number of trades of the whole log is `count`, behind which the finding of
-/// the volume has its place.
+/// the first offence. The number of trades of the whole log is `count`, and the finding of the
+/// volume has the next place after it.
 pub fn audit_call(
     alloc: Global,
     rule: VolumeRule,

@@ -135,7 +135,7 @@ made-first parts each shares s inside s_is none =
     zero-is : (i : ℕ) → i + 1 ≡ 1 → 0 ≡ i
     zero-is i e = omega arith
 
--- with the last share put behind the others
+-- with the last share put after the others
 pub merged : (parts : List DealPart) (at : ℕ) (shares ys : List Share) (s : Share) → ys ≡ shares ++ s ∷ [] → length parts ≤ at → AreSharesSoFar parts at shares s → AreMergedShares parts ys
 merged parts at shares ys s is all made = subst (AreMergedShares parts) (sym is) (record {
   sums = λ bid ask. sum_by-append (share_of_pair bid ask) shares (s ∷ []) ∙ ap (λ (n : ℕ). sum_by (share_of_pair bid ask) shares + n) (one bid ask) ∙ made.sums bid ask ∙ ap (sum_by (part_of_pair bid ask)) (take_all at parts all);

@@ -15,7 +15,7 @@ pub if_ok-weaker : {T E : Type 0} (r : Result T E) (P Q : T → Type 0) → ((t 
 if_ok-weaker (Ok t) P Q f h = f t h
 if_ok-weaker (Err e) P Q f h = h
 
--- a share adds its quantity to its own pair, and nothing to that of one before or behind it
+-- a share adds its quantity to its own pair, and nothing to that of one before or after it
 own-pair : (s : Share) → share_of_pair s.bid s.ask s ≡ s.quantity
 own-pair s = cond-true ((s.bid == s.bid) && (s.ask == s.ask)) s.quantity 0 (and_from _ _ (eq-eqb s.bid s.bid refl) (eq-eqb s.ask s.ask refl))
 

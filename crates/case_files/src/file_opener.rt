@@ -18,7 +18,7 @@ use sqlite_std_file::OpenError;
 use std::hash::{BuildHasher, RandomState};
 use std::io::ErrorKind;
 
-/// How many pages of a database that were read are kept in memory: 2 MB, whose room is taken at
+/// How many pages of a database that were read are kept in memory: 2 MB, whose memory is taken at
 /// the open. A casebook of ten thousand cases has 110 pages.
 const KEPT_PAGES: usize = 512;
 
@@ -144,7 +144,7 @@ impl Opener for FileOpener {
 
 impl Closing for FileOpener {
     /// What was filed is in the database's files before this, so that a close that fails loses
-    /// nothing. Behind it the database file has all of it alone, and the log beside it is
+    /// nothing. After it the database file has all of it alone, and the log beside it is
     /// removed while nobody else can have opened it.
     fn close(&self, keeper: SqlKeeper<FileStore<File>>) {
         match keeper.into_connection().close_files() {

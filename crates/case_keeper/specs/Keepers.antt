@@ -22,8 +22,8 @@ KnownLabelsDiffer state = IfSome state.cases LabelsDiffer
 abbrev pub LacksLabel : KeeperState → List ℕ → Type 0
 LacksLabel state label = IfSome state.cases (λ cases. kept_case cases label ≡ None)
 
--- What every call leaves: the faults never fall, it failed only where they rose, and after a
--- fault the cases are as before.
+-- What every call leaves: the faults never fall, it failed only where they rose or their count is
+-- at its greatest value, and after a fault the cases are as before.
 pub record CountsKeeperFaults {T : Type 0} (old new : KeeperState) (result : Result T KeepFault)
     : Type 0 where
   pub later : old.faults ≤ new.faults

@@ -30,8 +30,9 @@ impl From<NoMemory> for KeepFault {
 
 /// What holds cases under their labels, in the order of filing, no two under one label.
 ///
-/// The cases of a keeper are known where it `tells`. It counts its faults, which never fall;
-/// `Failed` comes only where they rose, and after a fault the cases are as before.
+/// Of some keepers it is known which cases they hold. A keeper counts its faults, which never fall;
+/// `Failed` comes only where they rose or their count is at its greatest value, and after a fault
+/// the cases are as before.
 pub trait Keeper {
     // The state of the keeper: its cases, where they are known, and its faults.
     ghost state: { Self → KeeperState };

@@ -81,7 +81,7 @@ prefix_behind a b c texts text first part = record {
         let more : suc (length xs + n) ≡ suc (length xs) + n = omega arith in
         subst (λ (m : ℕ). take m (x ∷ xs ++ ys) ≡ x ∷ xs ++ take n ys) more (ap (λ (zs : List ℕ). x ∷ zs) (take_behind xs ys n))
 
--- Play of a run over a shelf and a casebook that tell.
+-- Play of a run over a shelf and a casebook of which it is known what they hold.
 
 -- what Play leaves is what the run answers, writes and files
 plays : (known : KnownLogs) (from to : RunState) (commands : List Command) (answer : CaseStatus) (cases : List Case) (text : List ℕ) → Appends from.sink.wrote to.sink.wrote text

@@ -87,7 +87,7 @@ OfCommandLog is r (command.List filter) log = ⊥
 OfCommandLog is r (command.Show label) log = ⊥
 
 -- why a command is halted: a log that it names could not be read, or is too long; its logs were
--- read and are in their grammar, and then the keeper's faults rose; memory ran out, freely
+-- read and are in their grammar, and the keeper's faults rose or were full; or memory ran out
 abbrev pub IsHaltCause : Reading → KeeperState → KeeperState → Command → Halt → Type 0
 IsHaltCause r old new the_command (halt.ReadFault log) = OfCommandLog IsReadFault r the_command log
 IsHaltCause r old new the_command (halt.TooLong log) = OfCommandLog IsTooLong r the_command log

@@ -28,8 +28,8 @@ pub record IsCasebookOpened (opener : OpenerState) (path : List ℕ) (keeper : K
   pub known : opener.tells ≡ true
       → IsSome (opener.kept path) × (keeper.cases ≡ opener.kept path)
 
--- an opening failed since the opener's faults rose, or since it is known that it has no casebook
--- under the path
+-- an opening failed because the opener's faults rose or their count is at its greatest value, or
+-- because it is known that it has no casebook under the path
 abbrev pub IsOpeningRefused : OpenerState → OpenerState → List ℕ → Type 0
 IsOpeningRefused old new path =
     RoseOrIsFull old.faults new.faults ⊎ ((old.tells ≡ true) × (old.kept path ≡ None))

@@ -95,8 +95,8 @@ HasFilingLogs logs wanted next = HasLogWithin (logs Orders wanted.orders)
     (HasLogWithin (logs Trades wanted.trades)
     (λ trades. WhereGood (trades_of_trade_log wanted.form trades) next)))
 
--- the shelf has the logs that Play over the commands needs, the last of which is the first that is
--- not in its grammar
+-- the shelf has the logs that Play over the commands needs: those up to the first one that is not
+-- in its grammar
 abbrev pub HasPlayLogs : (Which → List ℕ → Option (List ℕ)) → List Command → Type 0
 HasPlayLogs logs [] = Unit {0}
 HasPlayLogs logs (command.File wanted ∷ commands) =
@@ -146,12 +146,12 @@ pub record RunsBetween (known : KnownLogs) (from to : RunState) (asked : Option 
   pub later : IsLater from to
   pub sink : SinkStays from.sink to.sink
 
--- what is known of a shelf that is such when a run begins
+-- what is known of a shelf that is in this state when a run begins
 abbrev pub known_logs : {S : Type 0} → Shelf S → S → KnownLogs
 known_logs shelf s =
     record { limit = longest_log; tells = shelf.tells s; log_of = shelf.log_of s }
 
--- the state of a run over a shelf, a sink and a keeper that are such
+-- the state of a run over a shelf, a sink and a keeper in these states
 abbrev pub run_state : {S : Type 0} → Shelf S → S → SinkState → KeeperState → RunState
 run_state shelf s sink keeper =
     record { slots = shelf.slot s; sink = sink; keeper = keeper }

@@ -1,4 +1,4 @@
--- A run told as a trace: the turns of the commands that were done, each begun where the one before
+-- A run as a trace: the turns of the commands that were done, each begun where the one before
 -- left off, and then how the run ended.
 use Rattle.std.specs.Prelude.{◌≡◌, ◌≤◌, ◌⊎◌, ℕ, Bool, true, false, Option, Some, List, [], ◌∷◌, ◌++◌, map}
 use Rattle.std.specs.Io.KnownBytes.{Appends}

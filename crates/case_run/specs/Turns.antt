@@ -97,12 +97,12 @@ pub record AnswersTurnOf (turn_of : List Case → PlayTurn) (old new : KeeperSta
       → AnswersAsTurn (turn_of cases) new answer
   pub goes_on : ends_run answer.status ≡ false
 
--- The keeper was asked in vain, and no case was changed.
+-- The keeper did not do what it was asked, and no case was changed.
 pub record IsKeeperHalt (old new : KeeperState) (why : Halt) : Type 0 where
   pub cause : IsKeeperCause old new why
   pub stays : new.cases ≡ old.cases
 
--- the answer is that of a turn, or the keeper was asked in vain
+-- the answer is that of a turn, or the keeper did not do what it was asked
 abbrev pub AnswersFromCasebook : (List Case → PlayTurn) → KeeperState → KeeperState
     → Result Answer Halt → Type 0
 AnswersFromCasebook turn_of old new result =

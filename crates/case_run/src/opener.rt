@@ -12,7 +12,8 @@ pub trait Opener {
     ghost state: { Self → OpenerState };
 
     /// The keeper of the cases under a path, with no fault counted. `Failed` comes only where the
-    /// opener's faults rose, or where it is known that it has nothing under the path.
+    /// opener's faults rose or their count is at its greatest value, or where it is known that it
+    /// has nothing under the path.
     fn open_book(&mut self, path: &str) -> Result<Self::Book, KeepFault>
         ensures { OpensCasebook Self.Book.state (state self.old) (state self.new) path.now result };
 }

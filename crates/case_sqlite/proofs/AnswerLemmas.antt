@@ -48,7 +48,7 @@ cases_none test (first ∷ rows) (suc i) row inside at is = rest (case_that test
     rest None none = refl
     rest (Some c) none = ap (before c) none
 
--- the row behind the first ones has one more case
+-- the row after the first ones has one more case
 pub cases_more : (test : Case → Bool) (rows : List Row) (i : ℕ) (row : Row) (cases : List Case) (case : Case) → i < length rows → row ≡ get_or rows i row
     → cases_that test (take i rows) ≡ Some cases → case_that test row ≡ Some case → cases_that test (take (i + 1) rows) ≡ Some (cases ++ case ∷ [])
 cases_more test rows i row cases case inside at front is =

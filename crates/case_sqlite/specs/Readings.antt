@@ -99,7 +99,7 @@ case_in_columns row =
     (offence_in_row row))
     (name_in_column (column row 2))) (rule_in_row row)) (name_in_column (column row 0))
 
--- the case that a row tells
+-- the case in a row of exactly six columns
 abbrev pub case_form : Row → Option Case
 case_form row = if length row == 6 then case_in_columns row else None
 

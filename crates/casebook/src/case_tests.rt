@@ -41,7 +41,7 @@ pub(crate) const USAGE: &str =
     "usage: DATABASE file LABEL RULE SYMBOL FORM ORDERS TRADES | list [SYMBOL [RESULT]] | show LABEL, joined by then
 ";
 
-/// The words of a command line, which spaces part.
+/// The words of a command line, split at spaces.
 pub(crate) fn split_words(alloc: Global, line: &str) -> Result<Vec<String>, Fail> {
     let mut words = Vec::new(alloc);
     for word in line.split(' ') {
@@ -245,7 +245,7 @@ fn a_case_whose_line_is_cut_stays_filed(rt: HostRuntime) -> Result<(), Fail> {
 // Into a sink of this much room, which the line of the first case fills or not: the second
 // command is done only where the first line was written whole.
 #[test]
-fn a_command_behind_a_cut_line_files_nothing(rt: HostRuntime) -> Result<(), Fail> {
+fn a_command_after_a_cut_line_files_nothing(rt: HostRuntime) -> Result<(), Fail> {
     let line = "file c1 matching Z csv o t then file c2 matching Z csv o t";
     let words = split_words(rt.alloc(), line)?;
     let second = read_name(b"c2").expect(&rt, "a name");
@@ -261,7 +261,7 @@ fn a_command_behind_a_cut_line_files_nothing(rt: HostRuntime) -> Result<(), Fail
     Ok(())
 }
 
-// A keeper whose first call fails: it is asked only behind two logs that are read and in their
+// A keeper whose first call fails: it is asked only after two logs that are read and in their
 // grammar.
 #[test]
 fn a_log_is_told_before_a_keeper_that_fails(rt: HostRuntime) -> Result<(), Fail> {

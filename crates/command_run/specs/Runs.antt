@@ -192,7 +192,7 @@ AnswersWithCause command_of usage (Some request) r old new status =
 AnswersWithCause command_of usage None r old new status =
     RefusesWords usage old new status × LeavesShelfAlone r
 
--- where both slots begin within the longest log and one ends outside it, the answer is that a log
+-- where both slots begin within the limit of a log and one ends past it, the answer is that a log
 -- is too long, or that the sink failed
 abbrev pub AnswersTooLong : Reading → Status → Type 0
 AnswersTooLong r status =

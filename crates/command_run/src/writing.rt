@@ -39,7 +39,7 @@ fn write_stop<K: Sink>(out: &mut K, stop: Stop) -> Status
 
 /// Writes the text of an answer, or the line of a stop, and answers the status. Whatever command
 /// of the program and whatever reading decided that, the status has its cause in them; and where
-/// the reading tells a log that is too long, so does the status.
+/// a log that was read is too long, the status says so, unless the sink failed.
 pub fn write_answer<P: Program, K: Sink>(out: &mut K, decided: Result<Answer, Stop>) -> Status
     ensures answers { (request : P.Request) (r : Reading)
         → DecidesAnswer r (P.command request) decided

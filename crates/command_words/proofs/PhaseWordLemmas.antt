@@ -29,7 +29,7 @@ only_part (b ∷ rest) e = by_test (is_comma b) refl (λ f. only_part rest f)
     by_test true is behind = absurd (none-inside (length rest) (rw is at e))
     by_test false is behind = slice_split-cons_no is_comma b rest is ∙ ap (onto_first b) (behind (less-behind _ _ (rw is at e)))
 
--- a word is cut behind its first part, at its first comma
+-- a word is cut after its first part, at its first comma
 pub cut_parts : (word : List ℕ) (cut : Option (List ℕ × List ℕ)) → cut ≡ cut_at is_comma word → MatchOption cut (parts_of word ≡ word ∷ []) (λ c. parts_of word ≡ c.0 ∷ parts_of c.1)
 cut_parts word cut e = by_test (nat_lt (position_or_len is_comma word) (length word)) refl
   where

@@ -1,6 +1,6 @@
 -- What the words of a command line without the program's name ask for, where they are
--- well-formed. The first word names the command; there is one definition a command of what its
--- words ask for.
+-- well-formed. The first word names the command; what the words of each command ask for has a
+-- definition of its own.
 use Rattle.std.specs.Prelude.{ℕ, Bool, not, ◌==◌, ◌&&◌, ◌||◌, ◌+◌, Option, None, Some, option_and_then, is_none, List, [], ◌∷◌, length, drop, codes, nat_le, if◌then◌else◌, IsTrue}
 use Rattle.audit_base.specs.Least.{first_answer, only_if}
 use Rattle.audit_base.specs.RuleKinds.{asks_for_greatest, has_table}
@@ -40,15 +40,15 @@ names_logs words place = is_path (nth_word words place) && is_path (nth_word wor
 
 -- SYMBOL, and what the words after all others say as options
 abbrev pub symbol_and_options : List ℕ → List (List ℕ) → Option (List ℕ × Options)
-symbol_and_options word behind =
+symbol_and_options word option_words =
     when_some (symbol_named word) (λ symbol.
-    when_some (options_in behind) (λ options. Some (symbol, options)))
+    when_some (options_in option_words) (λ options. Some (symbol, options)))
 
 -- RULE and SYMBOL after the command, and what the words after all others say as options
 abbrev pub rule_words : List (List ℕ) → List (List ℕ) → Option RuleWords
-rule_words words behind =
+rule_words words option_words =
     when_some (rule_named (nth_word words 1)) (λ the_rule.
-    when_both (symbol_and_options (nth_word words 2) behind) (λ symbol options.
+    when_both (symbol_and_options (nth_word words 2) option_words) (λ symbol options.
     Some (record { rule = the_rule; symbol = symbol; options = options })))
 
 -- these words, where they pass a test

@@ -1,5 +1,5 @@
 //! The words of each command. The first word names the command. A function gives the request
-//! where the words behind it are those of its command, and nothing, with no memory taken, where
+//! where the words after it are those of its command, and nothing, with no memory taken, where
 //! they are not.
 ghost use Rattle.std.specs.Prelude.{◌≡◌, ◌≤◌, length, map, IfOk, IfSome, IsErr, IsSome, IsTrue};
 ghost use Rattle.audit_base.specs.RuleKinds.{asks_for_greatest, has_table};
@@ -67,12 +67,12 @@ pub(crate) fn command_in(words: &[String]) -> Option<Command>
     command_named(first.as_str())
 }
 
-/// The symbol that a word is, and what the words behind all others say as options.
-fn symbol_and_options(word: &str, behind: &[String]) -> Option<(Name, Options)>
-    ensures { result ≡ spec.symbol_and_options word.now (map string_bytes behind.now) }
+/// The symbol that a word is, and what the words after all others say as options.
+fn symbol_and_options(word: &str, option_words: &[String]) -> Option<(Name, Options)>
+    ensures { result ≡ spec.symbol_and_options word.now (map string_bytes option_words.now) }
 {
     let symbol = symbol_named(word)?;
-    let options = options_in(behind)?;
+    let options = options_in(option_words)?;
     Some((symbol, options))
 }
 
@@ -84,14 +84,14 @@ struct RuleWords {
     options: Options,
 }
 
-/// RULE and SYMBOL behind the command, and what the words behind all others say as options.
-fn rule_words(words: &[String], behind: &[String]) -> Option<RuleWords>
+/// RULE and SYMBOL after the command, and what the words after all others say as options.
+fn rule_words(words: &[String], option_words: &[String]) -> Option<RuleWords>
     requires { 3 ≤ length words.now }
     ensures { result
-        ≡ spec.rule_words (map string_bytes words.now) (map string_bytes behind.now) }
+        ≡ spec.rule_words (map string_bytes words.now) (map string_bytes option_words.now) }
 {
     let rule = rule_named(word_at(words, 1))?;
-    let (symbol, options) = symbol_and_options(word_at(words, 2), behind)?;
+    let (symbol, options) = symbol_and_options(word_at(words, 2), option_words)?;
     Some(RuleWords {
         rule,
         symbol,

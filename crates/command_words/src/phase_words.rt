@@ -35,14 +35,14 @@ fn first_place_named(word: &str) -> Option<u32>
     unpadded_number(word, u32::MAX)
 }
 
-/// The text before its first `@`, and the text behind it.
+/// The text before its first `@`, and the text after it.
 fn cut_at_sign(text: &str) -> Option<(&str, &str)>
     ensures { option_map (λ cut. (cut.0.now, cut.1.now)) result ≡ spec.cut_at spec.is_at_sign text.now }
 {
     text.split_once('@')
 }
 
-/// The text before its first comma, and the text behind it.
+/// The text before its first comma, and the text after it.
 fn cut_at_comma(text: &str) -> Option<(&str, &str)>
     ensures cut { option_map (λ cut. (cut.0.now, cut.1.now)) result
         ≡ spec.cut_at spec.is_comma text.now }
@@ -83,7 +83,7 @@ fn phase_after(before: u32, part: &str) -> Option<Phase>
     None
 }
 
-/// The first part of a word, and what is behind its comma.
+/// The first part of a word, and what is after its comma.
 fn first_part(word: &str) -> (&str, Option<&str>)
     ensures parts { spec.parts_of word.now
         ≡ result.0.now ∷ spec.parts_after_first (option_map (λ rest. rest.now) result.1) }
@@ -95,8 +95,8 @@ fn first_part(word: &str) -> (&str, Option<&str>)
     }
 }
 
-/// The phases of a text, each following the one before it, and at most `most` of them; none are
-/// behind a word without a comma. They are put into a list, from the last on, once all of them
+/// The phases of a text, each following the one before it, and at most `most` of them; none
+/// follow a word without a comma. They are put into a list, from the last on, once all of them
 /// are read.
 fn phases_within(
     alloc: Global,

@@ -32,7 +32,7 @@ fn is_option(word: &str) -> bool
     }
 }
 
-/// The symbol that the word is: a name that does not begin with `-`. None exactly where it is none.
+/// The symbol that the word is: a name that does not begin with `-`. None exactly for any other.
 pub fn symbol_named(word: &str) -> Option<Name>
     ensures { result ≡ spec.symbol_named word.now }
 {

@@ -54,7 +54,7 @@ set-other xs ys n v x is ne = ap (λ (zs : List ℕ). number_at zs x) is ∙ get
 pub set-length : (xs ys : List ℕ) (n v : ℕ) → ys ≡ slice_set xs n v → length ys ≡ length xs
 set-length xs ys n v is = ap (λ (zs : List ℕ). length zs) is ∙ length-set {A = ℕ} xs n v
 
--- one list of pairs behind another
+-- one list of pairs after another
 pairs-append : (xs ys : List FillPair) → AllPairs FillPairsDiffer xs → AllPairs FillPairsDiffer ys → All (λ p. All (FillPairsDiffer p) ys) xs → AllPairs FillPairsDiffer (xs ++ ys)
 pairs-append [] ys p q h = q
 pairs-append (x ∷ xs) ys p q h =

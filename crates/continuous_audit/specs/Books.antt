@@ -71,6 +71,7 @@ abbrev pub resting_left_without_own : List Order → List Deal → ℕ → ℕ �
 resting_left_without_own orders deals own order = if order == own then 0
     else resting_left_before orders (traded_before orders deals) (suc (place_at orders own)) order
 
+-- the books after the record of an order, without this order
 abbrev pub AreBooksWithoutOwn : List Order → List Deal → ℕ → Books → Type 0
 AreBooksWithoutOwn orders deals order b =
     AreBooksOfAmounts orders (resting_left_without_own orders deals order) b

@@ -52,7 +52,7 @@ pub record AreEndingsDropped (endings : List OrderEnd) (start place : ℕ) : Typ
   pub inside : start ≤ length endings
   pub early : (i : ℕ) → i < start → i < length endings → ending_place_at endings i < place
 
--- those from one index on and below another come before a place, and no later one does
+-- those from one index on and below another come before a place, and the next one does not
 pub record AreEndingsBelow (endings : List OrderEnd) (start end upto : ℕ) : Type 0 where
   pub from : start ≤ end
   pub inside : end ≤ length endings

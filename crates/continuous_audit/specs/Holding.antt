@@ -53,7 +53,7 @@ after_fills left [] = []
 after_fills left (x ∷ xs) = if nat_lt 0 (left x.index)
     then record x { left = left x.index } ∷ xs else after_fills left xs
 
--- the list has the order, and not more than the book
+-- a list of what is left has a number for the order, at most what the book has
 pub record IsWithinBook (left : List ℕ) (r : Resting) : Type 0 where
   pub inside : r.index < length left
   pub most : number_at left r.index ≤ r.left

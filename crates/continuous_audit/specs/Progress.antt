@@ -66,6 +66,7 @@ pub record AreNumbersAtStart (count : ℕ) (numbers : DealingState) : Type 0 whe
   pub traded : numbers.running.traded.items ≡ replicate count 0
   pub added : numbers.running.added ≡ 0
 
+-- before the first of this many orders: no order has numbers yet, and the books are empty
 pub record IsFirstState (count : ℕ) (state : State) : Type 0 where
   pub numbers : AreNumbersAtStart count state.numbers
   pub books_so_far : AreEmptyBooks state.books_so_far

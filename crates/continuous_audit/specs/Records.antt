@@ -46,8 +46,7 @@ pub record AreLeftBefore (orders : List Order) (deals : List Deal) (m place : �
   pub is : (order : ℕ) → order < m → number_at left order ≡ left_before orders deals place order
 
 -- before the deals of an order: whether it entered, Before and Size of each order up to it, and
--- what
--- is left of the earlier ones
+-- what is left of the earlier ones
 pub record IsKnownBeforeDeals (orders : List Order) (deals : List Deal) (order : ℕ) (entered : Bool)
     (order_numbers : OrderNumbers) : Type 0 where
   pub arrived : entered ≡ has_entered orders deals order

@@ -11,7 +11,8 @@ use Rattle.audit_base.specs.Rules.{OnlyPair}
 use Rattle.audit_base.specs.Expected.{IsExpectedContinuous}
 use Rattle.continuous_laws.specs.Fills.{IsRanking, IsFill, share_by_rank}
 
--- 'one-step fill': the shares fill the lefts by rank up to the size, and no other numbers do
+-- 'one-step fill': the shares fill what is left of the resting orders by rank, up to the size,
+-- and no other numbers do
 abbrev pub OneStepFill : Type 0
 OneStepFill = (count : ℕ) (better : ℕ → ℕ → Bool) (left : ℕ → ℕ) (size : ℕ)
     → IsRanking count better

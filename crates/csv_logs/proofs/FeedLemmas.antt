@@ -44,7 +44,7 @@ later-line : (start : ℕ) (line : List ℕ) → 0 < start → line_at start lin
 later-line zero line h = absurd (omega (arith, h))
 later-line (suc start) line h = refl
 
--- an LF behind a place
+-- an LF after a place
 pub lf-drop : (n : ℕ) (text more : List ℕ) → n ≤ length text → list_any is_lf (drop n (text ++ 10 ∷ more)) ≡ true
 lf-drop zero [] more h = refl
 lf-drop zero (byte ∷ rest) more h = elim (cases_Bool (is_lf byte)) [
@@ -69,7 +69,7 @@ line_at-above : (start : ℕ) (line : List ℕ) → start ≤ (line_at start lin
 line_at-above zero line = omega arith
 line_at-above (suc start) line = omega arith
 
--- an LF behind a place stays there
+-- an LF after a place stays there
 lf-append : (text more : List ℕ) → list_any is_lf text ≡ true → list_any is_lf (text ++ more) ≡ true
 lf-append [] more e = absurd (cc e)
 lf-append (byte ∷ rest) more e = elim (cases_Bool (is_lf byte)) [
@@ -108,7 +108,7 @@ unfolding nonempty_lines
 full-front [] more w = (nonempty_lines more, refl)
 full-front (byte ∷ rest) more w = (filter is_nonempty_line (lines_with_offsets (length (byte ∷ rest)) (cut_lines more)), after-some (byte ∷ rest) more w (λ z. cc z))
 
--- no LF is behind the last one
+-- no LF is after the last one
 no-lf-behind : (n : ℕ) (lines rest : List ℕ) → length lines ≤ n → list_any is_lf rest ≡ false → list_any is_lf (drop n (lines ++ rest)) ≡ false
 no-lf-behind n [] rest h none = no-lf-drop n rest none
 no-lf-behind zero (byte ∷ lines) rest h none = absurd (omega (arith, h))
@@ -356,7 +356,7 @@ module _ {R : Type 0} (names : List (List ℕ)) (entry : List (List ℕ) → Res
       (is_said ∙ sym (unbroken-says header (without_cr line) (closed-unbroken (without_cr line) closed)) ∙ ap (line_says names entry header) (sym text))
       (ap is_nonempty_line stands ∙ ap not full)
 
--- a line was taken and then gone behind
+-- a line was taken, and the feed has gone past it
 pub takes-fields : {R : Type 0} (says : Result (Option R) Reason) (outcome : Result (Unit {0}) Reason) (before after : List R → Type 0) (start size offset offset' : ℕ) (header' : Bool) (bad' : Option BadPlace)
     → TakesFields says before after outcome → MovesPastLine outcome start size after offset offset' header' bad' → TakesLine says start size before offset after offset' header' bad'
 takes-fields (Ok new) outcome before after start size offset offset' header' bad' said moves =
@@ -395,7 +395,7 @@ goes-left stands_for feed old piece left goes log stood room = record {
   room = simp length-append (omega (arith, ap length goes.split, length-append goes.done left, room));
 }
 
--- a line has ended, and more of the text behind it was taken
+-- a line has ended, and more of the text after it was taken
 pub ends-lines : {R : Type 0} (names : List (List ℕ)) (entry : List (List ℕ) → Result R Reason) (before after : List R → Type 0) (line : List ℕ) (offset : ℕ) (header : Bool) (rest' : List ℕ) (offset' : ℕ) (header' : Bool) (bad' : Option BadPlace) (new : List ℕ → Type 0) (text left : List ℕ)
     → rest' ≡ [] → EndsLine names entry before line offset header after [] offset' header' bad' → TakesPiece (HasCsvFeedFields after names entry rest' offset' header' bad') new text left
     → EndsLines names entry before line offset header new text left
@@ -435,7 +435,7 @@ has-line names entry has_taken line offset header text has = record {
   room = omega (arith, has.room);
 }
 
--- the feed has room for the text behind a line that has ended
+-- the feed has room for the text after a line that has ended
 pub lines-room : {K R : Type 0} (names : List (List ℕ)) (entry : List (List ℕ) → Result R Reason) (has_taken : K → List R → Type 0) (feed : CsvFeed K) (before : List R → Type 0) (line : List ℕ) (offset : ℕ) (header : Bool) (text : List ℕ)
     → HasLines names entry before line offset header text → feed.rest.items ≡ [] → EndsLine names entry before line offset header (has_taken feed.entries) [] feed.offset feed.header feed.bad
     → HasRoom (IsCsvFeedOf has_taken names entry) feed text
@@ -486,7 +486,7 @@ module _ {R : Type 0} (names : List (List ℕ)) (entry : List (List ℕ) → Res
         (taken s.entries ((log ++ goes.done) ++ line) s.has is_open);
   }
 
-  -- a log with a line that has not ended and the text behind it is within the limit
+  -- a log with a line that has not ended and the text after it is within the limit
   pub goes-rooms : (bad : Option BadPlace) (piece left line later : List ℕ) → TakesPiece old (HasCsvFeedFields has_taken names entry rest offset header bad) piece left → is_some bad ≡ false
       → left ≡ line ++ 10 ∷ later → list_any is_lf line ≡ false → (front : List ℕ) → old front → length front + length piece ≤ longest_read
       → HasLines names entry has_taken (rest ++ line) offset header later

@@ -18,7 +18,7 @@ use Rattle.csv_logs.specs.OrderLines.{row_cancel, row_head, kind_form, row_limit
 use Rattle.csv_logs.specs.TradeLines.{row_parties, trade_of_row}
 use Rattle.csv_logs.proofs.ReadingLemmas.{log_sound}
 
--- what holds of every record that a column may lead to holds behind the column
+-- what holds of every record that a column may lead to holds after the column
 behind : {A B : Type 0} (P : B → Type 0) (a : Result A Reason) (next : A → Result B Reason) → ((x : A) → IfOk (next x) P) → IfOk (a >>= next) P
 behind P (Ok x) next each = each x
 behind P (Err why) next each = tt

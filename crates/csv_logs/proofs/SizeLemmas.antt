@@ -36,7 +36,7 @@ row-size row s rest read e = let same : (row, s, rest) ≡ read = cc e in ap (λ
 last-fields : (fields : List (List ℕ)) (field : List ℕ) (s : State) (rest : List ℕ) (read : Read) → Some (fields ++ field ∷ [], s, rest) ≡ Some read → length read.0 ≤ length fields + 1
 last-fields fields field s rest read e = omega (arith, row-size (fields ++ field ∷ []) s rest read e, length-append fields (field ∷ []))
 
--- nor does the LF behind a line with the end of the text
+-- nor does the LF after a line with the end of the text
 end-fields : (s : State) (fields : List (List ℕ)) (field : List ℕ) (read : Read) → next_record default_config s fields field (10 ∷ []) ≡ Some read → length read.0 ≤ length fields + 1
 unfolding next_record
 end-fields st.StartRecord fields field read e = absurd (cc e)

@@ -32,9 +32,11 @@ csv_read_of line =
 unfoldable pub line_fields : List ℕ → Row
 line_fields line = unwrap_or (option_map (λ read. read.0) (csv_read_of line)) []
 
+-- a printable ASCII byte: from space (0x20) to `~` (0x7E)
 abbrev pub is_printable : ℕ → Bool
 is_printable byte = nat_le 0x20 byte && nat_le byte 0x7E
 
+-- the byte is a double quote
 abbrev pub is_quote : ℕ → Bool
 is_quote byte = byte == 34
 
@@ -95,6 +97,7 @@ row_quantity number fields = in_column number (quantity_form (column_text number
 abbrev pub row_price : ℕ → Row → Result ℕ Reason
 row_price number fields = in_column number (price_form (column_text number fields))
 
+-- a column that must be empty
 abbrev pub row_blank : ℕ → Row → Result (Unit {0}) Reason
 row_blank number fields = in_column number (empty_form (column_text number fields))
 

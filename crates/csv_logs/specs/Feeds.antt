@@ -16,9 +16,11 @@ use Rattle.csv_logs.specs.Logs.{LogResult, read_lines, read_csv_log}
 abbrev pub TakenRecords : Type 0 → Type 1
 TakenRecords R = List R → Type 0
 
+-- for each state of a collector, what is said of the records that it was handed
 abbrev pub TakenRecordsBy : Type 0 → Type 0 → Type 1
 TakenRecordsBy K R = K → TakenRecords R
 
+-- the byte is a line feed
 abbrev pub is_lf : ℕ → Bool
 is_lf byte = byte == 10
 

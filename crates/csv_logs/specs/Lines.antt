@@ -31,13 +31,15 @@ cut_lines (byte ∷ rest) =
 abbrev pub without_cr : List ℕ → List ℕ
 without_cr line = if ends_with ◌==◌ line (13 ∷ []) then take (length line - 1) line else line
 
--- lines with their offsets, where the first one starts at `start` and each is followed by an LF
+-- lines with their offsets and without one CR at their ends, where the first one starts at
+-- `start` and each is followed by an LF
 abbrev pub lines_with_offsets : ℕ → List (List ℕ) → List Line
 lines_with_offsets start [] = []
 lines_with_offsets start (line ∷ lines) =
     record { start = start; text = without_cr line }
     ∷ lines_with_offsets (start + length line + 1) lines
 
+-- the line has at least one byte, not counting its end
 abbrev pub is_nonempty_line : Line → Bool
 is_nonempty_line line = not (length line.text == 0)
 

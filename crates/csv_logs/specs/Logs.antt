@@ -52,7 +52,7 @@ after_line before start (Ok entry) later = with_record_of_line entry later
 after_line before start (Err why) later =
     Err (record { place = before + 1; offset = start; reason = why })
 
--- the records of these lines, or the first of them that is none
+-- the records of these lines, or the first of them that is bad
 abbrev pub read_entries : {R : Type 0} → RowMeaning R → ℕ → List Line → LogResult R
 read_entries meaning before [] = Ok []
 read_entries meaning before (line ∷ lines) =
@@ -71,9 +71,11 @@ read_lines names meaning size (header ∷ lines) =
 unfoldable pub read_csv_log : {R : Type 0} → Row → RowMeaning R → List ℕ → LogResult R
 read_csv_log names meaning log = read_lines names meaning (length log) (nonempty_lines log)
 
+-- what a CSV order log says: its records, or its first bad place
 abbrev pub csv_order_records : List ℕ → Result (List OrderRecord) BadPlace
 csv_order_records log = read_csv_log order_columns order_of_row log
 
+-- what a CSV trade log says: its trades, or its first bad place
 abbrev pub csv_trade_records : List ℕ → Result (List TradeRecord) BadPlace
 csv_trade_records log = read_csv_log trade_columns trade_of_row log
 

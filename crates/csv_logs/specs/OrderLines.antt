@@ -13,6 +13,7 @@ use Rattle.csv_logs.specs.declared.orders.Kind.TheVariants as kind
 use Rattle.csv_logs.specs.declared.orders.Head.{Head}
 use Rattle.csv_logs.specs.Columns.{Row, column_text, in_column, ◌>>=◌, row_name, row_stamp, row_side, row_quantity, row_price, row_blank, row_key, HasKey, HasName, written_key}
 
+-- `N` for new, `X` for cancel, `R` for replace, `I` for immediate, `M` for market
 abbrev pub kind_of : ℕ → Option Kind
 kind_of letter =
     if letter == 78 then Some kind.New else if letter == 88 then Some kind.Cancel

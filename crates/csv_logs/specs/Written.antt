@@ -25,10 +25,12 @@ abbrev pub log_text : {R : Type 0} → Row → (R → Row) → List R → List �
 log_text names fields entries =
     csv_line_text names ++ flat_map (λ entry. csv_line_text (fields entry)) entries
 
+-- the side column: `B` for a bid, `S` for an ask
 abbrev pub row_side_text : Side → List ℕ
 row_side_text side.Buy = codes "B"
 row_side_text side.Sell = codes "S"
 
+-- the kind of a new order: `N` if it may rest, `I` if it is immediate, `M` if it is a market order
 abbrev pub kind_text : Life → List ℕ
 kind_text life.Rests = codes "N"
 kind_text life.Immediate = codes "I"

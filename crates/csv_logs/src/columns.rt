@@ -34,6 +34,7 @@ pub(crate) fn in_column<T>(number: u8, value: Option<T>) -> Result<T, Reason>
     value.ok_or(Reason::Column(number))
 }
 
+/// `B` for a bid, `S` for an ask, and nothing else.
 fn read_side(text: &[u8]) -> Option<Side>
     ensures { result ≡ row_side_form text.now }
 {
@@ -44,6 +45,7 @@ fn read_side(text: &[u8]) -> Option<Side>
     }
 }
 
+/// The form of a column that must be empty.
 fn read_empty(text: &[u8]) -> Option<()>
     ensures { result ≡ empty_form text.now }
 {
@@ -157,6 +159,7 @@ pub(crate) fn empty_at(number: u8, fields: &NineFields<'_>) -> Result<(), Reason
     in_column(number, read_empty(column_text(fields, number)))
 }
 
+/// Whether there is a field at this index, from 0 on, and it is this name.
 fn has_name(fields: &Fields, at: usize, name: &[u8]) -> bool
     ensures { IsTrue result ↔ (field_at fields.now at ≡ Some name.now) }
 {

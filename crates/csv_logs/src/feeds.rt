@@ -1,5 +1,5 @@
-//! Feeds: what takes a log piece by piece, keeps its records and the line that has not ended, and
-//! stops at the first bad line.
+//! Feeds: what takes a log piece by piece, hands on its records, keeps the line that has not
+//! ended, and stops at the first bad line.
 ghost use Rattle.std.specs.Prelude.{◌≡◌, ℕ, List, ◌+◌, ◌-◌, ◌<◌, ◌≤◌, ◌^◌, ◌++◌, ◌∷◌, [], All, IfErr, IfOk, IsTrue, OnOk, vec_len};
 ghost use Rattle.std.specs.List.{list_all};
 ghost use Rattle.log_source.specs.Feeds.{HasRoom};

@@ -1,6 +1,6 @@
-//! The fields of a line, and whether it is known that a name may have their bytes. They may on an
-//! unquoted line, whose bytes have all been looked at before `csv` reads it. So a name there is
-//! tested by its size alone.
+//! The fields of a line, and whether each of their bytes is known to be one that a name may hold.
+//! That is known of an unquoted line, whose bytes have all been tested before `csv` reads it: so
+//! a name there is tested by its size alone.
 ghost use Rattle.std.specs.Prelude.{◌≡◌, [], OnOk, IfOk, IsTrue, length, option_map};
 ghost use Rattle.std.specs.List.{list_all};
 ghost use Rattle.audit_base.specs.Names.{is_name_byte};

@@ -1,5 +1,5 @@
 //! Logs of an exchange as comma-separated values: the orders or the trades that they hold, or the
-//! first line that is none; and the same written.
+//! first bad line; and how such logs are written.
 //!
 //! `logs` reads a log that is there as a whole, `feeds` one that comes in pieces, and `writers`
 //! writes one; `laws` says that each log is read in one way, with numbers in range. A log is cut
@@ -8,7 +8,7 @@
 //! `audit_base`. What contracts say of lines, fields and logs is in `specs/`: `Lines` (how a log
 //! is cut), `Columns`, `OrderLines` and `TradeLines` (what nine fields mean), `Logs` (good and
 //! bad logs), `Feeds` (what a feed stands for) and `Written` (the canonical log); `Steps`,
-//! `Readers`, `FieldBytes` and `WrittenLines` have the words of private functions.
+//! `Readers`, `FieldBytes`, `NineFields` and `WrittenLines` have the words of private functions.
 #![tactic(auto)]
 
 mod columns;

@@ -162,11 +162,11 @@ pub(crate) enum FieldState {
     FieldStart,
     InField,
     InQuotes,
-    /// Behind a quote that closes a field, unless a second one follows.
+    /// After a quote that closes a field, unless a second one follows.
     AfterQuote,
 }
 
-/// The place behind a byte that is read outside of quotes.
+/// The place after a byte that is read outside of quotes.
 fn state_after_unquoted(state: FieldState, byte: u8) -> FieldState
     requires outside { IsTrue (not (is_quoted (state_of state))) }
     requires printable { IsTrue (is_printable byte) }
@@ -179,7 +179,7 @@ fn state_after_unquoted(state: FieldState, byte: u8) -> FieldState
     }
 }
 
-/// The place behind one more byte of a line. Most bytes of a quoted line are within quotes, where
+/// The place after one more byte of a line. Most bytes of a quoted line are within quotes, where
 /// only a quote is looked for.
 fn state_after(state: FieldState, byte: u8) -> FieldState
     requires { IsTrue (is_printable byte) }

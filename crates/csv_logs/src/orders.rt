@@ -42,6 +42,7 @@ pub(crate) struct Head {
     pub(crate) symbol: Name,
 }
 
+/// The kind that the one letter of column 1 says.
 fn read_kind(text: &[u8]) -> Option<Kind>
     ensures { result ≡ kind_form text.now }
 {
@@ -88,6 +89,7 @@ impl Terms {
     }
 }
 
+/// Columns 6 to 9 of an order with a limit: side, quantity and price, and no target.
 fn limit_terms(fields: &NineFields<'_>) -> Result<Terms, Reason>
     ensures read { IfOk result (λ terms. (head : Head) (life : Life)
         → row_limit_order head life fields.now ≡ Ok (csv_new_order head terms life)) }
@@ -101,6 +103,7 @@ fn limit_terms(fields: &NineFields<'_>) -> Result<Terms, Reason>
     Ok(Terms::of(side, quantity, price))
 }
 
+/// Columns 6 to 9 of a market order, which has the market price of its side.
 fn market_terms(fields: &NineFields<'_>) -> Result<Terms, Reason>
     ensures read { IfOk result (λ terms. (head : Head)
         → row_market_order head fields.now ≡ Ok (csv_new_order head terms Market)) }
@@ -113,6 +116,7 @@ fn market_terms(fields: &NineFields<'_>) -> Result<Terms, Reason>
     Ok(Terms::of(side, quantity, market_price(side)))
 }
 
+/// Columns 6 to 9 of a cancel: a target alone.
 fn test_cancel(fields: &NineFields<'_>) -> Result<(), Reason>
     ensures tests { (head : Head) → result ≡ test_result (row_cancel head fields.now) }
     ensures named { OnOk result (HasName 9 fields.now) }
@@ -126,6 +130,7 @@ fn test_cancel(fields: &NineFields<'_>) -> Result<(), Reason>
     test_name(9, fields)
 }
 
+/// Columns 6 to 9 of a replacement; its target is only tested here.
 fn replacement_terms(fields: &NineFields<'_>) -> Result<Terms, Reason>
     ensures named { OnOk result (HasName 9 fields.now) }
     ensures read { IfOk result (λ terms. (head : Head)
@@ -164,6 +169,7 @@ fn take_new<K: Collector<Entry = OrderRecord>>(
     })
 }
 
+/// Hands on a new order with a limit, or gives the first column that is not in its form.
 fn take_limit<K: Collector<Entry = OrderRecord>>(
     entries: &mut K,
     time: Stamp,
@@ -185,6 +191,7 @@ fn take_limit<K: Collector<Entry = OrderRecord>>(
     }
 }
 
+/// Hands on a market order, or gives the first column that is not in its form.
 fn take_market<K: Collector<Entry = OrderRecord>>(
     entries: &mut K,
     time: Stamp,
@@ -204,6 +211,7 @@ fn take_market<K: Collector<Entry = OrderRecord>>(
     }
 }
 
+/// Hands on a cancel, or gives the first column that is not in its form.
 fn take_cancel<K: Collector<Entry = OrderRecord>>(
     entries: &mut K,
     time: Stamp,
@@ -228,6 +236,7 @@ fn take_cancel<K: Collector<Entry = OrderRecord>>(
     }
 }
 
+/// Hands on a replacement, or gives the first column that is not in its form.
 fn take_replacement<K: Collector<Entry = OrderRecord>>(
     entries: &mut K,
     time: Stamp,
@@ -331,6 +340,7 @@ fn test_replacement(fields: &NineFields<'_>) -> Result<(), Reason>
     Ok(())
 }
 
+/// The tests of columns 6 to 9 alone, for an order of which no record is made.
 fn test_order_of_kind(kind: Kind, fields: &NineFields<'_>) -> Result<(), Reason>
     ensures { (head : Head) → result ≡ test_result (order_of_kind kind head fields.now) }
 {

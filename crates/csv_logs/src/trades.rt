@@ -14,6 +14,7 @@ use audit_base::stamp_reader::StampReader;
 use audit_base::stamps::Stamp;
 use log_source::collector::Collector;
 
+/// Whether columns 4 to 7 hold names: firm and id of the bid, then those of the ask.
 #[inline(always)]
 fn test_parties(fields: &NineFields<'_>) -> Result<(), Reason>
     ensures tests { result ≡ test_result (row_parties fields.now) }
@@ -25,7 +26,7 @@ fn test_parties(fields: &NineFields<'_>) -> Result<(), Reason>
     test_key(6, fields)
 }
 
-/// What a trade line says beside names.
+/// What a trade line says apart from names.
 #[derive(Clone, Copy)]
 pub(crate) struct TradeTerms {
     pub(crate) time: Stamp,
@@ -33,6 +34,7 @@ pub(crate) struct TradeTerms {
     pub(crate) price: Price,
 }
 
+/// Tests all nine columns in turn, and gives what they say apart from names.
 #[tactic(auto, unfolding(crate::specs::TradeLines::trade_of_row))]
 fn trade_terms(fields: &NineFields<'_>, stamps: &mut StampReader) -> Result<TradeTerms, Reason>
     ensures named { OnOk result (HasTradeNames fields.now) }

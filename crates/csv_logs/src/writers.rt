@@ -21,6 +21,7 @@ fn text_of<R: LogLine>(alloc: Global, entries: &[R]) -> Result<Vec<u8>, NoMemory
     text.end()
 }
 
+/// Appends the text of a log, which is made whole first, so that a failure leaves `out` as it was.
 fn append<R: LogLine>(alloc: Global, entries: &[R], out: &mut Vec<u8>) -> Result<(), NoMemory>
     ensures appended { let text = log_text R.names R.fields entries.now in
         OnOk result (out.new.items ≡ out.old.items ++ text) }

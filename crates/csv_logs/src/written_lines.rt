@@ -34,6 +34,7 @@ fn write_row<W: Write + Drop>(writer: &mut Writer<W>, fields: &[&[u8]]) -> Resul
     }
 }
 
+/// `B` for a bid, `S` for an ask.
 fn side_bytes(side: Side) -> &'static [u8]
     ensures { result.now ≡ row_side_text side }
 {
@@ -43,6 +44,7 @@ fn side_bytes(side: Side) -> &'static [u8]
     }
 }
 
+/// The letter of column 1 of a new order, by its life.
 fn kind_bytes(life: Life) -> &'static [u8]
     ensures { result.now ≡ kind_text life }
 {
@@ -53,6 +55,7 @@ fn kind_bytes(life: Life) -> &'static [u8]
     }
 }
 
+/// The price column, which a market order leaves empty.
 fn limit_bytes(alloc: Global, life: Life, price: Price) -> Result<Vec<u8>, NoMemory>
     ensures text { IfOk result (λ text. text.items ≡ limit_text life price) }
     ensures unquoted { IsTrue (list_all is_name_byte (limit_text life price)) }
@@ -65,6 +68,7 @@ fn limit_bytes(alloc: Global, life: Life, price: Price) -> Result<Vec<u8>, NoMem
     }
 }
 
+/// The line of a new order, of any life.
 fn write_new<W: Write + Drop>(
     alloc: Global,
     head: Head,
@@ -95,6 +99,7 @@ fn write_new<W: Write + Drop>(
     write_row(writer, &row)
 }
 
+/// The line of a cancel, whose columns 6 to 8 are empty.
 fn write_cancel<W: Write + Drop>(
     alloc: Global,
     head: Head,
@@ -122,6 +127,7 @@ fn write_cancel<W: Write + Drop>(
     write_row(writer, &row)
 }
 
+/// The line of a replacement.
 fn write_replace<W: Write + Drop>(
     alloc: Global,
     head: Head,

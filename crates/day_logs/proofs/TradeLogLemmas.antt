@@ -38,7 +38,7 @@ module _ (r : Reading) (share : DayShare) (admission : Admission) (trades : Sour
   trades-unread unread.TooLong is = (refl, is)
   trades-unread unread.Memory is = tt
 
--- the same of the order log, behind which the trade log is left alone
+-- the same of the order log, after which the trade log is left alone
 pub orders-unread : (r : Reading) (share : DayShare) (admission : Admission) (orders trades : Source) (why : Unread) → IsUnread (records_of_order_log orders.form) r Orders orders.name.now why → IsUntouched r Trades
     → GivesDayBeforeRuleOrStop r share admission orders trades (day_without_log Orders why)
 orders-unread r share admission orders trades (unread.Bad bad) is same = record { bytes = is.bytes; read = is.read; holds = rw is.holds (refl, same) }

@@ -86,7 +86,7 @@ fn answer_to<F: Shelf>(
 /// The verdicts on the symbols of a share of two logs, or why there are none. The order log is
 /// read first, piece by piece, and the trade log only where that is in its grammar; each is read
 /// once. What is kept is what a single audit keeps, of each symbol of the share, and of the others
-/// the name alone; what a symbol took is given back before the next is judged.
+/// the name alone; the memory of a symbol is freed before the next is judged.
 ///
 /// Both logs have one limit, the greatest number of bytes that each may have. Where that is
 /// `LONGEST_READ`, each place fits in 32 bits, since a record has at least nine bytes of its log.

@@ -78,8 +78,8 @@ fn judge_symbol(
 }
 
 /// The sessions of the symbols of a share, in their order: how many there are, and their lines,
-/// each with its symbol before it. `table` asks for the tables of symbols that conform. What a
-/// symbol took is given back before the next is judged.
+/// each with its symbol before it. `table` asks for the tables of symbols that conform. The memory
+/// of a symbol is freed before the next is judged.
 pub fn judge_sessions(
     alloc: Global,
     phases: &[Phase],

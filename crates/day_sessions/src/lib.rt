@@ -1,5 +1,5 @@
 //! The sessions of a day: each symbol of a share is judged by the phases of a trading day, as by
-//! itself, and what it took is given back before the next.
+//! itself, and its memory is freed before the next.
 #![tactic(auto)]
 
 pub mod answers;

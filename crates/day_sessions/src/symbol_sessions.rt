@@ -11,7 +11,7 @@ use session_audit::phases::Phase;
 use session_verdict::sessions::{Session, session_after};
 use std::alloc::Global;
 
-/// The session of a symbol of a day, by what is known of it. What it took is given back.
+/// The session of a symbol of a day, by what is known of it, whose memory is freed.
 pub fn session_of(
     alloc: Global,
     symbol: &Name,

@@ -13,12 +13,12 @@ use Rattle.day_symbols.specs.Kept.{AreForEach}
 use Rattle.day_symbols.proofs.PlaceLemmas.{IsIndexAt, got-left, got-last, index-at, place-at, place-more, place-same, place-is}
 use Rattle.day_symbols.proofs.SymbolLemmas.{same-is}
 
--- the same by the indices of all symbols: what is kept of a symbol of the share stands at its place
+-- the same by the indices of all symbols: what is kept of a symbol of the share is at its place
 pub record AreAtPlaces {X : Type 0} (P : List ℕ → X → Type 0) (share : DayShare) (symbols : List (List ℕ)) (kept : List X) : Type 0 where
   pub count : length kept ≡ index_in_share share (length symbols)
   pub each : (i : ℕ) (symbol : List ℕ) (one : X) → is_in_share share i ≡ true → slice_get symbols i ≡ Some symbol → slice_get kept (index_in_share share i) ≡ Some one → P symbol one
 
--- the symbol of an index of the share stands at its place
+-- the symbol of an index of the share is at its place
 shared-at : (share : DayShare) (symbols : List (List ℕ)) (i : ℕ) (symbol : List ℕ) → is_in_share share i ≡ true → slice_get symbols i ≡ Some symbol → slice_get (symbols_in share symbols) (index_in_share share i) ≡ Some symbol
 shared-at share symbols i symbol is got =
     slice_get-map (λ (index : ℕ). slice_index_or symbols index []) (indices_in share (length symbols)) (index_in_share share i)
@@ -79,7 +79,7 @@ one-place share i j is-i is-j same =
     let n : ℕ = i + j + 1 in
     same_Some i j (sym (place-at share n i is-i (omega arith)) ∙ ap (slice_get (indices_in share n)) same ∙ place-at share n j is-j (omega arith))
 
--- no symbol stands twice
+-- no symbol is there twice
 pub one-index : (symbols : List (List ℕ)) → AllPairs (λ (a b : List ℕ). a ≢ b) symbols → (i j : ℕ) (symbol : List ℕ) → slice_get symbols i ≡ Some symbol → slice_get symbols j ≡ Some symbol → i ≡ j
 one-index symbols once i j symbol got-i got-j = elim (cases_order i j) as (λ _. i ≡ j) [
   | inl same ↦ same
@@ -93,7 +93,7 @@ one-index symbols once i j symbol got-i got-j = elim (cases_order i j) as (λ _.
 abbrev pub OthersStay : {X : Type 0} → List ℕ → (List ℕ → X → Type 0) → (List ℕ → X → Type 0) → Type 0
 OthersStay {X} own P Q = (symbol : List ℕ) (one : X) → same_name own symbol ≡ false → P symbol one → Q symbol one
 
--- a name is another one, where it stands at another index
+-- a name is another one, where it is at another index
 other-index : (symbols : List (List ℕ)) → AllPairs (λ (a b : List ℕ). a ≢ b) symbols → (i j : ℕ) (own symbol : List ℕ) → slice_get symbols i ≡ Some own → slice_get symbols j ≡ Some symbol → (i ≡ j → ⊥) → same_name own symbol ≡ false
 other-index symbols once i j own symbol got-i got-j apart = go (same_name own symbol) refl
   where
@@ -155,7 +155,7 @@ met-outside {X} P share symbols kept more outside are = record {
     below : (i : ℕ) → (i ≡ length symbols → ⊥) → i ≤ length symbols → i < length symbols
     below i apart le = elim (cases_lt i (length symbols)) as (λ _. i < length symbols) [ inl less ↦ less | inr more ↦ absurd (apart (omega (arith, more, le))) ]
 
--- it is of the share, and what is kept of it stands last
+-- it is of the share, and what is kept of it comes last
 pub met-inside : {X : Type 0} (P : List ℕ → X → Type 0) (share : DayShare) (symbols : List (List ℕ)) (kept : List X) (more : List ℕ) (fresh : X)
     → is_in_share share (length symbols) ≡ true → P more fresh → AreAtPlaces P share symbols kept → AreAtPlaces P share (symbols ++ more ∷ []) (kept ++ fresh ∷ [])
 met-inside {X} P share symbols kept more fresh inside has are = record {

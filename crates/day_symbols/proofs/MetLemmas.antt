@@ -24,7 +24,7 @@ distinct-known names own is = distinct-more names own ∙ ap (λ (b : Bool). con
 distinct-new : (names : List (List ℕ)) (own : List ℕ) → list_any (same_name own) (distinct_names names) ≡ false → distinct_names (names ++ own ∷ []) ≡ distinct_names names ++ own ∷ []
 distinct-new names own is = distinct-more names own ∙ ap (λ (b : Bool). cond b (distinct_names names) (distinct_names names ++ own ∷ [])) is
 
--- one that stands at an index is among them
+-- one that is at an index is among them
 among-at : (symbols : List (List ℕ)) (own : List ℕ) (index : ℕ) → slice_get symbols index ≡ Some own → list_any (same_name own) symbols ≡ true
 among-at symbols own index got =
     list_any_at (same_name own) symbols index [] (slice_get_within symbols index own got) (is-same own _ (sym (get_or_from_slice_get symbols index own [] got)))
@@ -33,11 +33,11 @@ among-at symbols own index got =
 among-of : (symbols : List (List ℕ)) (own : List ℕ) → Contains symbols own → list_any (same_name own) symbols ≡ true
 among-of symbols own has = list_any_at (same_name own) symbols has.0 own has.1 (is-same own _ (sym has.2))
 
--- a name that is met again stands where it stood
+-- a name that is met again is where it was
 pub known-at : (names : List (List ℕ)) (own : List ℕ) (index : ℕ) → slice_get (distinct_names names) index ≡ Some own → distinct_names (names ++ own ∷ []) ≡ distinct_names names
 known-at names own index got = distinct-known names own (among-at (distinct_names names) own index got)
 
--- a name that was not met before stands last
+-- a name that was not met before comes last
 new-at : (names : List (List ℕ)) (own : List ℕ) (index : ℕ) → list_any (same_name own) (distinct_names names) ≡ false → slice_get (distinct_names (names ++ own ∷ [])) index ≡ Some own → index ≡ length (distinct_names names)
 new-at names own index is got =
     let last : slice_get (distinct_names (names ++ own ∷ [])) (length (distinct_names names)) ≡ Some own =

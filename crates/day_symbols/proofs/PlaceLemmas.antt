@@ -1,4 +1,4 @@
--- Where the symbols of a share stand among its symbols.
+-- The places of the symbols of a share among its symbols.
 use Rattle.std.proofs.Common.{◌≡◌, ◌<◌, ◌≤◌, ◌+◌, ◌-◌, ◌*◌, ◌/◌, ◌%◌, ◌==◌, inl, inr, ℕ, zero, suc, Bool, true, false, Some, List, [], ◌∷◌, ◌++◌, length, length-append, cond, refl, sym, ap, subst, ◌∙◌, append-nil, arith}
 use Rattle.std.specs.Prelude.{filter, slice_get}
 use Rattle.std.specs.List.{range_with_len}
@@ -26,7 +26,7 @@ passing-more p n =
 pub indices-more : (share : DayShare) (n : ℕ) → indices_in share (suc n) ≡ indices_in share n ++ cond (is_in_share share n) (n ∷ []) []
 indices-more share n = passing-more (is_in_share share) n
 
--- the next place, behind an index of the share and behind another one
+-- the next place, after an index of the share and after another one
 pub place-more : (share : DayShare) (n : ℕ) → is_in_share share n ≡ true → index_in_share share (suc n) ≡ index_in_share share n + 1
 place-more share n is = ap length (indices-more share n ∙ ap (λ (b : Bool). indices_in share n ++ cond b (n ∷ []) []) is) ∙ length-append (indices_in share n) (n ∷ [])
 
@@ -47,7 +47,7 @@ got-last (y ∷ ys) x = got-last ys x
 
 -- Indices and their places.
 
--- an index of the share stands at its place
+-- an index of the share is at its place
 pub place-at : (share : DayShare) (n i : ℕ) → is_in_share share i ≡ true → i < n → slice_get (indices_in share n) (index_in_share share i) ≡ Some i
 place-at share zero i is lt = absurd (omega (arith, lt))
 place-at share (suc n) i is lt = elim (cases_lt i n) as (λ _. slice_get (indices_in share (suc n)) (index_in_share share i) ≡ Some i) [
@@ -65,7 +65,7 @@ place-at share (suc n) i is lt = elim (cases_lt i n) as (λ _. slice_get (indice
       ∙ ap (λ (k : ℕ). Some k) (sym same)
 ]
 
--- the index is one of the share, below so many, and stands at this place
+-- the index is one of the share, below this count, and is at this place
 pub record IsIndexAt (share : DayShare) (n j i : ℕ) : Type 0 where
   pub shared : is_in_share share i ≡ true
   pub inside : i < n
@@ -91,7 +91,7 @@ index-behind share n j i true is before there = elim (cases_lt j (length (indice
       }
 ]
 
--- what stands at a place is an index of the share
+-- what is at a place is an index of the share
 pub index-at : (share : DayShare) (n j i : ℕ) → slice_get (indices_in share n) j ≡ Some i → IsIndexAt share n j i
 index-at share zero j i got = absurd (none-some i got)
 index-at share (suc n) j i got =
@@ -103,7 +103,7 @@ index-at share (suc n) j i got =
 abbrev count_leaving : ℕ → ℕ → ℕ → ℕ
 count_leaving w r n = length (filter (λ i. i % w == r) (range_with_len 0 n))
 
--- so many, each w apart, lead from r up to n
+-- this many steps of w lead from r up to n
 record AreBetween (w r n c : ℕ) : Type 0 where
   low : n ≤ c * w + r
   high : c * w + r < n + w

@@ -36,7 +36,7 @@ other-more : (name more : List ℕ) (kept : List (List ℕ)) (other : Bool) → 
     → filter (is_other name) (kept ++ more ∷ []) ≡ filter (is_other name) kept ++ cond other (more ∷ []) []
 other-more name more kept other is = filter-append (is_other name) kept (more ∷ []) ∙ ap (λ b. filter (is_other name) kept ++ cond b (more ∷ []) []) is
 
--- one name more behind a first one, by whether that is the same, and whether the other ones have it
+-- one name more after a first one, by whether that is the same, and whether the other ones have it
 more-behind : (name more : List ℕ) (kept : List (List ℕ)) (first among : Bool) → same_name more name ≡ first → list_any (same_name more) kept ≡ among
     → name ∷ filter (is_other name) (cond among kept (kept ++ more ∷ [])) ≡ with_name (name ∷ filter (is_other name) kept) more
 more-behind name more kept true true first-is among-is = rw first-is refl
@@ -80,7 +80,7 @@ kept-behind : {X : Type 0} (y : X) (rest : List X) (x : X) (kept : Bool) → Con
 kept-behind y rest x true has = Contains-append_right (y ∷ []) rest x has
 kept-behind y rest x false has = has
 
--- what passes a test is still there behind it
+-- what passes a test is still there after it
 has-kept : {X : Type 0} (test : X → Bool) (xs : List X) (x : X) → test x ≡ true → Contains xs x → Contains (filter test xs) x
 has-kept test [] x passes has = has
 has-kept {X} test (y ∷ ys) x passes has =

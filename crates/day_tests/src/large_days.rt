@@ -61,7 +61,7 @@ fn check_day(alloc: Global, text: &[u8]) -> Result<(), Fail> {
     for &(index, want) in &DAY_LINES {
         check_text("a line of the day", line_at(&lines, index), want.as_bytes())?;
     }
-    check_text("what is behind them", line_at(&lines, 20_001), b"")
+    check_text("what is after them", line_at(&lines, 20_001), b"")
 }
 
 /// Fails where the text of a share of three does not begin with this line, does not have this many
@@ -90,7 +90,7 @@ fn check_third(
         let in_day = line_at(&day, 1 + 2 * symbol + index % 2);
         check_text("a line of a share", line_at(&share, 1 + index), in_day)?;
     }
-    check_text("what is behind them", line_at(&share, 1 + 2 * symbols), b"")
+    check_text("what is after them", line_at(&share, 1 + 2 * symbols), b"")
 }
 
 #[test]
@@ -114,7 +114,7 @@ fn three_shares_of_ten_thousand_symbols(rt: HostRuntime) -> Result<(), Fail> {
     check_third(alloc, &day, &share, 2, "day,3333,3300,33,matching\n", 3_333)
 }
 
-/// An order log of 500 bids and 500 asks of Z, and of these records behind them.
+/// An order log of 500 bids and 500 asks of Z, and of these records after them.
 fn orders_of_one(alloc: Global, others: &str) -> Result<Vec<u8>, Fail> {
     let mut log = log_of(alloc, &[ORDERS])?;
     for number in 1..=500u32 {

@@ -33,7 +33,7 @@ const LINES_Y: &str = "Y,accepted,matching,Y\nY,totals,2,1,5\n";
 
 const LINES_Z: &str = "Z,accepted,matching,Z\nZ,totals,2,1,3\n";
 
-/// The records of two logs behind their first lines, and the text of the day.
+/// The records of two logs after their first lines, and the text of the day.
 #[derive(Clone, Copy)]
 struct Row {
     name: &'static str,

@@ -1,4 +1,4 @@
--- What is known of one symbol of a day, with one trade more, and what it comes to.
+-- What is known of one symbol of a day, with one trade more, and what it gives in the end.
 use Rattle.std.proofs.Common.{◌≡◌, ◌≤◌, ℕ, Bool, false, Option, Some, None, Ok, List, [], ◌∷◌, ◌++◌, All, length, append-nil, refl, sym, ap, subst, ◌∙◌, arith}
 use Rattle.std.specs.Prelude.{map}
 use Rattle.std.specs.List.{enumerate_from}

@@ -90,7 +90,7 @@ behind-at (y ∷ ys) x rest = behind-at ys x rest
 abbrev pub shared_symbols : DayShare → List OrderRecord → List TradeRecord → List (List ℕ)
 shared_symbols share entries trades = symbols_in share (symbols_of_day entries trades)
 
--- where the next symbol stands
+-- where the next symbol is
 pub record IsNext (share : DayShare) (ended : EndedTrades) (n : ℕ) (symbol_trades : SymbolTrades) (symbol : List ℕ) : Type 0 where
   pub symbol_trades_there : slice_get ended.symbols_trades.items n ≡ Some symbol_trades
   pub symbol_there : slice_get (symbols_in share ended.symbols) n ≡ Some symbol

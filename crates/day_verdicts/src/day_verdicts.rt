@@ -19,7 +19,7 @@ use record_verdict::questions::Question;
 use record_verdict::verdicts::verdict_after;
 use std::alloc::Global;
 
-/// The verdict on a symbol of a day, by what is known of it. What it took is given back.
+/// The verdict on a symbol of a day, by what is known of it, whose memory is freed.
 fn verdict_of(
     alloc: Global,
     question: &Question,
@@ -110,8 +110,8 @@ impl JudgedSymbols {
 }
 
 /// The verdicts of a rule on the symbols of a share, in their order: how many there are, and their
-/// lines, each with its symbol before it. `table` asks for the tables of accepted symbols. What a
-/// symbol took is given back before the next is judged.
+/// lines, each with its symbol before it. `table` asks for the tables of accepted symbols. The
+/// memory of a symbol is freed before the next is judged.
 pub fn judge_day(
     alloc: Global,
     rule: Rule,

@@ -39,7 +39,7 @@ use Rattle.desk_run.specs.Requests.{day_question, desk_command_of, share_or_whol
 abbrev pub desk_reading : {S : Type 0} → Shelf S → S → S → Reading
 desk_reading shelf old new = reading_within longest_read shelf old new
 
--- the words' logs, where these are under these names
+-- two logs as the words of a command name them: by these names, in their forms
 abbrev pub logs_named : Log → Log → List ℕ → List ℕ → DayLogs
 logs_named orders trades orders_name trades_name = record {
   orders = orders_name;

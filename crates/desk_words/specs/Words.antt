@@ -1,6 +1,6 @@
 -- What the words of a command line of `desk` without the program's name ask for, where they are
--- well-formed. The first word names the command; there is one definition a command of what its
--- words ask for.
+-- well-formed. The first word names the command; what the words of each command ask for has a
+-- definition of its own.
 use Rattle.std.specs.Prelude.{ℕ, Bool, not, ◌==◌, ◌&&◌, ◌||◌, Option, None, Some, List, [], ◌∷◌, length, drop, codes, nat_le, if◌then◌else◌, IsTrue}
 use Rattle.audit_base.specs.Least.{first_answer, only_if}
 use Rattle.audit_base.specs.RuleKinds.{has_table}
@@ -76,7 +76,7 @@ desk_asked_by command.Audit words = desk_audit_asked words
 desk_asked_by command.Session words = desk_session_asked words
 desk_asked_by command.Help words = help_asked words
 
--- what a word asks for that is no command and has no others beside it: `--help`, as `help`,
+-- what a word asks for that is no command and is the only word: `--help`, as `help`,
 -- and `--version`
 abbrev pub lone_word_asks : List ℕ → Option DeskRequest
 lone_word_asks word = first_answer (only_if (word_equals word (codes "--help")) (Help None)

@@ -141,7 +141,7 @@ fn help_request(words: &[String]) -> Option<DeskRequest>
     Some(DeskRequest::Help(Some(about)))
 }
 
-/// What a word asks for that is no command and has no others beside it. Takes no memory.
+/// What a word asks for that is no command and is the only word. Takes no memory.
 fn lone_word_request(word: &str) -> Option<DeskRequest>
     ensures request { result ≡ spec.lone_word_asks word.now }
     ensures asked { IfSome result spec.MayBeAskedOfDesk }

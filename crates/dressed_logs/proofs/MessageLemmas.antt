@@ -30,7 +30,7 @@ fed-cut framer text frames stands =
     ∙ ap (drop framer.next) (drop_at stands.before (bytes_held framer) framer.base stands.dropped) in
     sym (take-append-drop (count_framed framer) text) ∙ ap (λ (t : List ℕ). take (count_framed framer) text ++ t) rest
 
--- the bad message at this offset, behind these messages
+-- the bad message at this offset, after these messages
 abbrev bad_after : ℕ → List (List ℕ) → ℕ → FrameFault → BadMessage
 bad_after start frames at fault = record { place = length frames + 1; offset = start + at; fault = fault }
 

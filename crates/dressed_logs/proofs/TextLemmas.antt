@@ -14,7 +14,7 @@ pub any-headers : AreHeaders any_version
 unfolding any_version
 any-headers = record { some = omega arith; sized = refl; apart = refl }
 
--- the CR and LF that a text begins with, and what is behind them
+-- the CR and LF that a text begins with, and what is after them
 pub record Split (text : List ℕ) : Type 0 where
   pub gap : List ℕ
   pub breaks : list_all is_line_end_byte gap ≡ true
@@ -33,7 +33,7 @@ split-breaks (byte ∷ rest) = elim (cases_Bool (is_line_end_byte byte)) [
   | inr other ↦ record { gap = []; breaks = refl; whole = rw other refl }
 ]
 
--- what is behind them begins with another byte, where there is one
+-- what is after them begins with another byte, where there is one
 pub begins-past : (text more : List ℕ) → list_all is_line_end_byte text ≡ false → begins_past_breaks (after_breaks text ++ more) ≡ true
 begins-past [] more some = absurd (cc some)
 begins-past (byte ∷ rest) more some = elim (cases_Bool (is_line_end_byte byte)) [

@@ -46,7 +46,7 @@ frame-eight frame body is =
     let whole : frame ≡ is.head ++ ((is.length_digits ++ (1 ∷ body)) ++ checksum_field is.sum_digits) = is.whole ∙ simp append_assoc in
     (drop 1 is.head ++ ((is.length_digits ++ (1 ∷ body)) ++ checksum_field is.sum_digits), whole ∙ ap (λ (t : List ℕ). t ++ ((is.length_digits ++ (1 ∷ body)) ++ checksum_field is.sum_digits)) eight)
 
--- so a message is behind all CR and LF
+-- so a message is after all CR and LF
 pub frame-still : (frame body more : List ℕ) → IsFrameWith any_version frame body → after_breaks (frame ++ more) ≡ frame ++ more
 frame-still frame body more is =
     let eight = frame-eight frame body is in
@@ -58,7 +58,7 @@ breaks-over (byte ∷ gap) rest all =
     let both = and_parts (is_line_end_byte byte) (list_all is_line_end_byte gap) all in
     rw both.0 (breaks-over gap rest both.1)
 
--- no message begins at what is left, and it is behind all CR and LF
+-- no message begins at what is left, and it is after all CR and LF
 pub record IsStuck (left : List ℕ) : Type 0 where
   pub still : after_breaks left ≡ left
   pub none : frame_fault_with any_version left ≡ None → ⊥
@@ -85,7 +85,7 @@ pub record AreSame (frames others : List (List ℕ)) (left its : List ℕ) : Typ
   pub frames_are : frames ≡ others
   pub left_is : left ≡ its
 
--- a message in a text behind CR and LF
+-- a message in a text after CR and LF
 pub behind-gap : (front left gap frame body rest : List ℕ) → list_all is_line_end_byte gap ≡ true → IsFrameWith any_version frame body → front ≡ gap ++ (frame ++ rest) → after_breaks (front ++ left) ≡ frame ++ (rest ++ left)
 behind-gap front left gap frame body rest breaks is cut =
     let whole : front ++ left ≡ gap ++ (frame ++ (rest ++ left)) = ap (λ (t : List ℕ). t ++ left) cut ∙ simp append_assoc in

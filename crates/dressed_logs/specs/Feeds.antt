@@ -6,14 +6,14 @@ use Rattle.dressed_logs.specs.declared.messages.Messages.{Messages}
 use Rattle.dressed_logs.specs.Framed.{after_mark, mark_of}
 use Rattle.dressed_logs.specs.Messages.{IsMessagesOf}
 
--- the messages stand for this text, behind so many bytes of the day
+-- the messages stand for this text, which follows this many bytes of the day
 pub record AreMessagesAt {B : Type 0} (has_taken : B → List (List ℕ) → Type 0)
     (messages : Messages B) (start : ℕ) (text : List ℕ) : Type 0 where
   pub messages_of : IsMessagesOf has_taken messages text
   pub starts : messages.start ≡ start
 
 -- The feed stands for this day: it holds the first three bytes, and as long as there are fewer,
--- nothing was read. From then on what is behind the mark was read.
+-- nothing was read. From then on what is after the mark was read.
 pub record IsFramedFeedOf {B : Type 0} (has_taken : B → List (List ℕ) → Type 0)
     (feed : FramedFeed B) (day : List ℕ) : Type 0 where
   pub front : feed.front.items ≡ take 3 day

@@ -24,7 +24,7 @@ abbrev pub begins_past_breaks : List ℕ → Bool
 begins_past_breaks [] = false
 begins_past_breaks (byte ∷ rest) = not (is_line_end_byte byte)
 
--- The message is bad: behind messages, and CR and LF, comes another byte at which no message
+-- The message is bad: after messages, and CR and LF, comes another byte at which no message
 -- begins. The place is one more than the number of messages before it, the offset that of this
 -- byte, where `start` bytes are before the text, and the fault the first test that fails there.
 pub record IsBadText (start : ℕ) (text : List ℕ) (bad : BadMessage) : Type 0 where
@@ -50,7 +50,7 @@ mark_of day = if starts_with nat_eq day mark then mark else []
 abbrev pub after_mark : List ℕ → List ℕ
 after_mark day = drop (length (mark_of day)) day
 
--- The reading of a framed day: the bodies of its messages, behind a mark at its start, or its
+-- The reading of a framed day: the bodies of its messages, after a mark at its start, or its
 -- first bad message.
 abbrev pub IsFramedReading : List ℕ → Result (List (List ℕ)) BadMessage → Type 0
 IsFramedReading day reading =

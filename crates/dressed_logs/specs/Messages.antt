@@ -11,7 +11,8 @@ use Rattle.dressed_logs.specs.declared.faults.BadMessage.{BadMessage}
 use Rattle.dressed_logs.specs.declared.messages.Messages.{Messages}
 use Rattle.dressed_logs.specs.Framed.{bodies_of, IsBadText}
 
--- The framer stands for this text with some messages, so many, and their bodies were handed on.
+-- The framer stands for this text with some messages, `count` of them, and their bodies were
+-- handed on.
 pub record HasReadMessages (has_taken : List (List ℕ) → Type 0) (framer : Framer AnyVersion)
     (count : ℕ) (text : List ℕ) : Type 0 where
   pub frames : List (List ℕ)

@@ -10,7 +10,7 @@ pub record HasFront {B : Type 0} (has_taken : B → List (List ℕ) → Type 0) 
   pub three : length feed.front.items ≡ 3
   pub nothing : AreMessagesAt has_taken feed.messages 0 []
 
--- what is behind a mark in these three bytes was read
+-- what is after a mark in these three bytes was read
 pub record BeginsDay {B : Type 0} (has_taken : B → List (List ℕ) → Type 0)
     (old new : FramedFeed B) : Type 0 where
   pub front : new.front ≡ old.front
@@ -18,7 +18,7 @@ pub record BeginsDay {B : Type 0} (has_taken : B → List (List ℕ) → Type 0)
       AreMessagesAt has_taken new.messages (length (mark_of old.front.items))
       (after_mark old.front.items)
 
--- what is behind a mark was read of each day
+-- what is after a mark was read of each day
 abbrev pub HasWholeFront : {B : Type 0} → (B → List (List ℕ) → Type 0) → FramedFeed B
     → FramedFeed B → Type 0
 HasWholeFront has_taken old new =

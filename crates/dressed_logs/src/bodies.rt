@@ -5,7 +5,7 @@ ghost use Rattle.log_source.specs.Handing.{HandsOnMore};
 use audit_base::faults::NoMemory;
 
 /// What is handed the bodies of messages in order, one by one, so that nothing of a day need be
-/// kept but what the taker keeps. A body is what stands between BodyLength (9) and CheckSum (10).
+/// kept but what the taker keeps. A body is what is between BodyLength (9) and CheckSum (10).
 pub trait Bodies: Drop {
     // The taker has been handed exactly these bodies.
     ghost has_taken: { Self → List (List ℕ) → Type 0 };

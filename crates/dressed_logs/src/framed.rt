@@ -25,7 +25,7 @@ const MARK: [u8; 3] = [0xEF, 0xBB, 0xBF];
 pub struct FramedFeed<B> {
     /// The first three bytes of the day, or as many as have come.
     front: Vec<u8>,
-    /// The messages of the text behind the mark, once three bytes have come.
+    /// The messages of the text after the mark, once three bytes have come.
     messages: Messages<B>,
 }
 

@@ -1,9 +1,9 @@
-//! The taker of the tests, and their messages.
+//! The taker of bodies that the tests use.
 use crate::bodies::Bodies;
 use audit_base::faults::NoMemory;
 use std::alloc::Global;
 
-/// The bodies, each with `;` behind it.
+/// The bodies, each with `;` after it.
 #[derive(Drop)]
 pub struct Joined {
     pub text: Vec<u8>,

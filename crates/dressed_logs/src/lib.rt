@@ -1,9 +1,9 @@
-//! The messages of a day in a dress that FIX logs often have: FIX 4.0 to 4.4 and FIXT 1.1, message
-//! by message, from pieces to bodies.
+//! The messages of a day in a form that FIX logs often have: FIX 4.0 to 4.4 and FIXT 1.1, each
+//! message of its own version, read from pieces to bodies.
 //!
-//! `framed` reads messages one after another, as in a FIX log, behind a byte order mark. It hands
-//! each body to a taker (`bodies`), and says at the end that this was all, or which message is the
-//! first bad one (`faults`). `laws` has what holds of every day.
+//! `framed` reads messages one after another, as in a FIX log, after a byte order mark if there is
+//! one. It hands each body to a taker (`bodies`), and says at the end that this was all, or which
+//! message is the first bad one (`faults`). `laws` has what holds of every day.
 #![tactic(auto)]
 
 mod beginnings;

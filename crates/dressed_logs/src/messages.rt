@@ -33,7 +33,7 @@ pub(crate) struct Messages<B> {
     bad: Option<BadMessage>,
 }
 
-// The bad message at this offset of the text, behind so many messages.
+// The bad message at this offset of the text, after this many messages.
 fn bad_at(start: u8, count: u32, at: u64, fault: FrameFault) -> BadMessage
     requires place { count + 1 < 2 ^ 32 }
     requires offset { at < 2 ^ 63 }

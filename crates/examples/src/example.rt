@@ -11,7 +11,7 @@ use std::{fs, io};
 /// More bytes than an example's report has.
 const ROOM: usize = 65_536;
 
-/// The words of a line, which spaces part.
+/// The words of a line, split at spaces.
 fn words_of(alloc: Global, line: &str) -> io::Result<Vec<String>> {
     let mut words = Vec::new(alloc);
     for word in line.split_ascii_whitespace() {

@@ -27,7 +27,7 @@ any_counts p [] = refl
 any_counts p (x ∷ xs) =
     any_step (p x) (count_by p xs) (list_any p xs) (any_counts p xs) ∙ ap (ltb 0) (sym (sum_by-cons (λ y. cond (p y) 1 0) x xs))
 
--- the elements that pass are the first one, and those behind it
+-- the elements that pass are the first one, and those after it
 count_from_first : {X : Type 0} (p : X → Bool) (xs : List X) (d : X) (i : ℕ) → position p xs ≡ Some i → count_by p xs ≡ 1 + count_by p (drop (i + 1) xs)
 count_from_first {X} p xs d i h =
     let first = first_is p xs i h in
@@ -47,7 +47,7 @@ count_from_first {X} p xs d i h =
 any_field : Field
 any_field = record { tag = 0; from = 0; to = 0 }
 
--- a tag that occurs behind its first place occurs more than once
+-- a tag that occurs after its first place occurs more than once
 pub found_many : (fields : List Field) (tag i : ℕ) → position (has_tag tag) fields ≡ Some i → list_any (has_tag tag) (drop (i + 1) fields) ≡ true → search_for_tag fields tag ≡ Many i
 found_many fields tag i h more =
     let count = count_from_first (has_tag tag) fields any_field i h in

@@ -49,7 +49,7 @@ one_field before f g x y p q e =
     let values = same_value before f.tag f.value g.value x y p.value_form form tags.1 in
     (λ i. record { tag = tags.0 i; value = values.0 i }, values.1)
 
--- where a tag and `=` are at the front, and behind them no value for it, no field is
+-- where a tag and `=` are at the front, and after them no value for it, no field is
 pub no_value : (before : Option TagValue) (bytes rest : List ℕ) (tag : ℕ) → IsTag tag → bytes ≡ decimal tag ++ 61 ∷ rest
     → ((value more : List ℕ) → HasForm before tag value → rest ≢ value ++ 1 ∷ more) → NoField before bytes
 no_value before bytes rest tag is e none field more form here =

@@ -33,7 +33,7 @@ module _ (body : List ℕ) where
   as-before : Option Field → Option TagValue
   as-before before = option_map (tag_value_of body) before
 
-  -- a value has its form behind a field exactly where it has it behind that field as one that counts
+  -- a value has its form after a field exactly where it has it after that field as one that counts
   form-by : (b : Bool) (before : Field) (tag : ℕ) (value : List ℕ) → is_length_tag before.tag ≡ b
       → HasForm (option_map (tag_value_of body) (cond b (Some before) None)) tag value → HasForm (Some (tag_value_of body before)) tag value
   form-by true before tag value is form = form
@@ -54,7 +54,7 @@ module _ (body : List ℕ) where
   form-counted None tag value form = form
   form-counted (Some before) tag value form = form-of (is_length_tag before.tag) before tag value refl form
 
-  -- so a field begins behind the one exactly where it begins behind the other
+  -- so a field begins after the one exactly where it begins after the other
   pub begins-behind : (before counter : Option Field) (at : ℕ) (field : Field) → counter ≡ counter_of before
       → IsFieldAt body at (option_map (tag_value_of body) counter) field → IsFieldAt body at (option_map (tag_value_of body) before) field
   begins-behind before counter at field is begins =
@@ -146,7 +146,7 @@ hands-untyped has_taken body counter at h end untyped =
     let forms = h.read.forms in
     record { fields = tag_values_of body h.fields; bytes = bytes; forms = forms; untyped = sym (untyped (tag_values_of body h.fields) bytes forms) }
 
--- where no field can be read behind them
+-- where no field can be read after them
 pub hands-stuck : (has_taken : List Field → Type 0) (body : List ℕ) (counter : Option Field) (at : ℕ) → Hands has_taken body counter at → at < length body
     → NoField (option_map (tag_value_of body) counter) (drop at body) → IsUnreadable body at
 hands-stuck has_taken body counter at h low none = record {

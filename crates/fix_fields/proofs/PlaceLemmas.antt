@@ -5,7 +5,7 @@ use Rattle.std.proofs.lemmas.Bool.{cases_Bool, cases_lt}
 use Rattle.memchr.specs.Find.{IsFirst, IsFirstByte, Nowhere, Passes, TakesFirst, places, places_from}
 
 module _ (test : ℕ → Bool) (hay : List ℕ) where
-  -- where a place fails, the first one is that of the places behind it
+  -- where a place fails, the first one is that of the places after it
   pub fails-here : (i j : ℕ) → test (get_or hay i 0) ≡ false → Nowhere (Passes test hay) (i + 1) j → Nowhere (Passes test hay) i j
   fails-here i j fails none k low high passes = elim (cases_lt i k) [
     | inl later ↦ none k (omega (arith, later)) high passes

@@ -10,7 +10,7 @@ use Rattle.fix_fields.specs.FieldAt.{IsTagAt}
 use Rattle.fix_fields.specs.Forms.{tag_form}
 use Rattle.fix_fields.proofs.TagLemmas.{form_of, tag_form-some, tag_split}
 
--- a text that is a tag, and `=` behind it
+-- a text that is a tag, and `=` after it
 is-tag-at : (bytes : List ℕ) (size tag : ℕ) → size < length bytes → get_or bytes size 0 ≡ 61 → tag_form (take size bytes) ≡ Some tag → IsTagAt bytes tag (size + 1)
 is-tag-at bytes size tag low here form =
     let some = tag_form-some (take size bytes) tag form in

@@ -14,8 +14,8 @@ pub(crate) fn ends_of<'b>(body: &'b [u8]) -> Memchr<'b>
     memchr_iter(SOH, body)
 }
 
-/// The SOH bytes of the body that the first bytes of a text are. Where the last of them is SOH,
-/// those behind the body are given too and never asked for: with more bytes behind it, the last
+/// The SOH bytes of the body that the first `size` bytes of a text are. Where the last of these is
+/// SOH, those after the body are given too and never asked for: with more bytes after it, the last
 /// SOH bytes of the body are found as fast as the others.
 pub(crate) fn ends_of_front<'b>(text: &'b [u8], size: usize) -> Memchr<'b>
     requires { size ≤ length text.now }
@@ -28,7 +28,7 @@ pub(crate) fn ends_of_front<'b>(text: &'b [u8], size: usize) -> Memchr<'b>
     }
 }
 
-/// The first SOH at the byte `at` or behind it. Those before it are passed over.
+/// The first SOH at the byte `at` or after it. Those before it are passed over.
 #[inline(always)]
 pub(crate) fn next_end(body: &[u8], ends: &mut Memchr<'_>, at: usize) -> Option<usize>
     requires { SeeksEnd body.now at ends.old }

@@ -6,7 +6,7 @@ use std::alloc::AllocFailed;
 use thiserror::Error;
 
 /// A field of a body: its tag, and the bytes of the body in which its value is, from the byte
-/// `from` on and up to the byte `to`, which is the SOH behind it. Bytes are counted from 0.
+/// `from` on and up to the byte `to`, which is the SOH after it. Bytes are counted from 0.
 #[derive(Clone, Copy, Debug, PartialEq, Eq)]
 pub struct Field {
     pub tag: u32,

@@ -34,7 +34,7 @@ pub fn length_tag(data_tag: u32) -> Option<u32>
     }
 }
 
-/// Whether a field with this tag may count the data field behind it.
+/// Whether a field with this tag may give the length of the data field after it.
 #[inline(always)]
 pub fn is_length(tag: u32) -> bool
     ensures { result ≡ is_length_tag tag }

@@ -26,7 +26,7 @@ const MSG_TYPE: u32 = 35;
 ///
 /// A body is fields `tag=value` SOH one after another, the first with tag 35 (FIX 4.4, field
 /// syntax). A tag has 1 to 9 digits and no leading zero. A value is one or more bytes without SOH,
-/// but that of a data field right behind its length field is as many bytes as that field says in
+/// but that of a data field right after its length field is as many bytes as that field says in
 /// 1 to 7 digits, whatever they are.
 ///
 /// `Field` gives the byte at which the first field begins that can't be read in this way.
@@ -51,7 +51,7 @@ pub fn fields(alloc: Global, body: &[u8]) -> Result<Vec<Field>, FieldFault>
 }
 
 /// Reads the fields of a body, as `fields` does, into a list that may be used again for the next
-/// body: what it held is dropped, and its room stays. After a fault it is empty.
+/// body: what it held is dropped, and its capacity is kept. After a fault it is empty.
 pub fn read_fields(body: &[u8], list: &mut Vec<Field>) -> Result<(), FieldFault>
     requires { length body.now ≤ longest_body }
 
@@ -70,7 +70,7 @@ pub fn read_fields(body: &[u8], list: &mut Vec<Field>) -> Result<(), FieldFault>
 }
 
 /// Reads the fields of the body that the first `size` bytes of a text are, as `read_fields` does.
-/// The bytes behind the body change nothing: where there are some, the last fields of the body
+/// The bytes after the body change nothing: where there are some, the last fields of the body
 /// are found as fast as the others.
 pub fn read_front_fields(text: &[u8], size: usize, list: &mut Vec<Field>) -> Result<(), FieldFault>
     requires inside { size ≤ length text.now }
@@ -184,7 +184,7 @@ fn hand_fields<T: FieldTaker>(
     }
 }
 
-/// The field, if its value may count the one behind it.
+/// The field, if its value may be the length of the field after it.
 #[inline(always)]
 fn counter_of(field: Field) -> Option<Field>
     ensures { result ≡ counter_of (Some field) }

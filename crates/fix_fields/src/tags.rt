@@ -8,7 +8,7 @@ ghost use Rattle.fix_fields.specs.FieldAt.{IsTagAt, is_equals_sign};
 
 use audit_base::digits::read_digits;
 
-/// The most bytes of a tag with the `=` behind it.
+/// The most bytes of a tag with the `=` after it.
 const MOST_BYTES: usize = 10;
 
 /// What the codes of two digits `0` give as tens and ones, which is taken off once.

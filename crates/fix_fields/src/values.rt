@@ -1,4 +1,4 @@
-//! The value of a field, and the SOH behind it.
+//! The value of a field, and the SOH after it.
 ghost use Rattle.std.specs.Prelude.{◌≡◌, ◌≤◌, ◌+◌, Some, length, take, drop, IfSome, IfNone};
 ghost use Rattle.std.specs.Option.{option_map, ForSome};
 ghost use Rattle.audit_base.specs.Sizes.{soh};
@@ -45,7 +45,7 @@ pub fn value_size(
     }
 }
 
-/// The same of a data field behind a length field with the value `count`. It is apart, since most
+/// The same of a data field after a length field with the value `count`. It is apart, since most
 /// fields are no data fields.
 #[cold]
 #[inline(never)]
@@ -63,7 +63,7 @@ fn data_size(count: &[u8], bytes: &[u8]) -> Option<usize>
     }
 }
 
-/// How far the first SOH at the byte `from` or behind it is from there.
+/// How far the first SOH at the byte `from` or after it is from there.
 #[inline(always)]
 fn first_soh(body: &[u8], from: usize, ends: &mut Memchr<'_>) -> Option<usize>
     requires from { from ≤ length body.now }

@@ -19,7 +19,7 @@ prefix_len-stop p (x ∷ xs) y ys each stop =
     let both = and_parts (p x) (list_all p xs) each in
     let more = prefix_len-stop p xs y ys both.1 stop in rw both.0 (omega arith)
 
--- what is behind the header
+-- what follows the header
 pub Reads-rest : (r h ds b tail : List ℕ) → Reads r h ds b tail → drop (length h) r ≡ ds ++ (1 ∷ (b ++ tail))
 Reads-rest r h ds b tail reads =
     let regrouped : before_checksum h ds b ++ tail ≡ h ++ (ds ++ (1 ∷ (b ++ tail))) = simp append_assoc in
@@ -59,7 +59,7 @@ Reads-tail r h ds b tail reads =
     let place = Reads-trailer r h ds b tail reads in
     rw place (rw reads.whole (drop_at (before_checksum h ds b) tail (length (before_checksum h ds b)) refl))
 
--- behind the SOH that ends the length
+-- after the SOH that ends the length
 pub Reads-behind : (r h ds b tail : List ℕ) → Reads r h ds b tail → drop (body_place (length h) r) r ≡ b ++ tail
 Reads-behind r h ds b tail reads =
     let place = Reads-body r h ds b tail reads in

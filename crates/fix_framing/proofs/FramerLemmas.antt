@@ -19,7 +19,7 @@ use Rattle.fix_framing.proofs.HeaderLemmas.{nothing-begins, nothing-ends}
 use Rattle.fix_framing.proofs.StayLemmas.{Truncated-bound}
 use Rattle.fix_framing.proofs.TestLemmas.{some-from_FaultCase, second}
 
--- CR and LF alone are passed over whole, and what is behind them stays
+-- CR and LF alone are passed over whole, and what is after them stays
 pub breaks-none : (r : List ℕ) → list_all is_line_end_byte r ≡ true → after_breaks r ≡ []
 breaks-none [] h = refl
 breaks-none (x ∷ xs) h =
@@ -90,7 +90,7 @@ fed-range : (before items fed : List ℕ) (base i k : ℕ) → length before ≡
 fed-range before items fed base i k dropped whole =
     ap (λ (m : ℕ). take k (drop (m + i) fed)) (sym dropped) ∙ (ap (λ xs. take k (drop (length before + i) xs)) whole ∙ ap (λ xs. take k xs) (drop-append-add before items i))
 
--- what stands for the bytes up to a place behind CR and LF
+-- what stands for the bytes up to a place after CR and LF
 framed-to : {H : Type 0} (hs : List (List ℕ)) (framer : Framer H) (fed : List ℕ) (frames : List (List ℕ)) (stands : IsFramerWith hs framer fed frames) (at : ℕ) → framer.next ≤ at → list_all is_line_end_byte (slice_range (bytes_held framer) framer.next at) ≡ true → IsFramedWith hs (stands.before ++ take at (bytes_held framer)) frames
 framed-to hs framer fed frames stands at low breaks =
     let front = fed-front stands.before (bytes_held framer) fed framer.base framer.next stands.dropped stands.whole in
@@ -195,7 +195,7 @@ pub unfinished-cut : {H : Type 0} (hs : List (List ℕ)) (framer : Framer H) →
 unfinished-cut hs framer are (inl breaks) = breaks-cut hs (bytes_unframed framer) are breaks
 unfinished-cut hs framer are (inr cut) = cut
 
--- a byte behind CR and LF is left where a text isn't these alone
+-- a byte after CR and LF is left where a text isn't these alone
 pub others-left : (xs : List ℕ) (i at : ℕ) → i ≤ at → at < length xs → is_line_end_byte (get_or xs at 0) ≡ false → list_all is_line_end_byte (drop i xs) ≡ true → ⊥
 others-left xs i at low inside other breaks =
     let pass = AllPass-from_list_all is_line_end_byte (drop i xs) breaks (at - i) 0 (omega (arith, length-drop i xs)) in

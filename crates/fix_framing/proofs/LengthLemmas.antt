@@ -89,7 +89,7 @@ fault-other n r more other =
     let bad = or_right (length (length_digits n r) == 0) _ (not_from_false (slice_index r (n + length (length_digits n r)) == 1) (ne_eqb (slice_index r (n + length (length_digits n r))) 1 here)) in
     choose-bad (has_long_length n r) (ends_in_length n r) (has_bad_length n r) (ne_eqb (length r) (n + length (length_digits n r)) (λ e. omega arith)) (or_left _ (nat_lt 1048576 (body_size n r)) bad)
 
--- the ten bytes behind the header
+-- the ten bytes after the header
 abbrev pub window_of : ℕ → List ℕ → List ℕ
 window_of n r = take 10 (drop n r)
 
@@ -129,7 +129,7 @@ none-cut n r inside few each =
     let most = length-window n r in
     fault-cut n r (omega arith) (omega arith)
 
--- SOH behind something that isn't all digits
+-- SOH after something that isn't all digits
 pub some-part : (n : ℕ) (r : List ℕ) (d : ℕ) → NoneBefore (Passes (is_byte 1) (window_of n r)) 0 (length (window_of n r)) d → list_all is_ascii_digit (take d (window_of n r)) ≡ false → first_failing (length_tests n r) ≡ Some Length
 some-part n r d first part =
     let shorter = prefix_len-part is_ascii_digit (take d (window_of n r)) part in
@@ -141,7 +141,7 @@ some-part n r d first part =
     let below : count_of n r < d = omega arith in
     other-in-window n r (omega arith) (first.before (count_of n r) (omega arith) below)
 
--- SOH behind digits
+-- SOH after digits
 pub some-field : (n : ℕ) (r : List ℕ) (d : ℕ) → NoneBefore (Passes (is_byte 1) (window_of n r)) 0 (length (window_of n r)) d → Passes (is_byte 1) (window_of n r) d → 0 < d → list_all is_ascii_digit (take d (window_of n r)) ≡ true → IsLengthField (drop n r) d
 some-field n r d first soh some each =
     let most = length-window n r in

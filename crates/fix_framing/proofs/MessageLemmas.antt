@@ -215,7 +215,7 @@ NoFault-IsFrame hs r tests =
       summed = value ∙ ap (λ ys. sum ys % 256) summed;
     }
 
--- the message at a place, by the places found behind it
+-- the message at a place, by the places found after it
 pub found-at : (hs : List (List ℕ)) (bytes : List ℕ) (at b t : ℕ) → at ≤ length bytes → frame_fault_with hs (drop at bytes) ≡ None → b ≡ body_place (header_size hs (drop at bytes)) (drop at bytes) → t ≡ trailer_place (header_size hs (drop at bytes)) (drop at bytes) → IsFrameAt hs bytes at (record { start = at; body = at + b; end = at + t + 7 })
 found-at hs bytes at b t inside none body place =
     let m = header_size hs (drop at bytes) in

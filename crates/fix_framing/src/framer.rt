@@ -24,7 +24,8 @@ pub enum Step {
     Whole { start: u64, body: usize, to: usize },
     /// The next message isn't all there, or there is none.
     Wait,
-    /// At the offset `at` in all bytes fed, behind CR and LF bytes, the first test fails.
+    /// At the offset `at` in all bytes fed, after CR and LF bytes, no message begins: `fault` is
+    /// the first test that fails there.
     Fault { at: u64, fault: FrameFault },
 }
 
@@ -123,7 +124,7 @@ impl<H: Headers> Framer<H> {
     }
 
     /// Whether all bytes fed are framed, but for CR and LF bytes: else the offset of the first byte
-    /// of the unfinished message, behind these.
+    /// of the unfinished message, after these.
     pub fn finish(&self) -> Result<(), u64>
         ensures ok { IsOk result ↔ IsTrue (list_all is_line_end_byte (bytes_unframed self.now)) }
         ensures err { IfErr result (IsNextOffset H.headers self.now) }

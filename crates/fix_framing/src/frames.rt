@@ -23,9 +23,9 @@ use thiserror::Error;
 pub struct Frame {
     /// The place of its first byte, the `8` of BeginString (8).
     pub start: usize,
-    /// The place of the first byte of its body, behind the SOH that ends BodyLength.
+    /// The place of the first byte of its body, after the SOH that ends BodyLength.
     pub body: usize,
-    /// The place behind the SOH that ends CheckSum.
+    /// The place after the SOH that ends CheckSum.
     pub end: usize,
 }
 
@@ -41,7 +41,7 @@ pub enum FrameFault {
     /// The bytes end within a message.
     #[error("the bytes end within a message")]
     Truncated,
-    /// Behind the body there is no `10=`, three digits, SOH.
+    /// After the body there is no `10=`, three digits, SOH.
     #[error("no checksum field follows the body")]
     Trailer,
     /// The checksum isn't the sum of the bytes before its field, modulo 256.
@@ -71,7 +71,7 @@ fn is_checksum_field(seven: &[u8]) -> bool
     seven.starts_with(b"10=") && are_digits(&seven[3..6]) && seven[6] == SOH
 }
 
-/// Where the length and the SOH after it have to be: up to ten bytes behind the header.
+/// Where the length and the SOH after it have to be: up to ten bytes after the header.
 fn length_window(text: &[u8], header: usize) -> &[u8]
     requires { header ≤ length text.now }
     ensures { result.now ≡ take 10 (drop header text.now) }
@@ -107,7 +107,7 @@ fn is_length_of(text: &[u8], header: usize, digits: usize) -> bool
     digits < rest.len() && rest[digits] == SOH && are_digits(&rest[..digits])
 }
 
-/// The number that these digits behind the header write.
+/// The number that these digits after the header write.
 fn size_of(text: &[u8], header: usize, digits: usize) -> usize
     requires { IsLengthField (drop header text.now) digits }
     ensures { result ≡ digits_value 10 (take digits (drop header text.now)) }
@@ -148,7 +148,7 @@ struct Places {
     trailer: usize,
 }
 
-/// Tests 3 to 5: the body's length is behind the header.
+/// Tests 3 to 5: the body's length follows the header, in its form.
 fn find_places(text: &[u8], header: usize) -> Result<Places, FrameFault>
     requires inside { header ≤ length text.now }
     requires bounded { header ≤ 13 }
@@ -169,11 +169,11 @@ fn find_places(text: &[u8], header: usize) -> Result<Places, FrameFault>
     })
 }
 
-/// Tests 6 to 8: the checksum field is behind the body, and writes the sum.
+/// Tests 6 to 8: the checksum field follows the body, and writes the sum.
 fn check_trailer(text: &[u8], trailer: usize) -> Result<(), FrameFault>
     requires { trailer < 2 ^ 63 }
     ensures inside { OnOk result (trailer + 7 ≤ length text.now) }
-    // Whatever the size of the header, if this is the place of the checksum field behind it.
+    // Whatever the size of the header, if this is the place of the checksum field after it.
     ensures tests { (header : ℕ) → trailer ≡ trailer_place header text.now
         → result_err result ≡ first_failing (trailer_tests header text.now) }
 {

@@ -25,7 +25,7 @@ use Rattle.fix_messages.specs.Bodies.{body_says, with_reason, says_of}
 use Rattle.fix_messages.specs.Steps.{TakesSaid}
 use Rattle.fix_messages.specs.BodyFields.{FieldSplit, ended_field, fields_of, is_end, is_equals, next_field, some_size, split_from, split_next, split_of, tagged_field, value_size}
 
--- a byte behind bytes that are others is right there
+-- a byte after bytes that are others is right there
 position-until : (b : ℕ) (front more : List ℕ) → All (λ x. x ≢ b) front → position_or_len (λ x. x == b) (front ++ b ∷ more) ≡ length front
 position-until b [] more others = let same = eq-eqb b b refl in rw same refl
 position-until b (x ∷ front) more others =

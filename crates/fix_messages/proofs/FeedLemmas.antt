@@ -41,7 +41,7 @@ fed-cut framer log frames stands =
     ∙ ap (drop framer.next) (drop_at stands.before (bytes_held framer) framer.base stands.dropped) in
     sym (take-append-drop (count_framed framer) log) ∙ ap (λ (t : List ℕ). take (count_framed framer) log ++ t) rest
 
--- the bad place behind these records
+-- the bad place after these records
 abbrev place_after : {R : Type 0} → List R → ℕ → Reason → BadPlace
 place_after entries start why = record { place = length entries + 1; offset = start; reason = why }
 
@@ -201,7 +201,7 @@ module _ {K R : Type 0} (has_taken : K → List R → Type 0) (meaning : List Ta
       said-good (Ok new) before after answer said ok = (new, refl, said.0)
       said-good (Err why) before after answer said ok = absurd (cc (said.1, ok))
 
--- a collector has a place behind a bad message
+-- a collector has a place after a bad message
 pub said-place : {K R : Type 0} (has_taken : K → List R → Type 0) (says : Result (Option R) Reason) (answer : Result (Unit {0}) Reason) (why : Reason) (old new : K)
     → HasPlace has_taken old → TakesSaid says (has_taken old) (has_taken new) answer → answer ≡ Err why → HasPlace has_taken new
 said-place has_taken (Ok more) answer why old new place said is = absurd (cc (said.1, is))

@@ -25,7 +25,7 @@ use Rattle.fix_messages.specs.BodyFields.{split_of}
 use Rattle.fix_messages.specs.Logs.{MessageItem, after_item, item_says, items_from, read_items, read_fix_log, with_record_of_message}
 use Rattle.audit_base.specs.Histories.{HasMarketPrice}
 
--- what holds of every value that a row may give holds behind the row
+-- what holds of every value that a row may give holds after the row
 pub behind : {A B : Type 0} (P : B → Type 0) (a : Result A MessageFault) (next : A → Result B MessageFault) → ((x : A) → IfOk (next x) P) → IfOk (a >>= next) P
 behind P (Ok x) next each = each x
 behind P (Err why) next each = tt

@@ -61,7 +61,7 @@ cases-result (Ok value) = inl (value, refl)
 cases-result (Err why) = inr (why, refl)
 
 module _ {R : Type 0} (meaning : List TagValue → Result (Option R) MessageFault) where
-  -- what is read behind good messages
+  -- what is read after good messages
   messages-read : (at : ℕ) (front rest : List ℕ) (bodies : List (List ℕ)) (meanings : List (Option R)) → AreMessages front bodies → map (body_says meaning) bodies ≡ map Ok meanings
       → read_items (body_says meaning) (items_from 0 at (front ++ rest)) ≡ prepend (flat_map option_to_list meanings) (read_items (body_says meaning) (items_from 0 (at + length front) rest))
   messages-read at front rest [] [] is good = ap (read_items (body_says meaning)) (items-breaks at front rest is)
@@ -169,7 +169,7 @@ module _ {R : Type 0} (meaning : List TagValue → Result (Option R) MessageFaul
       let none : List R = [] in
       inr (record { place = length none + 1; offset = length gap; reason = why }, record { front = gap; left = left; cut = cut; entries = []; good = breaks-good gap breaks; why = why; fails = fails; place = refl })
 
-  -- a text that begins with a message, and what is read behind it
+  -- a text that begins with a message, and what is read after it
   outcome-message : (log gap left : List ℕ) → log ≡ gap ++ left → list_all is_line_end_byte gap ≡ true → begins_past_breaks left ≡ true → frame_fault left ≡ None
       → ((rest : List ℕ) → length rest + 1 ≤ length left → Outcome rest) → Outcome log
   outcome-message log gap left cut breaks begins none later =

@@ -16,7 +16,7 @@ module _ {R : Type 0} (meaning : List TagValue → Result (Option R) MessageFaul
   says-once said (inr (inl is)) = is.means ∙ sym (unreadable-says meaning body is.at is.unreadable)
   says-once said (inr (inr is)) = is.means ∙ sym (untyped-says meaning body is.untyped)
 
-  -- fields from the front, and what is left behind them
+  -- fields from the front, and what is left after them
   front-says : (fields : List TagValue) (left : List ℕ) → body ≡ bytes_of fields ++ left → AreFields None fields → NoField (last_of None fields) left
       → BodySays meaning body (says_of meaning fields left)
   front-says fields [] whole forms none =

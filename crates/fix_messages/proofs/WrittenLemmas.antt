@@ -96,7 +96,7 @@ short-parts fields i d are below =
     let q = and_parts (nat_lt 0 row.0) (nat_lt row.0 1000) p.0 in
     (record { low = (grind (arith, nat_tests, q.0)); high = (grind (arith, nat_tests, q.1)) }, name_delimited row.1.now p.1)
 
--- Fields behind fields.
+-- Fields after fields.
 pub appends : (old middle new : List ℕ) (xs ys : List TagValue) → middle ≡ old ++ bytes_of xs → new ≡ middle ++ bytes_of ys → new ≡ old ++ bytes_of (xs ++ ys)
 appends old middle new xs ys first second =
     second ∙ ap (λ (t : List ℕ). t ++ bytes_of ys) first ∙ append_assoc old (bytes_of xs) (bytes_of ys)

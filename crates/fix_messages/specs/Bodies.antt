@@ -19,6 +19,7 @@ fault_reason (Repeated tag) = reason.Repeated tag
 fault_reason (Value tag) = reason.Value tag
 fault_reason (Unsupported tag) = reason.Unsupported tag
 
+-- what a message means, where its fault is given as the reason of a bad place
 abbrev pub with_reason : {R : Type 0} → Result (Option R) MessageFault → Result (Option R) Reason
 with_reason (Ok entry) = Ok entry
 with_reason (Err fault) = Err (fault_reason fault)
@@ -43,6 +44,7 @@ pub record SaysUntyped {R : Type 0} (body : List ℕ) (said : Result (Option R) 
   pub untyped : LacksType body
   pub means : said ≡ Err reason.MsgType
 
+-- what a body says: what its fields mean, or that one is unreadable, or that it has no type
 abbrev pub BodySays : {R : Type 0} → MessageMeaning R → List ℕ → Result (Option R) Reason → Type 0
 BodySays meaning body said =
     SaysFields meaning body said ⊎ (SaysUnreadable body said ⊎ SaysUntyped body said)

@@ -6,9 +6,11 @@ use Rattle.fix_fields.specs.Forms.{tag_form, length_form}
 use Rattle.fix_fields.specs.Grammar.{TagValue, field_bytes}
 use Rattle.fix_fields.specs.Ordinary.{is_counted}
 
+-- the byte is `=`, which ends a tag
 abbrev pub is_equals : ℕ → Bool
 is_equals byte = byte == 61
 
+-- the byte is SOH, which ends a field
 abbrev pub is_end : ℕ → Bool
 is_end byte = byte == 1
 
@@ -51,9 +53,11 @@ pub record FieldSplit : Type 0 where
   pub fields : List TagValue
   pub left : List ℕ
 
+-- one field more at the front
 abbrev pub with_front_field : TagValue → FieldSplit → FieldSplit
 with_front_field field split = record { fields = field ∷ split.fields; left = split.left }
 
+-- no field is read and these bytes are left, or the field is, and then what `later` gives
 abbrev pub split_next : List ℕ → Option TagValue → (TagValue → FieldSplit) → FieldSplit
 split_next bytes None later = record { fields = []; left = bytes }
 split_next bytes (Some field) later = with_front_field field (later field)

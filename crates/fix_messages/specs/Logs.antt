@@ -78,9 +78,11 @@ read_items says (item ∷ items) =
 unfoldable pub read_fix_log : {R : Type 0} → MessageMeaning R → List ℕ → Result (List R) BadPlace
 read_fix_log meaning log = read_items (body_says meaning) (items_from 0 0 log)
 
+-- what a FIX order log says: its records, or its first bad place
 abbrev pub fix_order_records : List ℕ → Result (List OrderRecord) BadPlace
 fix_order_records log = read_fix_log order_of_message log
 
+-- what a FIX log of trade reports says: its reports, or its first bad place
 abbrev pub fix_report_records : List ℕ → Result (List Report) BadPlace
 fix_report_records log = read_fix_log report_of_message log
 

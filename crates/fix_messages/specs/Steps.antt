@@ -80,6 +80,7 @@ field_written row = record { tag = row.0; value = row.1.now }
 abbrev pub is_short_field : TagValue → Bool
 is_short_field field = nat_lt 0 field.tag && nat_lt field.tag 1000 && is_name field.value
 
+-- each of these fields is short
 abbrev pub are_short_fields : List TagValue → Bool
 are_short_fields fields = list_all is_short_field fields
 

@@ -94,6 +94,7 @@ impl FixRecord for Report {
     fn means_sound_records() {}
 }
 
+/// A fault of a message as the reason of a bad place.
 fn reason_of(fault: MessageFault) -> Reason
     ensures { result ≡ fault_reason fault }
 {

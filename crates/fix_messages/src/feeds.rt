@@ -40,6 +40,7 @@ pub type FixOrderFeed = FixFeed<Vec<OrderRecord>>;
 /// The feed of a trade log. Its records are reports, two for each trade.
 pub type FixReportFeed = FixFeed<Vec<Report>>;
 
+/// A fault of a frame as the reason of a bad place.
 fn frame_reason(fault: FrameFault) -> Reason
     ensures { result ≡ frame_reason fault }
 {

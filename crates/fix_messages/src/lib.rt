@@ -5,7 +5,7 @@
 //! answers, and `entries` is the trait by which both kinds of log are read from their bodies: by
 //! `feeds` in pieces, by `logs` as a whole; `reading_laws` says that each log is read in one way.
 //! `writers` writes messages, and `laws` says that they are read again. `pairing` and
-//! `pairing_draft`, which make trades of reports, are given on from `trade_reports`. What the
+//! `pairing_draft`, which make trades of reports, are re-exported from `trade_reports`. What the
 //! tables are is in `specs/`: `Rows` (how a tag is tested and read), `OrderTables`,
 //! `ReportTable`, `Bodies` (what a body says, its fields' faults included) and `Written` (what is
 //! written).

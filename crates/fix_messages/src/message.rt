@@ -1,4 +1,5 @@
-//! A message as the list of its fields.
+//! A message as its body and notes of where values are, which contracts see as the list of its
+//! fields.
 ghost use Rattle.std.specs.Prelude.{◌≡◌, ◌≤◌, length};
 ghost use Rattle.std.specs.List.{slice_range};
 ghost use Rattle.fix_fields.specs.Ranges.{AreFieldsOf, tag_values_of};

@@ -17,13 +17,14 @@ use audit_base::terms::{Life, Side};
 use fix_fields::field::Field;
 use fix_fields::notes::TagNotes;
 
-/// Whether an order takes any price (tag 40).
+/// The order type (tag 40): a market order, or an order with a limit.
 #[derive(Clone, Copy)]
 pub(crate) enum OrderType {
     Market,
     Limit,
 }
 
+/// `1`, a market order, or `2`, an order with a limit.
 fn read_order_type(text: &[u8]) -> Option<OrderType>
     ensures { result ≡ order_type_form text.now }
 {
@@ -36,6 +37,7 @@ fn read_order_type(text: &[u8]) -> Option<OrderType>
     }
 }
 
+/// OrdType (tag 40) of a new order.
 #[inline(always)]
 fn message_order_type(tag: u32, message: &Message<'_>) -> Result<OrderType, MessageFault>
     requires { IsNotedTag tag }
@@ -44,6 +46,7 @@ fn message_order_type(tag: u32, message: &Message<'_>) -> Result<OrderType, Mess
     supported(tag, read_order_type(required(tag, message)?))
 }
 
+/// The price (tag 44); of a market order it is not read, and is the market price of its side.
 #[inline(always)]
 fn price_by(
     limits: OrderType,
@@ -63,6 +66,7 @@ fn price_by(
     }
 }
 
+/// `0`, a day order, or `1`, good till cancel, or `3`, immediate or cancel.
 fn read_life(text: &[u8]) -> Option<Life>
     ensures { result ≡ life_form text.now }
 {
@@ -75,6 +79,7 @@ fn read_life(text: &[u8]) -> Option<Life>
     }
 }
 
+/// TimeInForce (tag 59) of a new order, which is a day order where the tag is absent.
 #[inline(always)]
 fn life_at(tag: u32, message: &Message<'_>) -> Result<Life, MessageFault>
     requires { IsNotedTag tag }
@@ -86,6 +91,7 @@ fn life_at(tag: u32, message: &Message<'_>) -> Result<Life, MessageFault>
     }
 }
 
+/// A market order has life Market, whatever its time in force.
 fn life_by(limits: OrderType, life: Life) -> Life
     ensures { result ≡ life_of_order_type limits life }
 {
@@ -95,12 +101,14 @@ fn life_by(limits: OrderType, life: Life) -> Life
     }
 }
 
+/// `2`, an order with a limit.
 fn read_limit(text: &[u8]) -> Option<()>
     ensures { result ≡ limit_type_form text.now }
 {
     if is_word(b"2", text) { Some(()) } else { None }
 }
 
+/// OrdType (tag 40) of a replacement, which must have a limit.
 #[inline(always)]
 fn limit_at(tag: u32, message: &Message<'_>) -> Result<(), MessageFault>
     requires { IsNotedTag tag }
@@ -109,6 +117,7 @@ fn limit_at(tag: u32, message: &Message<'_>) -> Result<(), MessageFault>
     supported(tag, read_limit(required(tag, message)?))
 }
 
+/// `0`, a day order, or `1`, good till cancel.
 fn read_resting(text: &[u8]) -> Option<()>
     ensures { result ≡ resting_form text.now }
 {
@@ -119,6 +128,7 @@ fn read_resting(text: &[u8]) -> Option<()>
     }
 }
 
+/// TimeInForce (tag 59) of a replacement, which must rest; a day order where the tag is absent.
 #[inline(always)]
 fn resting_at(tag: u32, message: &Message<'_>) -> Result<(), MessageFault>
     requires { IsNotedTag tag }
@@ -205,6 +215,7 @@ fn replacement<'m>(
     Ok(OrderText { head, parts })
 }
 
+/// The order that a message of this type means, copies aside; nothing for any other type.
 fn order_by<'m>(
     kind: &[u8],
     message: &'m Message<'_>,

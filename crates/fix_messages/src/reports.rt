@@ -101,6 +101,7 @@ fn is_other(message: &Message<'_>) -> bool
     !is_word(b"F", message.first(150)) && message.has(150)
 }
 
+/// Whether the message is of another type, a copy, or a report of something else than a trade.
 fn is_passed_over(message: &Message<'_>) -> bool
     ensures { result ≡ is_skipped_message message.now }
 {

@@ -48,6 +48,7 @@ fn write_fields(alloc: Global, fields: &[(u32, &[u8])], body: &mut Vec<u8>) -> R
     Ok(())
 }
 
+/// The value of tag 54, Side: `1` for a bid, `2` for an ask.
 fn side_bytes(side: Side) -> &'static [u8]
     ensures text { result.now ≡ message_side_text side }
     ensures short { IsTrue (is_name result.now) }
@@ -66,6 +67,7 @@ struct Terms {
     price: Price,
 }
 
+/// The fields that the messages of an order log begin with.
 fn write_head(alloc: Global, kind: &[u8], head: &Head, body: &mut Vec<u8>) -> Result<(), NoMemory>
     requires { IsTrue (is_name kind.now) }
     ensures appended { let entry = head.now in
@@ -119,6 +121,7 @@ fn write_limit(alloc: Global, life: Life, price: Price, body: &mut Vec<u8>) -> R
     }
 }
 
+/// The field of the order that is cancelled or replaced: OrigClOrdID (tag 41).
 fn write_target(alloc: Global, target: &Name, body: &mut Vec<u8>) -> Result<(), NoMemory>
     ensures appended { let fields = field 41 target.now ∷ [] in
         OnOk result (body.new.items ≡ body.old.items ++ bytes_of fields) }
@@ -128,6 +131,7 @@ fn write_target(alloc: Global, target: &Name, body: &mut Vec<u8>) -> Result<(), 
     write_fields(alloc, &fields, body)
 }
 
+/// The fields of a new order, type D.
 fn write_new(
     alloc: Global,
     head: &Head,
@@ -144,6 +148,7 @@ fn write_new(
     write_limit(alloc, life, terms.price, body)
 }
 
+/// The fields of a cancel, type F.
 fn write_cancel(
     alloc: Global,
     head: &Head,
@@ -158,6 +163,7 @@ fn write_cancel(
     write_target(alloc, target, body)
 }
 
+/// The fields of a replacement, type G, which always has a limit and rests.
 fn write_replace(
     alloc: Global,
     head: &Head,

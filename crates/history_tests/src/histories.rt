@@ -305,7 +305,7 @@ const ORDERS: [(&str, &[&str], &[Shape]); 17] = [
         &[(1, None, None), (2, Some(3), None), (3, None, Some(1))],
     ),
     (
-        "a target behind a cancel and another symbol",
+        "a target after a cancel and another symbol",
         &[
             "N A b1 - 5 Z B",
             "X A x1 b1 5 Z B",

@@ -16,12 +16,12 @@ filter_map-same f g (z ∷ zs) d same =
 abbrev pub kept_before : {Z Y : Type 0} → (Z → Option Y) → List Z → ℕ → ℕ
 kept_before f zs t = length (filter_map f (take t zs))
 
--- an element at an index, behind one more that may be kept
+-- an element at an index, after one more that may be kept
 shifted : {Y : Type 0} (o : Option Y) (all front : List Y) (y e : Y) → (get_or all (length front) e ≡ y) × (length front < length all) → (get_or (cons_option o all) (length (cons_option o front)) e ≡ y) × (length (cons_option o front) < length (cons_option o all))
 shifted None all front y e at = at
 shifted (Some x) all front y e at = (at.0, omega (arith, at.1))
 
--- a kept element is behind those that are kept before it
+-- a kept element comes after those that are kept before it
 pub filter_map-at : {Z Y : Type 0} (f : Z → Option Y) (zs : List Z) (d : Z) (t : ℕ) (y e : Y) → t < length zs → f (get_or zs t d) ≡ Some y → (get_or (filter_map f zs) (kept_before f zs t) e ≡ y) × (kept_before f zs t < length (filter_map f zs))
 filter_map-at f [] d t y e lt is = absurd (omega arith)
 filter_map-at f (z ∷ zs) d zero y e lt is = rw is (refl, omega arith)

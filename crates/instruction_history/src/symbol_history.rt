@@ -66,7 +66,7 @@ impl SymbolHistory {
         match flaw {
             Some(flaw) => Err(flaw.finding()),
             None => {
-                // This call tells the proof the ranges of the numbers.
+                // This call gives the proof the ranges of the numbers.
                 so_far.list().in_range();
                 Ok(History::of(so_far))
             }

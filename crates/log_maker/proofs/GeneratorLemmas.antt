@@ -32,7 +32,7 @@ pub state-first : (start : ℕ) → start ≡ state_at start 0
 unfolding state_at
 state-first start = refl
 
--- one turn of the loop: record `number` is behind those before it
+-- one turn of the loop: record `number` is after those before it
 pub step-is : (start number state next : ℕ) (before after : List OrderRecord) (entry : OrderRecord) → 1 ≤ number
     → (state ≡ state_at start (number - 1)) × (before ≡ generated_records start (number - 1))
     → next ≡ 48271 * state % 2147483647 → entry ≡ record_of_state number next → after ≡ before ++ entry ∷ []

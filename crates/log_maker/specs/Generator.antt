@@ -55,6 +55,7 @@ firm_of_number i = 70 ∷ decimal (i % 5)
 abbrev pub id_of_number : ℕ → List ℕ
 id_of_number i = 79 ∷ decimal i
 
+-- the firm and the id of record i
 abbrev pub key_of_number : ℕ → Key
 key_of_number i = record { firm = firm_of_number i; id = id_of_number i }
 

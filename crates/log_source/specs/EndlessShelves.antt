@@ -25,6 +25,7 @@ endless_started_slot starts =
 abbrev pub endless_tells : EndlessShelf → Bool
 endless_tells shelf = false
 
+-- no log is known, whatever the slot and the name
 abbrev pub endless_log_of : EndlessShelf → Which → List ℕ → Option (List ℕ)
 endless_log_of shelf which name = None
 

@@ -9,7 +9,8 @@ pub mod Pumping
 pub mod Collectors
 -- The states of the shelves and sinks of this crate.
 -- The counts and the failing calls of those in memory are in Calls;
--- of the shelf over files and the sink over a writer is known what is known of these.
+-- of the shelf over files and the sink over a writer as much is known as of the files and the
+-- writer.
 pub mod Calls
 pub mod MemoryShelves
 pub mod QuietShelves

@@ -14,7 +14,7 @@ use Rattle.log_source.specs.declared.shelf.StartFault.TheVariants as start
 abbrev pub longest_read : ℕ
 longest_read = 34359738368
 
--- the slot beside this one
+-- the other slot
 abbrev pub other_log : Which → Which
 other_log Orders = Trades
 other_log Trades = Orders

@@ -1,8 +1,9 @@
 //! Where the logs come from and where the report goes: shelves that give two logs piece by piece,
 //! sinks that take a text piece by piece, and the calls that take a log whole or pump it into
 //! a feed. What a shelf holds in memory is known to contracts. Of a shelf over files and a sink
-//! over a writer is known what is known of these: of the runtime's files and of standard output
-//! nothing is, so over them the causes of every failure are claimed, and nothing of content.
+//! over a writer they know what is known of the files and of the writer. Nothing is known of the
+//! runtime's files and of standard output: over these the causes of every failure are claimed, and
+//! nothing of content.
 #![tactic(auto)]
 
 pub mod collector;

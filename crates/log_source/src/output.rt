@@ -1,4 +1,4 @@
-//! What a sink over a writer asks of it, beside that it writes.
+//! What a sink over a writer asks of it, apart from writing.
 ghost use Rattle.std.specs.Prelude.{◌≡◌, Bool, true, false, is_some, refl};
 
 use std::io::{Print, Printer, Write};

@@ -180,7 +180,7 @@ const BAD_LOGS: [(&[u8], Option<(u32, u64, Reason)>); 15] = [
         b"kind,firm,id,time,symbol,side,quantity,price,target\r\nN,A,b1,20240102-09:00:00,Y,B,1,1,\r\n\r\nX,A,x1,20240102-09:00:00,Z,,,,\r\n",
         Some((2, 90, Reason::Column(9))),
     ),
-    // A line of eight fields behind one of nine, which one reader of `csv` reads both.
+    // A line of eight fields after one of nine, which one reader of `csv` reads both.
     (
         b"kind,firm,id,time,symbol,side,quantity,price,target\nN,A,b1,20240102-09:00:00,Z,B,1,1,\nN,A,b2,20240102-09:00:00,Z,B,1,1\n",
         Some((2, 86, Reason::Columns)),

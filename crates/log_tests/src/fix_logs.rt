@@ -67,7 +67,7 @@ const ORDER_LOGS: [(&[u8], Option<(u32, u64, Reason)>); 16] = [
         b"8=FIX.4.4\x019=58\x0135=D\x0149=A\x0111=1\x0160=20240102-09:00:00\x0155=Z\x0154=1\x0138=100\x0140=2\x0110=141\x01",
         Some((1, 0, Reason::Missing(44))),
     ),
-    // The offset is behind CR and LF, and the place does not count messages that are passed over.
+    // The offset is after CR and LF, and the place does not count messages that are passed over.
     (
         b"8=FIX.4.4\x019=5\x0135=0\x0110=163\x01\r\n8=FIX.4.4\x019=58\x0135=D\x0149=A\x0111=1\x0160=20240102-09:00:00\x0155=Z\x0154=1\x0138=100\x0140=2\x0110=141\x01",
         Some((1, 28, Reason::Missing(44))),

@@ -75,7 +75,8 @@ abbrev pub HasFewCollected : {K R : Type 0} → (K → List R → Type 0) → Co
 HasFewCollected has_taken (collected.Trades collector) = HasPlace has_taken collector
 HasFewCollected has_taken (collected.Alone finding) = Unit {0}
 
--- the same of a log whose reports are paired
+-- what came of handing the trades of a log to a collector: the collector, or finding 4, as the
+-- bytes say; or why the log was not read into records
 abbrev pub CollectsTrades : {K R : Type 0} → (K → List R → Type 0)
     → (List ℕ → Result (Result (List R) Finding) BadPlace) → Reading → Which → List ℕ
     → Result (Collected K) Unread → Type 0

@@ -23,6 +23,7 @@ pub record Log : Type 0 where
   pub form : Form
   pub bytes : List ℕ
 
+-- the log of these bytes in this form
 abbrev pub log_in : Form → List ℕ → Log
 log_in form bytes = record { form = form; bytes = bytes }
 

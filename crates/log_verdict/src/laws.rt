@@ -10,7 +10,7 @@ use record_verdict::existence::a_record_verdict_exists;
 use record_verdict::laws::record_verdict_is_one;
 
 /// Two verdicts on one question about one pair of logs are the same verdict,
-/// so that its status and its text are.
+/// so their statuses and their texts are the same too.
 pub fn one_verdict()
     ensures { OneVerdict }
 {

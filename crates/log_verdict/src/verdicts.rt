@@ -37,7 +37,7 @@ pub fn verdict_on<F: Shelf>(
     ensures in_range { IfOk result IsVerdictInRange }
     ensures within { StaysWithin (reading_by orders.now F.Shelf shelf.old shelf.new) result }
 {
-    // A match and no `?`: behind one, each way out lets go of what was read, case by case, and
+    // A match and no `?`: after a `?`, each way out drops what was read, case by case, and
     // the proof of the answer is lost among them.
     match read_both(alloc, shelf, &question.scope(), orders, trades) {
         Ok(given) => Ok(verdict_after(alloc, question, &given)?),

@@ -145,7 +145,7 @@ text-kept bytes more own inside =
     ap (take own.size) (drop-append-le own.start bytes more (omega (arith, inside)))
     ∙ take-append-le own.size (drop own.start bytes) more (omega (arith, inside, length-drop own.start bytes))
 
--- bytes behind the others change no id
+-- bytes after the others change no id
 pub entries-kept : (bytes more : List ℕ) (ids : List RisingId) → All (IsIdInside bytes) ids → ids_with_places (bytes ++ more) ids ≡ ids_with_places bytes ids
 entries-kept bytes more [] inside = refl
 entries-kept bytes more (own ∷ ids) inside =
@@ -157,7 +157,7 @@ pub inside-kept : (bytes more : List ℕ) (ids : List RisingId) → All (IsIdIns
 inside-kept bytes more ids inside =
     All-weaker (IsIdInside bytes) (IsIdInside (bytes ++ more)) (λ own in_bytes. omega (arith, in_bytes, length-append bytes more)) ids inside
 
--- the bytes of one id more, behind the others
+-- the bytes of one id more, after the others
 new-text : (bytes text : List ℕ) → take (length text) (drop (length bytes) (bytes ++ text)) ≡ text
 new-text bytes text = ap (take (length text)) (drop-append_seam bytes text) ∙ take_all (length text) text (omega arith)
 

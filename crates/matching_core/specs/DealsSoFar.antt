@@ -72,8 +72,7 @@ AreTradesKnown orders listed kept (Some finding) = finding_in_trades orders list
 -- What is kept of the trades of one symbol.
 
 -- these are the deals of the symbol between these orders, after exactly these records of the trade
--- log, of
--- all symbols
+-- log, of all symbols
 pub record IsSymbolDeals (orders : List Order) (symbol : List ℕ) (kept : SymbolDeals)
     (trades : List TradeRecord) : Type 0 where
   pub known : AreTradesKnown orders (trades_of_symbol symbol trades) kept.sound

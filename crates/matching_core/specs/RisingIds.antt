@@ -26,6 +26,7 @@ AreRisingIds listed =
 abbrev pub IsIdInside : List ℕ → RisingId → Type 0
 IsIdInside bytes own = own.start + own.size ≤ length bytes
 
+-- the bytes of each of these ids are there
 abbrev pub AreIdsInside : List ℕ → List RisingId → Type 0
 AreIdsInside bytes ids = All (IsIdInside bytes) ids
 

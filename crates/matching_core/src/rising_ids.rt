@@ -51,7 +51,8 @@ impl RisingId {
     }
 }
 
-/// Where the bytes of an id begin, as it is kept. A log has at most 2^26 bytes, so it always fits.
+/// Where the bytes of an id begin, as it is kept. `NoMemory` where 32 bits do not hold it, which
+/// only a log of more than 2^32 bytes can bring about.
 fn kept_start(start: usize) -> Result<u32, NoMemory>
     ensures { IfOk result (λ kept. kept ≡ start) }
 {
@@ -61,7 +62,7 @@ fn kept_start(start: usize) -> Result<u32, NoMemory>
     }
 }
 
-/// One id more, its bytes behind those of the others.
+/// One id more, its bytes after those of the others.
 fn append(
     bytes: &mut Vec<u8>,
     ids: &mut Vec<RisingId>,

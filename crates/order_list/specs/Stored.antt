@@ -13,7 +13,7 @@ use Rattle.order_list.specs.Keys.{key_in, IsNumbered}
 abbrev pub number_of : StoredOrder → KeyNumber
 number_of s = record { index = s.key; is_short = s.is_short }
 
--- its time; numbers that are none of a time mean the first one
+-- its time; numbers that are no time are read as the first time there is
 abbrev pub time_from : ℕ → ℕ → Moment
 time_from second nano = if nat_lt second end_of_time && nat_lt nano (10 ^ 9)
     then record { second = second; nano = nano } else record { second = 0; nano = 0 }

@@ -90,7 +90,7 @@ fn no_key() -> Key
     }
 }
 
-/// An index of a map as it is kept. A map has fewer keys than a log has records, so it always fits.
+/// An index of a map as it is kept. A map has no more keys than a log has records, so it fits.
 fn kept_index(index: usize) -> Result<u32, NoMemory>
     ensures { IfOk result (λ kept. kept ≡ index) }
 {

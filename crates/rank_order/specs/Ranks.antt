@@ -8,8 +8,8 @@ use Rattle.audit_base.specs.declared.orders.Order.{Order}
 use Rattle.audit_base.specs.Orders.{order_at, limit_at, is_uncancelled_on, IsUncancelledOn}
 use Rattle.rank_order.specs.declared.ranks.Rank.{Rank}
 
--- what a limit weighs, the less the better: of a bid what it is below 10^18, of an
--- ask the limit itself
+-- the weight of a limit, of which less is better: of a bid 10^18 less the limit, of an ask the
+-- limit itself
 abbrev pub weight_of : Side → ℕ → ℕ
 weight_of Buy limit = 10 ^ 18 - limit
 weight_of Sell limit = limit

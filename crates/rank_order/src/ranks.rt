@@ -9,7 +9,7 @@ use audit_base::terms::Side;
 /// of the better order.
 #[derive(Clone, Copy, Debug, PartialEq, Eq, PartialOrd, Ord, Drop)]
 pub struct Rank {
-    /// The limit of an ask in units of 10^-8; of a bid, what its limit is below 10^18.
+    /// The limit of an ask in units of 10^-8; of a bid, 10^18 less its limit.
     pub weight: u64,
     /// The index of the order in its list, where places rise.
     pub index: usize,

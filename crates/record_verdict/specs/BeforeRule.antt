@@ -52,6 +52,8 @@ pub record AreResolvedTradesInRange (resolved : ResolvedTrades) : Type 0 where
   pub deal_list : IsDealList resolved.history resolved.deals.items
   pub numbers : DealsInRange resolved.deals.items
 
+-- what can be judged by a rule: where the trades are sound, they are within their ranges; a fault
+-- or a finding always can
 abbrev pub IsJudgeable : BeforeRule → Type 0
 IsJudgeable (before_rule.Malformed log bad) = Unit {0}
 IsJudgeable (before_rule.Found finding) = Unit {0}

@@ -1,4 +1,4 @@
-//! What both programs are handed by their machine: the arguments of a command line
+//! What the programs are handed by their machine: the arguments of a command line
 //! (`command_line`), files and an output (`program_ends`). And one line on standard error where
 //! a program ends above 1, for whoever runs it: which word is wrong and what may be there,
 //! which file could not be read and why, at which byte a log is malformed.

@@ -20,6 +20,7 @@ pub(crate) fn refusal(rt: &HostRuntime, path: &str) -> Option<io::Error> {
     }
 }
 
+/// The note on a log that could not be read, with the host's reason where it gives one.
 fn print_unread_log(rt: &HostRuntime, program: &str, path: &str) {
     let _written = match refusal(rt, path) {
         Some(error) => eprintln!(rt; "{program}: {path}: {error}"),
@@ -27,6 +28,7 @@ fn print_unread_log(rt: &HostRuntime, program: &str, path: &str) {
     };
 }
 
+/// The log that a word of a report names.
 fn log_named(word: &str) -> Option<Which> {
     if word == "orders" {
         Some(Which::Orders)

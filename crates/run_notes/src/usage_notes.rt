@@ -39,7 +39,7 @@ const DESK_COMMANDS: &str = "audit, session, help";
 
 const CASEBOOK_COMMANDS: &str = "file, list, show";
 
-/// The parts of a command of `auditor`, behind its word.
+/// The parts of a command of `auditor`, after its word.
 fn auditor_parts(command: &str) -> Option<&'static [Part]> {
     if command == "audit" {
         Some(&AUDIT)
@@ -61,7 +61,7 @@ fn auditor_parts(command: &str) -> Option<&'static [Part]> {
 }
 
 /// Says which is the first part that a word does not fit or that has none. Where all fit it
-/// names the word behind them.
+/// names the word after them.
 fn print_parts(rt: &HostRuntime, program: &str, parts: &[Part], words: &[String]) {
     let mut rest = words.iter();
     for part in parts {
@@ -95,7 +95,7 @@ pub fn print_auditor_usage(rt: &HostRuntime, words: &[String]) {
     }
 }
 
-/// The parts of a command of `desk` that judges a day, behind its word.
+/// The parts of a command of `desk` that judges a day, after its word.
 fn desk_parts(command: &str) -> Option<&'static [Part]> {
     if command == "audit" {
         Some(&DAY_AUDIT)
@@ -120,7 +120,7 @@ pub fn print_desk_usage(rt: &HostRuntime, words: &[String]) {
     }
 }
 
-/// The parts of a command of `casebook`, behind its word. Those of `list` may be left out.
+/// The parts of a command of `casebook`, after its word. Those of `list` may be left out.
 fn casebook_parts(command: &str) -> Option<&'static [Part]> {
     if command == "file" {
         Some(&FILE)

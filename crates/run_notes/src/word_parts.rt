@@ -18,7 +18,7 @@ pub(crate) enum Part {
     Result,
 }
 
-/// How the cases end that a list may be asked for.
+/// The results by which a list of cases may be asked for.
 const RESULTS: [&str; 17] = [
     "accepted",
     "duplicate-id",
@@ -49,11 +49,12 @@ pub(crate) fn is_result(word: &str) -> bool {
     false
 }
 
+/// Whether the word is a rule that has a certificate.
 fn is_bound_rule(word: &str) -> bool {
     word == "uniform" || word == "maximum"
 }
 
-/// Whether a word has up to ten digits and nothing else.
+/// Whether a word is 1 to 10 digits.
 fn is_number(word: &str) -> bool {
     !word.is_empty() && word.len() <= 10 && word.as_bytes().iter().all(|byte| byte.is_ascii_digit())
 }

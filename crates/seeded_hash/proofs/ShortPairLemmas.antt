@@ -8,18 +8,18 @@ use Rattle.std.proofs.lemmas.Slice.Eq.{bytes_eq-Decides}
 use Rattle.seeded_hash.specs.declared.short_pairs.ShortPair.{ShortPair}
 use Rattle.seeded_hash.specs.ShortPairs.{fit_short_block, put_at, sizes_block, short_block, short_pair_of, same_block, value_by_pair, first_text, second_text}
 
--- what is behind the first two
+-- what is after the first two
 abbrev behind : List ℕ → List ℕ
 behind [] = []
 behind (x ∷ []) = []
 behind (x ∷ y ∷ rest) = rest
 
--- a text written behind a front of the block
+-- a text written after a front of the block
 written : (front rest text : List ℕ) (at : ℕ) → at ≡ length front → put_at (front ++ rest) at text ≡ front ++ text ++ drop (length text) rest
 written front rest text at is =
     rw (is, take-append_seam front rest, drop-append-add front rest (length text)) refl
 
--- the zeros behind two texts in their block
+-- the zeros after two texts in their block
 abbrev zeros : List ℕ → List ℕ → List ℕ
 zeros first second = drop (length second) (drop (length first) (replicate 30 0))
 

@@ -24,7 +24,7 @@ half_sum factors block from = term_at factors block from + term_at factors block
 abbrev pub block_sum : List ℕ → List ℕ → ℕ
 block_sum factors block = half_sum factors block 0 + half_sum factors block 4
 
--- the first 32 bytes of a text, which zeros fill up
+-- the first 32 bytes of a text, padded with zeros
 abbrev pub block_of : List ℕ → List ℕ
 block_of text = let size = min (length text) 32 in take size text ++ drop size (replicate 32 0)
 

@@ -90,7 +90,7 @@ fn block_sum(factors: &[u64; 8], block: &[u8; 32]) -> u64
     half_sum(factors, block, 0).wrapping_add(half_sum(factors, block, 4))
 }
 
-/// The first 32 bytes of a text, which zeros fill up.
+/// The first 32 bytes of a text, padded with zeros.
 fn block_of(text: &[u8]) -> [u8; 32]
     ensures { result ≡ spec.block_of text.now }
 {

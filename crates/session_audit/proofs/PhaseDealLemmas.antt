@@ -64,7 +64,7 @@ module _ (phases : List Phase) (orders : List Order) (rises : Rises orders) (dea
     fits_indices = let f = l.fits_indices in let m = few-deals in omega arith;
   }
 
-  -- no cause is behind the last place of the phase
+  -- no cause is after the last place of the phase
   pub causes-upto : All (NamesOrders orders) deals → All (λ d. cause the_orders d ≤ end_place phases k) the_deals
   causes-upto named = All-weaker (λ d. NamesOrders orders d × (place_test d ≡ true)) (λ d. cause the_orders d ≤ end_place phases k) (λ d p.
       let n = named-here d p in

@@ -34,7 +34,7 @@ abbrev pub latest_or_earlier : Option PlacedReport → List ℕ → Option Place
     → Option PlacedReport
 latest_or_earlier latest id found = if latest_has_id latest id then latest else found
 
--- the first report with an id
+-- the report with an id that waits for a second one
 abbrev pub first_report_in : FirstReports → List ℕ → Option PlacedReport
 first_report_in reports id =
     latest_or_earlier (latest_waiting reports) id (report_held_in reports.earlier id)

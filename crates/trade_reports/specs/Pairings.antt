@@ -38,6 +38,7 @@ pub record ReportPair : Type 0 where
   pub first : PlacedReport
   pub second : PlacedReport
 
+-- the pair of a second report with the first one that waits for it, or no pair
 abbrev pub pair_with : PlacedReport → Option PlacedReport → List ReportPair
 pair_with second None = []
 pair_with second (Some first) = record { first = first; second = second } ∷ []
@@ -58,6 +59,7 @@ reports_agree first second =
     && first.price == second.price
     && same_name first.symbol second.symbol
 
+-- the two reports of a pair do not agree
 abbrev pub pair_disagrees : ReportPair → Bool
 pair_disagrees pair = not (reports_agree pair.first.report pair.second.report)
 
@@ -82,6 +84,7 @@ trade_of_reports first second = record {
   price = second.price;
 }
 
+-- the trade of each pair
 abbrev pub trades_of_pairs : List ReportPair → List TradeRecord
 trades_of_pairs listed = map (λ pair. trade_of_reports pair.first.report pair.second.report) listed
 
@@ -91,6 +94,7 @@ placed_reports_newest_first [] = []
 placed_reports_newest_first (report ∷ before) =
     placed_reports_newest_first before ++ record { place = length before + 1; report = report } ∷ []
 
+-- there is a report, and it has this place
 abbrev pub is_report_at : ℕ → Option PlacedReport → Bool
 is_report_at place None = false
 is_report_at place (Some first) = first.place == place
@@ -132,6 +136,7 @@ abbrev pub trades_unless_unpaired : Option UnpairedReport → List TradeRecord
 trades_unless_unpaired None trades = Ok trades
 trades_unless_unpaired (Some lone) trades = Err (unpaired_finding lone)
 
+-- the trades of these reports, given newest first, or finding 4 in their place
 abbrev pub pairing_newest_first : List Report → Result (List TradeRecord) Finding
 pairing_newest_first all =
     trades_unless_unpaired (unpaired_report_newest_first all)

@@ -1,4 +1,4 @@
-//! The reports that wait for a second one. The second report of a trade mostly comes right behind
+//! The reports that wait for a second one. The second report of a trade mostly comes right after
 //! the first, so the report that came last waits outside the map of the earlier ones.
 ghost use Rattle.std.specs.Prelude.{◌≡◌, None, true};
 ghost use Rattle.std.specs.Option.{ForSome};

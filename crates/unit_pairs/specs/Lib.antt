@@ -1,4 +1,4 @@
--- What the public contracts cite, beside the Expected trades of audit_base and the
+-- What the public contracts cite, besides the Expected trades of audit_base and the
 -- ranks of rank_order.
 pub mod Volumes
 -- What private functions pass on.

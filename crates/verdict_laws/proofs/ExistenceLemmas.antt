@@ -25,7 +25,7 @@ use Rattle.audit_base.proofs.TradeLemmas.{sound-names, deals-ranges}
 use Rattle.call_laws.specs.Existence as of_call
 use Rattle.verdict_laws.specs.Existence.{RuleVerdictExists, VerdictExists}
 
--- in continuous trading the least place with a finding decides; behind the last place there is none
+-- in continuous trading the least place with a finding decides; after the last place there is none
 continuous-verdict : (orders : List Order) (deals : List Deal) (count : ℕ) → All (NamesOrders orders) deals
     → (v : Option Finding) × IsRuleFinding rule.Continuous orders deals count v
 continuous-verdict orders deals count named =

@@ -32,7 +32,7 @@ quantity_upto limits p = sum_by (λ l. if nat_le l.limit p then l.quantity else 
 abbrev pub quantity_from : List LimitQuantity → ℕ → ℕ
 quantity_from limits p = sum_by (λ l. if nat_le p l.limit then l.quantity else 0) limits
 
--- rising limits, whose quantities are this added, at most 2^32 times 10^12
+-- limits that never fall, whose quantities add up to this number, at most 2^32 times 10^12
 pub record AreLimitsSummed (limits : List LimitQuantity) (quantity : ℕ) : Type 0 where
   pub rising : IsNonDecreasingBy (λ l. l.limit) limits
   pub whole : quantity ≡ quantity_of_limits limits

@@ -1,4 +1,4 @@
-//! The certificate of the staircase under `verify`, with lines changed, left out and put behind it.
+//! The certificate of the staircase under `verify`, with lines changed, left out and put after it.
 use crate::certificates::staircase::{STAIRCASE, TWO_TRADES};
 use crate::checks::answers::RowFault;
 use crate::checks::certificates::{VERIFY, check_certificate};
@@ -135,7 +135,7 @@ fn line_ends_and_missing_lines(rt: HostRuntime) -> Result<(), Fail> {
     Ok(check_staircase(alloc, "nothing", Vec::new(alloc), 1, "refused,1\n")?)
 }
 
-/// The certificate of the staircase, and behind it one line more of such a length that the
+/// The certificate of the staircase, and after it one line more of such a length that the
 /// whole has this many bytes.
 fn certificate_of_size(alloc: Global, size: usize) -> Result<Vec<u8>, NoMemory> {
     let mut certificate = staircase_with(alloc, 0, "", "\n")?;

@@ -164,7 +164,7 @@ order,4,1
 ",
     },
     Row {
-        name: "a call that leaves too much: the place is behind all trades of the log",
+        name: "a call that leaves too much: the place is after all trades of the log",
         words: CALL_FIRST,
         orders: &DAY_ORDERS,
         trades: &[

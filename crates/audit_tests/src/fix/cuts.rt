@@ -7,7 +7,7 @@ use audit_base::terms::Which;
 use std::test::Fail;
 
 /// The order log has a bid, a heartbeat and a copy, which are passed over, and an ask, with a
-/// line end behind each but the last.
+/// line end after each but the last.
 const ORDER_CUTS: CutLogs = CutLogs {
     words: MATCHING,
     orders: &DAY_ORDERS,
@@ -63,7 +63,7 @@ const ORDER_CUTS: CutLogs = CutLogs {
 };
 
 /// The trade log has the buyer's report, a heartbeat, which is passed over, and the seller's
-/// report, with a line end behind each but the last.
+/// report, with a line end after each but the last.
 const TRADE_CUTS: CutLogs = CutLogs {
     words: MATCHING,
     orders: &DAY_ORDERS,

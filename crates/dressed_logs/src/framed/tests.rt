@@ -10,7 +10,7 @@ use log_source::memory_shelf::MemoryShelf;
 use log_source::pump::pump;
 use std::process::Abort;
 
-/// A day, and the bodies that are read of it, each with `;` behind it.
+/// A day, and the bodies that are read of it, each with `;` after it.
 const GOOD: [(&[u8], &[u8]); 6] = [
     (b"", b""),
     (b"\xEF\xBB\xBF", b""),
@@ -54,7 +54,7 @@ const BAD: [(&[u8], u32, u64, FrameFault); 11] = [
         1,
         FrameFault::Begin,
     ),
-    // Behind a mark, offsets count its bytes.
+    // After a mark, offsets count its bytes.
     (
         b"\xEF\xBB\xBF8=FIX.4.4\x019=5\x0135=0\x0110=163\x01\n8=FIX.4.5\x019=5",
         2,

@@ -130,7 +130,7 @@ fn each_proper_prefix_of_a_message_is_truncated(rt: HostRuntime) {
 }
 
 #[test]
-fn a_message_is_found_behind_others(rt: HostRuntime) {
+fn a_message_is_found_after_others(rt: HostRuntime) {
     let want = Frame {
         start: 86,
         body: 101,

@@ -1,4 +1,4 @@
--- Each call has the words behind the first command.
+-- Each call has the words after the first command.
 use Rattle.std.proofs.Common.{length}
 use Rattle.run_notes.proofs.usage_notes.+print_commands.Given as goal
 
