@@ -4,4 +4,3 @@ pub mod MarkLemmas
 pub mod StartLemmas
 pub mod UniqueLemmas
 pub mod LogLemmas
-pub mod UndressLemmas

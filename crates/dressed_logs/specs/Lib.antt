@@ -3,12 +3,8 @@
 pub mod Framed
 pub mod Answers
 pub mod Feeds
--- what is read of a day on lines
-pub mod Lines
 -- what holds of every day
 pub mod Laws
 -- Part 2. What the private functions pass on to one another.
 pub mod Messages
 pub mod Starts
-pub mod Searches
-pub mod Undressings

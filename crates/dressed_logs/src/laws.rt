@@ -2,8 +2,8 @@
 //! that the check proves it.
 ghost use Rattle.dressed_logs.specs.Laws.{FixLogsAreDays, FramedDaysAreReadOnce, WrittenDaysAreRead};
 
-/// Each day that is read as framed, however long, has one reading: a list of bodies, or a first bad
-/// message, and never both.
+/// Each day that is read as framed, however long, has one reading: a list of bodies, and the first
+/// bad message after them, if there is one.
 pub fn days_have_one_reading()
     ensures framed { FramedDaysAreReadOnce }
 {}

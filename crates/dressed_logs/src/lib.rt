@@ -2,17 +2,15 @@
 //! message of its own version, read from pieces to bodies.
 //!
 //! `framed` reads messages one after another, as in a FIX log, after a byte order mark if there is
-//! one. It hands each body to a taker (`bodies`), and says at the end that this was all, or which
-//! message is the first bad one (`faults`). `laws` has what holds of every day.
+//! one. It hands each body to a taker (`bodies`), and gives at the end the taker and the first bad
+//! message (`faults`), if there is one (`read_day`). `laws` has what holds of every day.
 #![tactic(auto)]
 
-mod beginnings;
 pub mod bodies;
 pub mod faults;
 pub mod framed;
 #[cfg(test)]
 mod joined;
 pub mod laws;
-pub mod lines;
 mod messages;
-mod undressing;
+pub mod read_day;
