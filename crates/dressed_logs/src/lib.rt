@@ -6,11 +6,15 @@
 //! message (`faults`), if there is one (`read_day`). `laws` has what holds of every day.
 #![tactic(auto)]
 
+mod beginnings;
 pub mod bodies;
 pub mod faults;
 pub mod framed;
 #[cfg(test)]
 mod joined;
 pub mod laws;
+pub mod lines;
+mod looking;
 mod messages;
 pub mod read_day;
+mod undressing;
