@@ -1,5 +1,5 @@
 -- What a feed of a day on lines stands for through its steps.
-use Rattle.std.proofs.Common.{◌≡◌, ℕ, ◌+◌, ◌-◌, ◌*◌, ◌<◌, ◌≤◌, ◌^◌, Bool, true, false, not, ◌==◌, ◌||◌, Option, Some, None, Result, Ok, Err, List, [], ◌∷◌, ◌++◌, length, take, drop, refl, sym, subst, ap, ◌∙◌, append_assoc, arith}
+use Rattle.std.proofs.Common.{◌≡◌, ℕ, ◌+◌, ◌-◌, ◌<◌, ◌≤◌, ◌^◌, Bool, true, false, not, ◌==◌, ◌||◌, Option, Some, None, Result, Ok, Err, List, [], ◌∷◌, ◌++◌, length, take, drop, refl, sym, subst, ap, ◌∙◌, append_assoc, arith}
 use Rattle.std.specs.Global.{Vec}
 use Rattle.std.specs.List.{list_all, slice_range, starts_with}
 use Rattle.std.specs.Prelude.{IfOk, MatchBool, nat_eq, nat_le}
@@ -11,10 +11,9 @@ use Rattle.log_source.specs.Handing.{HandsOnMore}
 use Rattle.fix_framing.specs.declared.frames.FrameFault.{FrameFault}
 use Rattle.dressed_logs.specs.declared.faults.BadMessage.{BadMessage}
 use Rattle.dressed_logs.specs.declared.lines.LineFeed.{LineFeed}
-use Rattle.dressed_logs.specs.Answers.{HasReadBodies}
 use Rattle.dressed_logs.specs.Lines.{BeginsWithFault, BeginsWithMessage, FirstBeginning, HasNoLineEnd, IsBadOnLines, is_graphic, is_soh_text, IsLeftAfter, IsLineReading}
 use Rattle.dressed_logs.specs.LineFeeds.{HasLines, IsLineFeedOf, IsLineFeedWith, IsLineFeedWithinLimit, StopsAtBadLine}
-use Rattle.dressed_logs.specs.LineSteps.{DropsTo, EndsLines, HasDay, ShutsAt, StopsLines, TakesLine, TakesNoLine, unread}
+use Rattle.dressed_logs.specs.LineSteps.{DropsTo, EndsLines, HasDay, ShutsAt, TakesLine, TakesNoLine, unread}
 use Rattle.dressed_logs.specs.Looks.{IsMessageAt}
 use Rattle.dressed_logs.specs.Searches.{HasNoneFrom, IsFirstFrom, IsSearched}
 use Rattle.dressed_logs.specs.Undressings.{MayFollow}

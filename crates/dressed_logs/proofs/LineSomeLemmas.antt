@@ -1,18 +1,18 @@
 -- Each day on lines has a reading.
-use Rattle.std.proofs.Common.{◌≡◌, ℕ, zero, suc, ◌+◌, ◌-◌, ◌<◌, ◌≤◌, Bool, true, false, not, ◌==◌, Option, Some, None, List, [], ◌∷◌, ◌++◌, length, take, drop, refl, sym, subst, ap, ◌∙◌, inl, inr, append_assoc, arith}
+use Rattle.std.proofs.Common.{◌≡◌, ℕ, zero, suc, ◌+◌, ◌-◌, ◌<◌, ◌≤◌, true, not, ◌==◌, Option, Some, None, List, [], ◌∷◌, ◌++◌, length, take, drop, refl, sym, subst, ap, ◌∙◌, inl, inr, append_assoc, arith}
 use Rattle.std.specs.Prelude.{◌⊎◌, nat_eq}
 use Rattle.std.specs.List.{list_all, starts_with}
 use Rattle.std.proofs.lemmas.Bool.{and_parts, cases_Bool, cases_lt}
-use Rattle.std.proofs.lemmas.List.{append-nil, length-append, length-drop, length-take-le, take-append-drop}
+use Rattle.std.proofs.lemmas.List.{length-append, length-drop, length-take-le, take-append-drop}
 use Rattle.std.proofs.lemmas.List.Folds.{list_all-append}
 use Rattle.fix_framing.specs.Headers.{any_version}
-use Rattle.fix_framing.specs.Frames.{body_of_with, frame_fault_with, frame_size_with, IsFrameWith}
+use Rattle.fix_framing.specs.Frames.{body_of_with, frame_fault_with, frame_size_with}
 use Rattle.fix_framing.specs.declared.frames.FrameFault.{FrameFault}
 use Rattle.fix_framing.proofs.PrefixLemmas.{split-at}
 use Rattle.fix_framing.proofs.TestLemmas.{NoFault-from_none}
-use Rattle.fix_framing.proofs.MessageLemmas.{NoFault-IsFrame, NoFault-size}
+use Rattle.fix_framing.proofs.MessageLemmas.{NoFault-IsFrame}
 use Rattle.dressed_logs.specs.declared.faults.BadMessage.{BadMessage}
-use Rattle.dressed_logs.specs.Lines.{BeginsWithFault, BeginsWithMessage, ends_line, FirstBeginning, HasBodiesOnLines, HasNoBeginningBelow, HasNoLineEnd, is_beginning, IsBadOnLines, IsLeftAfter, IsLineReading, IsUnit, StandFor}
+use Rattle.dressed_logs.specs.Lines.{BeginsWithFault, BeginsWithMessage, FirstBeginning, HasNoBeginningBelow, HasNoLineEnd, is_beginning, IsLeftAfter, IsLineReading, IsUnit, StandFor}
 use Rattle.dressed_logs.proofs.TextLemmas.{frame-nine}
 use Rattle.dressed_logs.proofs.LookLemmas.{first-line, FirstLine, stand-size, stands-some}
 
@@ -29,7 +29,7 @@ find-below text (suc n) = elim (find-below text n) [
   | inr found ↦ let low = found.low in inr (record { place = found.place; low = omega (arith, low); is = found.is; first = found.first })
   | inl none ↦ elim (cases_Bool (is_beginning text n)) [
     | inl is ↦ inr (record { place = n; low = omega arith; is = is; first = none })
-    | inr other ↦ inl (λ k low. elim (cases_lt k n) [ | inl few ↦ none k few | inr many ↦ ap (is_beginning text) (omega (arith, low, many)) ∙ other ])
+    | inr other ↦ inl (λ k low. elim (cases_lt k n) [ inl few ↦ none k few | inr many ↦ ap (is_beginning text) (omega (arith, low, many)) ∙ other ])
   ]
 ]
 

@@ -1,23 +1,19 @@
 -- A day on lines has one reading.
-use Rattle.std.proofs.Common.{◌≡◌, ℕ, zero, suc, ◌+◌, ◌<◌, ◌≤◌, Bool, true, false, not, ◌==◌, Option, Some, None, List, [], ◌∷◌, ◌++◌, length, take, drop, refl, sym, subst, ap, ◌∙◌, inl, inr, append_assoc, arith}
-use Rattle.std.specs.Prelude.{◌⊎◌, nat_eq}
-use Rattle.std.specs.List.{list_all, starts_with}
-use Rattle.std.proofs.lemmas.Bool.{and_parts, cases_Bool, cases_lt, false≢true}
-use Rattle.std.proofs.lemmas.List.{append-nil, drop_at, length-append, length-drop, length-take-le, nil_from_length, take-append-drop}
+use Rattle.std.proofs.Common.{◌≡◌, ℕ, ◌+◌, ◌<◌, Bool, true, not, ◌==◌, Option, Some, None, List, [], ◌∷◌, ◌++◌, length, drop, refl, sym, subst, ap, ◌∙◌, inl, inr, append_assoc, arith}
+use Rattle.std.specs.List.{list_all}
+use Rattle.std.proofs.lemmas.Bool.{and_parts, cases_lt, false≢true}
+use Rattle.std.proofs.lemmas.List.{append-nil, drop_at, length-append, nil_from_length}
 use Rattle.std.proofs.lemmas.List.Folds.{list_all-append}
 use Rattle.fix_framing.specs.Headers.{any_version}
-use Rattle.fix_framing.specs.Frames.{body_of_with, frame_fault_with, frame_size_with, IsFrameWith}
+use Rattle.fix_framing.specs.Frames.{frame_fault_with}
 use Rattle.fix_framing.specs.declared.frames.FrameFault.{FrameFault}
 use Rattle.fix_framing.proofs.PrefixLemmas.{starts-so}
-use Rattle.fix_framing.proofs.TestLemmas.{NoFault-from_none}
-use Rattle.fix_framing.proofs.MessageLemmas.{IsFrameWith-no_fault, NoFault-IsFrame, NoFault-size}
+use Rattle.fix_framing.proofs.MessageLemmas.{IsFrameWith-no_fault}
 use Rattle.fix_framing.proofs.UniqueLemmas.{frames-unique}
 use Rattle.dressed_logs.specs.declared.faults.BadMessage.{BadMessage}
-use Rattle.dressed_logs.specs.Lines.{BeginsWithFault, BeginsWithMessage, ends_line, FirstBeginning, HasBodiesOnLines, HasNoBeginningBelow, HasNoLineEnd, is_beginning, IsBadOnLines, IsLeftAfter, IsLineReading, IsUnit, StandFor}
-use Rattle.dressed_logs.proofs.TextLemmas.{any-headers, frame-nine}
+use Rattle.dressed_logs.specs.Lines.{BeginsWithFault, BeginsWithMessage, ends_line, FirstBeginning, HasBodiesOnLines, HasNoBeginningBelow, HasNoLineEnd, IsBadOnLines, IsLeftAfter, IsLineReading, IsUnit, StandFor}
+use Rattle.dressed_logs.proofs.TextLemmas.{any-headers}
 use Rattle.dressed_logs.proofs.SearchLemmas.{beginning-six}
-use Rattle.dressed_logs.proofs.LookLemmas.{first-line, stand-size, stands-some}
-use Rattle.dressed_logs.proofs.LineLemmas.{left-more}
 
 abbrev no-line : List ℕ → Bool
 no-line text = list_all (λ byte. not (byte == 10)) text

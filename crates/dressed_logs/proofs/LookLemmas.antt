@@ -1,9 +1,9 @@
 -- What a look at a message says.
-use Rattle.std.proofs.Common.{◌≡◌, ◌≢◌, ℕ, zero, suc, ◌+◌, ◌-◌, ◌<◌, ◌≤◌, Bool, true, false, not, ◌==◌, Some, List, [], ◌∷◌, ◌++◌, length, take, drop, refl, sym, subst, ap, ◌∙◌, inl, inr, append_assoc, arith}
+use Rattle.std.proofs.Common.{◌≡◌, ◌≢◌, ℕ, zero, suc, ◌+◌, ◌-◌, ◌<◌, ◌≤◌, Bool, true, not, ◌==◌, Some, List, [], ◌∷◌, ◌++◌, length, take, drop, refl, sym, subst, ap, ◌∙◌, inl, inr, append_assoc, arith}
 use Rattle.std.specs.Prelude.{MatchOption, nat_eq}
 use Rattle.std.specs.List.{list_all, slice_range, starts_with}
 use Rattle.std.proofs.lemmas.Bool.{and_from, and_parts, cases_Bool}
-use Rattle.std.proofs.lemmas.List.{append-nil, length-append, length-take-le}
+use Rattle.std.proofs.lemmas.List.{length-append, length-take-le}
 use Rattle.std.proofs.lemmas.List.Folds.{list_all-append}
 use Rattle.fix_framing.proofs.PrefixLemmas.{split-at}
 use Rattle.fix_framing.specs.Headers.{any_version}
@@ -14,7 +14,7 @@ use Rattle.fix_framing.specs.declared.frames.FrameFault.TheVariants as faults
 use Rattle.fix_framing.proofs.StayLemmas.{fault-stays, Truncated-bound}
 use Rattle.dressed_logs.specs.declared.undressing.Reached.{Reached}
 use Rattle.dressed_logs.specs.declared.undressing.Reached.TheVariants as why
-use Rattle.dressed_logs.specs.Lines.{BeginsWithFault, BeginsWithMessage, ends_line, HasNoLineEnd, IsUnit, StandFor}
+use Rattle.dressed_logs.specs.Lines.{BeginsWithFault, ends_line, HasNoLineEnd, IsUnit, StandFor}
 use Rattle.dressed_logs.specs.Looks.{IsMessageAt, LookSays, NeedsMore, refusal}
 use Rattle.dressed_logs.specs.Undressings.{IsReached, IsUndressed, MayFollow, Undressed}
 use Rattle.dressed_logs.proofs.TextLemmas.{any-headers, frame-nine}

@@ -1,12 +1,12 @@
 -- What lines stand for.
-use Rattle.std.proofs.Common.{◌≡◌, ℕ, zero, suc, ◌+◌, ◌-◌, ◌<◌, ◌≤◌, Bool, true, false, cond, not, ◌==◌, ◌&&◌, List, [], ◌∷◌, ◌++◌, length, take, drop, refl, sym, subst, ap, ◌∙◌, inl, inr, append_assoc, arith}
-use Rattle.std.specs.Prelude.{◌⊎◌, get_or, nat_eq, slice_index}
+use Rattle.std.proofs.Common.{◌≡◌, ℕ, ◌+◌, ◌-◌, ◌<◌, ◌≤◌, Bool, true, false, cond, not, ◌==◌, List, [], ◌∷◌, ◌++◌, length, take, drop, refl, sym, subst, ap, ◌∙◌, inl, inr, append_assoc, arith}
+use Rattle.std.specs.Prelude.{get_or, nat_eq, slice_index}
 use Rattle.std.specs.List.{list_all, starts_with}
-use Rattle.std.proofs.lemmas.Bool.{and_from, and_parts, cases_Bool, cases_lt, false≢true}
+use Rattle.std.proofs.lemmas.Bool.{and_from, and_parts, cases_lt, false≢true}
 use Rattle.std.proofs.lemmas.List.{append-nil, drop_at, drop-drop, drop_more, length-append, length-drop, take_all, take_at, take-append-drop, take_more}
 use Rattle.std.proofs.lemmas.List.Folds.{list_all-append}
 use Rattle.fix_framing.proofs.PrefixLemmas.{false-from, shorter-prefix, split-at, starts-so}
-use Rattle.dressed_logs.specs.Lines.{ends_line, HasNoLineEnd, IsUnit, StandFor}
+use Rattle.dressed_logs.specs.Lines.{HasNoLineEnd, IsUnit, StandFor}
 use Rattle.dressed_logs.specs.Undressings.{HasUndressed, IsNextUnit, IsUndressed, MayFollow, Undressed, Undresses}
 
 -- one unit more

@@ -1,5 +1,5 @@
 -- What a look at a message says.
-use Rattle.std.specs.Prelude.{◌≡◌, ℕ, ◌+◌, ◌≤◌, ◌<◌, Bool, true, false, Option, Some, None, List, ◌++◌, length, drop, MatchOption}
+use Rattle.std.specs.Prelude.{◌≡◌, ℕ, ◌+◌, ◌≤◌, Bool, false, Option, Some, None, List, ◌++◌, length, drop, MatchOption}
 use Rattle.std.specs.List.{slice_range}
 use Rattle.fix_framing.specs.Headers.{any_version}
 use Rattle.fix_framing.specs.Frames.{frame_fault_with}

@@ -88,7 +88,8 @@ fn drop_front(bytes: &mut Vec<u8>, count: usize)
 }
 
 impl<B: Bodies, S: SohText> LineFeed<B, S> {
-    /// A feed that has been handed no bytes, over a taker that has been handed nothing.
+    /// A feed that has been handed no bytes, over a taker that has been handed nothing. `soh` is the
+    /// text that stands for SOH in the day.
     pub fn over(alloc: Global, soh: Vec<u8>, bodies: B) -> Self
         requires soh { soh.items ≡ S.text }
         requires is { IsTrue (is_soh_text S.text) }

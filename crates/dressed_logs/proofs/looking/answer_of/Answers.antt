@@ -1,4 +1,4 @@
-use Rattle.std.proofs.Common.{ℕ, Option, subst, sym}
+use Rattle.std.proofs.Common.{Option, subst, sym}
 use Rattle.std.specs.Prelude.{MatchOption}
 use Rattle.dressed_logs.specs.declared.looking.Look.{Look}
 use Rattle.dressed_logs.specs.Looks.{LookSays, NeedsMore}

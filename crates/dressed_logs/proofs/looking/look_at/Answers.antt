@@ -1,6 +1,5 @@
-use Rattle.std.proofs.Common.{ℕ, List, ◌-◌, ◌<◌, ◌≤◌, length, subst, sym, arith}
+use Rattle.std.proofs.Common.{ℕ, List, ◌-◌, ◌<◌, length, subst, sym, arith}
 use Rattle.dressed_logs.specs.Undressings.{HasUndressed}
-use Rattle.dressed_logs.specs.Looks.{AnswersLook}
 use Rattle.dressed_logs.proofs.LookLemmas.{needs-fewer}
 use Rattle.dressed_logs.proofs.UndressLemmas.{has-undressed, undresses-on}
 use Rattle.dressed_logs.proofs.looking.look_at.Goals as goal
