@@ -4,3 +4,9 @@ pub mod MarkLemmas
 pub mod StartLemmas
 pub mod UniqueLemmas
 pub mod LogLemmas
+pub mod UndressLemmas
+pub mod SearchLemmas
+pub mod LookLemmas
+pub mod LineLemmas
+pub mod LineUniqueLemmas
+pub mod LineSomeLemmas

@@ -17,8 +17,8 @@ use Rattle.fix_framing.proofs.MessageLemmas.{IsFrameWith-body_of}
 use Rattle.fix_framing.proofs.FramerLemmas.{breaks-cut, IsFramed-breaks, unfinished-cut}
 use Rattle.dressed_logs.specs.declared.faults.BadMessage.{BadMessage}
 use Rattle.dressed_logs.specs.declared.messages.Messages.{Messages}
-use Rattle.dressed_logs.specs.Framed.{bodies_of, HasBodies, IsBadText}
-use Rattle.dressed_logs.specs.Answers.{HasReadBodies, MatchesReading}
+use Rattle.dressed_logs.specs.Framed.{bodies_of, IsBadText, IsTextReading}
+use Rattle.dressed_logs.specs.Answers.{HasReadBodies}
 use Rattle.dressed_logs.specs.Messages.{AreMessageFields, HasNoBadMessage, HasReadMessages, HasReadOf, HasText, IsMessagesOf, IsMessagesWithinLimit, StopsAtBadMessage, TakesMessage, TakesNoMessage}
 use Rattle.dressed_logs.proofs.TextLemmas.{any-headers, begins-past, framed-nine, split-breaks}
 
@@ -41,7 +41,7 @@ length-bodies (frame ∷ frames) = let h = length-bodies frames in omega (arith,
 -- no message begins at the next place
 pub bad-frame : (start : ℕ) (framer : Framer AnyVersion) (at : ℕ) (fault : FrameFault) (more : List ℕ) → list_all is_line_end_byte (bytes_unframed framer) ≡ false → IsNextOffset any_version framer at
     → frame_fault_with any_version (next_text framer ++ more) ≡ Some fault → (text : List ℕ) (frames : List (List ℕ)) → IsFramerWith any_version framer text frames
-    → IsBadText start (text ++ more) (bad_after start frames at fault)
+    → IsBadText start (text ++ more) (bodies_of frames) (bad_after start frames at fault)
 bad-frame start framer at fault more some place fails text frames stands =
     let split = split-breaks (bytes_unframed framer) in
     let front = take (count_framed framer) text in
@@ -61,7 +61,6 @@ bad-frame start framer at fault more some place fails text frames stands =
       front = front ++ split.gap;
       left = next_text framer ++ more;
       cut = cut;
-      bodies = bodies_of frames;
       before = record { frames = frames; framed = IsFramed-breaks any_version front split.gap frames stands.framed split.breaks; are = refl };
       begins = begins-past (bytes_unframed framer) more some;
       fails = fails;
@@ -153,23 +152,25 @@ module _ {B : Type 0} (has_taken : B → List (List ℕ) → Type 0) where
   }
 
   -- no message begins at the next place
-  pub ends-fault : (old new : Messages B) (framer : Framer AnyVersion) (at : ℕ) (fault : FrameFault) (bad : BadMessage) → new.bad ≡ Some bad → bytes_held new.framer ≡ [] → new.start ≡ old.start
+  pub ends-fault : (old new : Messages B) (framer : Framer AnyVersion) (at : ℕ) (fault : FrameFault) (bad : BadMessage) → new.bad ≡ Some bad → bytes_held new.framer ≡ [] → new.bodies ≡ old.bodies → new.start ≡ old.start
       → RefusesFrame any_version old.framer framer at fault → bad ≡ record { place = old.count + 1; offset = old.start + at; fault = fault } → TakesNoMessage has_taken old new
-  ends-fault old new framer at fault bad is nothing same refuses place = record {
+  ends-fault old new framer at fault bad is nothing bodies same refuses place = record {
     start = same;
     stands = λ text r.
-        let shut : StopsAtBadMessage new.start new.framer bad text = record {
+        let shut : StopsAtBadMessage (has_taken new.bodies) new.start new.framer bad text = record {
+          bodies = bodies_of r.frames;
+          has = subst (λ (b : B). has_taken b (bodies_of r.frames)) (sym bodies) r.has;
           is_bad = λ more.
               let here = bad-frame old.start old.framer at fault more (some-left old.framer fault refuses.failing refuses.bad) refuses.place (refuses.stays more) text r.frames r.stands in
               let told : bad ≡ bad_after old.start r.frames at fault = place ∙ ap (λ (k : ℕ). record { place = k + 1; offset = old.start + at; fault = fault }) r.counted in
-              subst (λ (s : ℕ). IsBadText s (text ++ more) bad) (sym same) (subst (IsBadText old.start (text ++ more)) (sym told) here);
+              subst (λ (s : ℕ). IsBadText s (text ++ more) (bodies_of r.frames) bad) (sym same) (subst (IsBadText old.start (text ++ more) (bodies_of r.frames)) (sym told) here);
           nothing = nothing;
         } in
         subst (λ (b : Option BadMessage). AreMessageFields (has_taken new.bodies) new.start new.framer new.count b text) (sym is) shut;
   }
 
   -- what messages stand for that met a bad one, or none
-  pub shut-reads : (messages : Messages B) (bad : BadMessage) (text : List ℕ) → messages.bad ≡ Some bad → IsMessagesOf has_taken messages text → StopsAtBadMessage messages.start messages.framer bad text
+  pub shut-reads : (messages : Messages B) (bad : BadMessage) (text : List ℕ) → messages.bad ≡ Some bad → IsMessagesOf has_taken messages text → StopsAtBadMessage (has_taken messages.bodies) messages.start messages.framer bad text
   shut-reads messages bad text is stood = subst (λ (b : Option BadMessage). AreMessageFields (has_taken messages.bodies) messages.start messages.framer messages.count b text) is stood
 
   pub open-reads : (messages : Messages B) (text : List ℕ) → messages.bad ≡ None → IsMessagesOf has_taken messages text → HasNoBadMessage (has_taken messages.bodies) messages.framer messages.count text
@@ -196,15 +197,17 @@ module _ {B : Type 0} (has_taken : B → List (List ℕ) → Type 0) where
   pub shut-more : (messages : Messages B) (bad : BadMessage) (text piece : List ℕ) → messages.bad ≡ Some bad → IsMessagesOf has_taken messages text → IsMessagesOf has_taken messages (text ++ piece)
   shut-more messages bad text piece is stood =
       let was = shut-reads messages bad text is stood in
-      let shut : StopsAtBadMessage messages.start messages.framer bad (text ++ piece) = record {
-        is_bad = λ more. subst (λ (t : List ℕ). IsBadText messages.start t bad) (sym (append_assoc text piece more)) (was.is_bad (piece ++ more));
+      let shut : StopsAtBadMessage (has_taken messages.bodies) messages.start messages.framer bad (text ++ piece) = record {
+        bodies = was.bodies;
+        has = was.has;
+        is_bad = λ more. subst (λ (t : List ℕ). IsBadText messages.start t was.bodies bad) (sym (append_assoc text piece more)) (was.is_bad (piece ++ more));
         nothing = was.nothing;
       } in
       subst (λ (b : Option BadMessage). AreMessageFields (has_taken messages.bodies) messages.start messages.framer messages.count b (text ++ piece)) (sym is) shut
 
   -- at the end
   pub ends-good : (messages : Messages B) (text : List ℕ) → messages.bad ≡ None → list_all is_line_end_byte (bytes_unframed messages.framer) ≡ true → IsMessagesOf has_taken messages text
-      → HasReadBodies (has_taken messages.bodies) (MatchesReading (HasBodies text) (IsBadText messages.start text))
+      → HasReadBodies (has_taken messages.bodies) (IsTextReading messages.start text) None
   ends-good messages text none all stood =
       let r = (open-reads messages text none stood).reads in
       let framed = IsFramed-breaks any_version (take (count_framed messages.framer) text) (bytes_unframed messages.framer) r.frames r.stands.framed all in
@@ -214,20 +217,29 @@ module _ {B : Type 0} (has_taken : B → List (List ℕ) → Type 0) where
         read = record { frames = r.frames; framed = rw (← fed-cut messages.framer text r.frames r.stands) at framed; are = refl };
       }
 
-  pub ends-bad : (messages : Messages B) (bad : BadMessage) (text : List ℕ) → messages.bad ≡ Some bad → IsMessagesOf has_taken messages text → IsBadText messages.start text bad
+  pub ends-bad : (messages : Messages B) (bad : BadMessage) (text : List ℕ) → messages.bad ≡ Some bad → IsMessagesOf has_taken messages text → HasReadBodies (has_taken messages.bodies) (IsTextReading messages.start text) (Some bad)
   ends-bad messages bad text is stood =
       let was = shut-reads messages bad text is stood in
-      subst (λ (t : List ℕ). IsBadText messages.start t bad) (append-nil text) (was.is_bad [])
+      record {
+        bodies = was.bodies;
+        has = was.has;
+        read = subst (λ (t : List ℕ). IsBadText messages.start t was.bodies bad) (append-nil text) (was.is_bad []);
+      }
 
   pub ends-cut : (messages : Messages B) (at : ℕ) (bad : BadMessage) (text : List ℕ) → messages.bad ≡ None → IsNextOffset any_version messages.framer at → list_all is_line_end_byte (bytes_unframed messages.framer) ≡ false
-      → bad ≡ record { place = messages.count + 1; offset = messages.start + at; fault = Truncated } → IsMessagesOf has_taken messages text → IsBadText messages.start text bad
+      → bad ≡ record { place = messages.count + 1; offset = messages.start + at; fault = Truncated } → IsMessagesOf has_taken messages text
+      → HasReadBodies (has_taken messages.bodies) (IsTextReading messages.start text) (Some bad)
   ends-cut messages at bad text none place some is stood =
       let opened = open-reads messages text none stood in
       let r = opened.reads in
       let cut : frame_fault_with any_version (next_text messages.framer ++ []) ≡ Some Truncated = ap (frame_fault_with any_version) (append-nil (next_text messages.framer)) ∙ opened.cut in
       let here = bad-frame messages.start messages.framer at Truncated [] some place cut text r.frames r.stands in
       let told : bad ≡ bad_after messages.start r.frames at Truncated = is ∙ ap (λ (k : ℕ). record { place = k + 1; offset = messages.start + at; fault = Truncated }) r.counted in
-      subst (λ (t : List ℕ). IsBadText messages.start t bad) (append-nil text) (subst (IsBadText messages.start (text ++ [])) (sym told) here)
+      record {
+        bodies = bodies_of r.frames;
+        has = r.has;
+        read = subst (λ (t : List ℕ). IsBadText messages.start t (bodies_of r.frames) bad) (append-nil text) (subst (IsBadText messages.start (text ++ []) (bodies_of r.frames)) (sym told) here);
+      }
 
   pub within-text : (messages : Messages B) → messages.bad ≡ None → IsMessagesWithinLimit has_taken messages → HasText has_taken messages
   within-text messages none within = record { text = within.text; reads = (open-reads messages within.text none within.stands).reads; within = within.within }

@@ -1,5 +1,5 @@
 -- A day has one reading.
-use Rattle.std.proofs.Common.{◌≡◌, ℕ, zero, suc, ◌+◌, ◌<◌, Bool, true, false, Option, Some, None, Result, Ok, Err, List, [], ◌∷◌, ◌++◌, length, take, drop, refl, sym, subst, ap, ◌∙◌, inl, inr, append_assoc, arith}
+use Rattle.std.proofs.Common.{◌≡◌, ℕ, zero, suc, ◌+◌, ◌<◌, Bool, true, false, Option, Some, None, List, [], ◌∷◌, ◌++◌, length, take, drop, refl, sym, subst, ap, ◌∙◌, inl, inr, append_assoc, arith}
 use Rattle.std.specs.Prelude.{◌⊎◌, Contains, nat_eq}
 use Rattle.std.specs.List.{list_all, starts_with}
 use Rattle.std.proofs.lemmas.Bool.{and_parts, cases_Bool, not-true}
@@ -16,8 +16,7 @@ use Rattle.fix_framing.proofs.MessageLemmas.{IsFrameWith-no_fault, NoFault-IsFra
 use Rattle.fix_framing.proofs.FramerLemmas.{breaks-cut}
 use Rattle.fix_framing.proofs.UniqueLemmas.{frames-unique}
 use Rattle.dressed_logs.specs.declared.faults.BadMessage.{BadMessage}
-use Rattle.dressed_logs.specs.Framed.{begins_past_breaks, bodies_of, HasBodies, IsBadText}
-use Rattle.dressed_logs.specs.Answers.{MatchesReading}
+use Rattle.dressed_logs.specs.Framed.{begins_past_breaks, bodies_of, HasBodies, IsBadText, IsTextReading}
 use Rattle.dressed_logs.proofs.TextLemmas.{any-headers, begins-past, frame-nine, split-breaks}
 
 -- a header begins with `8`
@@ -120,36 +119,38 @@ module _ (start : ℕ) (text : List ℕ) where
       let same = same-frames is.frames its.frames text [] text [] is.framed its.framed refl nothing-stuck nothing-stuck in
       is.are ∙ ap bodies_of same.frames_are ∙ sym its.are
 
-  bad-stuck : (bad : BadMessage) (is : IsBadText start text bad) → IsStuck is.left
-  bad-stuck bad is = fault-stuck is.left bad.fault is.begins is.fails
+  bad-stuck : (bodies : List (List ℕ)) (bad : BadMessage) (is : IsBadText start text bodies bad) → IsStuck is.left
+  bad-stuck bodies bad is = fault-stuck is.left bad.fault is.begins is.fails
 
-  good-bad : (bodies : List (List ℕ)) (bad : BadMessage) → HasBodies text bodies → IsBadText start text bad → ⊥
-  good-bad bodies bad is its =
-      let same = same-frames is.frames its.before.frames text [] its.front its.left is.framed its.before.framed (append-nil text ∙ its.cut) nothing-stuck (bad-stuck bad its) in
+  good-bad : (bodies others : List (List ℕ)) (bad : BadMessage) → HasBodies text bodies → IsBadText start text others bad → ⊥
+  good-bad bodies others bad is its =
+      let same = same-frames is.frames its.before.frames text [] its.front its.left is.framed its.before.framed (append-nil text ∙ its.cut) nothing-stuck (bad-stuck others bad its) in
       cc (sym its.begins ∙ ap begins_past_breaks (sym same.left_is))
 
-  bad-bad : (bad other : BadMessage) → IsBadText start text bad → IsBadText start text other → bad ≡ other
-  bad-bad bad other is its =
-      let same = same-frames is.before.frames its.before.frames is.front is.left its.front its.left is.before.framed its.before.framed (sym is.cut ∙ its.cut) (bad-stuck bad is) (bad-stuck other its) in
-      let bodies : is.bodies ≡ its.bodies = is.before.are ∙ ap bodies_of same.frames_are ∙ sym its.before.are in
-      let place : bad.place ≡ other.place = is.place ∙ ap (λ (b : List (List ℕ)). length b + 1) bodies ∙ sym its.place in
+  bad-bad : (bodies others : List (List ℕ)) (bad other : BadMessage) → IsBadText start text bodies bad → IsBadText start text others other → (bodies ≡ others) × (bad ≡ other)
+  bad-bad bodies others bad other is its =
+      let same = same-frames is.before.frames its.before.frames is.front is.left its.front its.left is.before.framed its.before.framed (sym is.cut ∙ its.cut) (bad-stuck bodies bad is) (bad-stuck others other its) in
+      let same_bodies : bodies ≡ others = is.before.are ∙ ap bodies_of same.frames_are ∙ sym its.before.are in
+      let place : bad.place ≡ other.place = is.place ∙ ap (λ (b : List (List ℕ)). length b + 1) same_bodies ∙ sym its.place in
       let sizes = ap length (sym is.cut ∙ its.cut) in
       let offset : bad.offset ≡ other.offset =
       omega (arith, is.offset, its.offset, sizes, length-append is.front is.left, length-append its.front its.left, ap length same.left_is) in
       let fails : Some bad.fault ≡ Some other.fault = sym is.fails ∙ ap (frame_fault_with any_version) same.left_is ∙ its.fails in
       let fault : bad.fault ≡ other.fault = cc fails in
-      same-fields bad other place offset fault
+      (same_bodies, same-fields bad other place offset fault)
     where
       same-fields : (bad other : BadMessage) → bad.place ≡ other.place → bad.offset ≡ other.offset → bad.fault ≡ other.fault → bad ≡ other
       same-fields bad other place offset fault =
           ap (λ (p : ℕ). record { place = p; offset = bad.offset; fault = bad.fault }) place ∙ ap (λ (o : ℕ). record { place = other.place; offset = o; fault = bad.fault }) offset
           ∙ ap (λ (f : FrameFault). record { place = other.place; offset = other.offset; fault = f }) fault
 
-  pub one-reading : (reading other : Result (List (List ℕ)) BadMessage) → MatchesReading (HasBodies text) (IsBadText start text) reading → MatchesReading (HasBodies text) (IsBadText start text) other → reading ≡ other
-  one-reading (Ok bodies) (Ok others) is its = ap Ok (good-good bodies others is its)
-  one-reading (Ok bodies) (Err bad) is its = absurd (good-bad bodies bad is its)
-  one-reading (Err bad) (Ok bodies) is its = absurd (good-bad bodies bad its is)
-  one-reading (Err bad) (Err other) is its = ap Err (bad-bad bad other is its)
+  pub one-reading : (bodies others : List (List ℕ)) (bad other : Option BadMessage) → IsTextReading start text bodies bad → IsTextReading start text others other → (bodies ≡ others) × (bad ≡ other)
+  one-reading bodies others None None is its = (good-good bodies others is its, refl)
+  one-reading bodies others None (Some bad) is its = absurd (good-bad bodies others bad is its)
+  one-reading bodies others (Some bad) None is its = absurd (good-bad others bodies bad its is)
+  one-reading bodies others (Some bad) (Some other) is its =
+      let same = bad-bad bodies others bad other is its in
+      (same.0, ap Some same.1)
 
 -- Messages up to where none begins
 record Stops (text : List ℕ) : Type 0 where
@@ -207,21 +208,21 @@ length-bodies [] = refl
 length-bodies (frame ∷ frames) = let h = length-bodies frames in omega (arith, h)
 
 -- each text has a reading
-pub some-reading : (start : ℕ) (text : List ℕ) → (reading : Result (List (List ℕ)) BadMessage) × MatchesReading (HasBodies text) (IsBadText start text) reading
+pub some-reading : (start : ℕ) (text : List ℕ) → (bodies : List (List ℕ)) × (bad : Option BadMessage) × IsTextReading start text bodies bad
 some-reading start text = read-stops (stops-within (length text + 1) text (omega arith))
   where
-    read-stops : Stops text → (reading : Result (List (List ℕ)) BadMessage) × MatchesReading (HasBodies text) (IsBadText start text) reading
+    read-stops : Stops text → (bodies : List (List ℕ)) × (bad : Option BadMessage) × IsTextReading start text bodies bad
     read-stops s = elim s.ends [
       | inl none ↦
           let whole : text ≡ s.front = s.cut ∙ ap (λ (t : List ℕ). s.front ++ t) none ∙ append-nil s.front in
-          (Ok (bodies_of s.frames), record { frames = s.frames; framed = subst (λ (t : List ℕ). IsFramedWith any_version t s.frames) (sym whole) s.framed; are = refl })
+          (bodies_of s.frames, None, record { frames = s.frames; framed = subst (λ (t : List ℕ). IsFramedWith any_version t s.frames) (sym whole) s.framed; are = refl })
       | inr bad ↦ (
-        Err (record { place = length (bodies_of s.frames) + 1; offset = start + length s.front; fault = bad.1 }),
+        bodies_of s.frames,
+        Some (record { place = length (bodies_of s.frames) + 1; offset = start + length s.front; fault = bad.1 }),
         record {
           front = s.front;
           left = s.left;
           cut = s.cut;
-          bodies = bodies_of s.frames;
           before = record { frames = s.frames; framed = s.framed; are = refl };
           begins = bad.0;
           fails = bad.2;

@@ -3,8 +3,15 @@
 pub mod Framed
 pub mod Answers
 pub mod Feeds
+-- what is read of a day on lines
+pub mod Lines
+pub mod LineFeeds
 -- what holds of every day
 pub mod Laws
 -- Part 2. What the private functions pass on to one another.
 pub mod Messages
 pub mod Starts
+pub mod Searches
+pub mod Undressings
+pub mod Looks
+pub mod LineSteps

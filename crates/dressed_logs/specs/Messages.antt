@@ -28,10 +28,13 @@ pub record HasNoBadMessage (has_taken : List (List ℕ) → Type 0) (framer : Fr
   pub short : length (bytes_held framer) < longest_frame_with any_version
   pub cut : frame_fault_with any_version (next_text framer) ≡ Some Truncated
 
--- The text and every longer text that begins with it are bad there, and no bytes are held.
-pub record StopsAtBadMessage (start : ℕ) (framer : Framer AnyVersion) (bad : BadMessage)
-    (text : List ℕ) : Type 0 where
-  pub is_bad : (more : List ℕ) → IsBadText start (text ++ more) bad
+-- The text and every longer text that begins with it are bad there, the bodies before that were
+-- handed on, and no bytes are held.
+pub record StopsAtBadMessage (has_taken : List (List ℕ) → Type 0) (start : ℕ)
+    (framer : Framer AnyVersion) (bad : BadMessage) (text : List ℕ) : Type 0 where
+  pub bodies : List (List ℕ)
+  pub has : has_taken bodies
+  pub is_bad : (more : List ℕ) → IsBadText start (text ++ more) bodies bad
   pub nothing : bytes_held framer ≡ []
 
 -- these parts stand for this text
@@ -40,7 +43,7 @@ abbrev pub AreMessageFields : (List (List ℕ) → Type 0) → ℕ → Framer An
 AreMessageFields has_taken start framer count None text =
     HasNoBadMessage has_taken framer count text
 AreMessageFields has_taken start framer count (Some bad) text =
-    StopsAtBadMessage start framer bad text
+    StopsAtBadMessage has_taken start framer bad text
 
 -- the messages stand for this text; `has_taken` says what their taker has been handed
 abbrev pub IsMessagesOf : {B : Type 0} → (B → List (List ℕ) → Type 0) → Messages B → List ℕ

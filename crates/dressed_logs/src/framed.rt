@@ -1,16 +1,16 @@
 //! A framed day: messages one after another, with CR and LF between them, as in a FIX log. One byte
 //! order mark of UTF-8, EF BB BF, is passed over at the start of the day, and nowhere else.
-ghost use Rattle.std.specs.Prelude.{◌≡◌, ◌<◌, ◌≤◌, ◌∷◌, [], ℕ, List, OnOk, IsTrue, ◌↔◌, length};
+ghost use Rattle.std.specs.Prelude.{◌≡◌, ◌<◌, ◌≤◌, ◌∷◌, [], ℕ, List, IfOk, OnOk, IsTrue, ◌↔◌, length};
 ghost use Rattle.log_source.specs.Feeds.{HasRoom};
 ghost use Rattle.log_source.specs.Handing.{HandsOnMore};
 ghost use Rattle.dressed_logs.specs.Framed.{IsFramedReading, mark};
-ghost use Rattle.dressed_logs.specs.Answers.{AnswersBodies};
+ghost use Rattle.dressed_logs.specs.Answers.{HasReadBodies};
 ghost use Rattle.dressed_logs.specs.Feeds.{IsFramedFeedOf, IsFramedFeedWithinLimit};
 ghost use Rattle.dressed_logs.specs.Starts.{BeginsDay, HasFront, HasWholeFront};
 
 use crate::bodies::Bodies;
-use crate::faults::DayFault;
 use crate::messages::Messages;
+use crate::read_day::ReadDay;
 use audit_base::faults::NoMemory;
 use log_source::feed::Feed;
 use std::alloc::Global;
@@ -88,15 +88,16 @@ impl<B: Bodies> FramedFeed<B> {
     }
 
     /// The taker, which has been handed exactly the bodies of the messages of the day that has
-    /// come, in order, or its first bad message: what the reading of the whole day says, for every
-    /// day that the feed stands for.
-    pub fn close(mut self) -> Result<B, DayFault>
+    /// come, in order, up to the first bad one, and that one: together what the reading of the whole
+    /// day says, for every day that the feed stands for.
+    pub fn close(mut self) -> Result<ReadDay<B>, NoMemory>
         requires { IsFramedFeedWithinLimit B.has_taken self }
         ensures { (day : List ℕ) → IsFramedFeedOf B.has_taken self day
-            → AnswersBodies B.has_taken (IsFramedReading day) result }
+            → IfOk result (λ read. HasReadBodies (B.has_taken read.bodies) (IsFramedReading day)
+            read.bad) }
     {
         self.end_front()?;
-        self.messages.close()
+        Ok(self.messages.close())
     }
 }
 

@@ -1,11 +1,22 @@
 //! Laws of days, apart from the code. Nothing is computed here: a law is a function's contract, so
 //! that the check proves it.
-ghost use Rattle.dressed_logs.specs.Laws.{FixLogsAreDays, FramedDaysAreReadOnce, WrittenDaysAreRead};
+ghost use Rattle.dressed_logs.specs.Laws.{FixLogsAreDays, FramedDaysAreReadOnce, LineDaysAreReadOnce, SohStandsForItself, WrittenDaysAreRead};
 
-/// Each day that is read as framed, however long, has one reading: a list of bodies, or a first bad
-/// message, and never both.
+/// Each day that is read as framed, however long, has one reading: a list of bodies, and the first
+/// bad message after them, if there is one.
 pub fn days_have_one_reading()
     ensures framed { FramedDaysAreReadOnce }
+{}
+
+/// Each day that is read on lines, however long and whatever text stands for SOH in it, has one
+/// reading: a list of bodies, and the first bad message after them, if there is one.
+pub fn days_on_lines_have_one_reading()
+    ensures { LineDaysAreReadOnce }
+{}
+
+/// With SOH given as the text for SOH, the bytes of a day on lines stand for themselves.
+pub fn soh_stands_for_itself()
+    ensures { SohStandsForItself }
 {}
 
 /// A FIX log whose messages are all of FIX 4.4 is read, as framed, as the bodies of its messages.

@@ -4,12 +4,13 @@ ghost use Rattle.std.specs.Prelude.{◌≡◌, ◌+◌, ◌<◌, ◌^◌, ℕ, L
 ghost use Rattle.log_source.specs.Feeds.{HasRoom};
 ghost use Rattle.log_source.specs.Handing.{HandsOnMore};
 ghost use Rattle.fix_framing.specs.Framing.{bytes_held};
-ghost use Rattle.dressed_logs.specs.Framed.{HasBodies, IsBadText};
-ghost use Rattle.dressed_logs.specs.Answers.{AnswersBodies, MatchesReading};
+ghost use Rattle.dressed_logs.specs.Framed.{IsTextReading};
+ghost use Rattle.dressed_logs.specs.Answers.{HasReadBodies};
 ghost use Rattle.dressed_logs.specs.Messages.{IsMessagesOf, IsMessagesWithinLimit, HasText, TakesMessage, TakesNoMessage};
 
 use crate::bodies::Bodies;
-use crate::faults::{BadMessage, DayFault};
+use crate::faults::BadMessage;
+use crate::read_day::ReadDay;
 use audit_base::faults::NoMemory;
 use fix_framing::framer::{Framer, Step};
 use fix_framing::frames::FrameFault;
@@ -68,6 +69,7 @@ impl<B: Bodies> Messages<B> {
     fn shut(&mut self, bad: BadMessage)
         ensures bad { self.new.bad ≡ Some bad }
         ensures nothing { bytes_held self.new.framer ≡ [] }
+        ensures bodies { self.new.bodies ≡ self.old.bodies }
         ensures start { self.new.start ≡ self.old.start }
     {
         self.framer = Framer::new(self.alloc);
@@ -123,24 +125,28 @@ impl<B: Bodies> Messages<B> {
         self.take_messages()
     }
 
-    /// The taker, which has been handed exactly the bodies of the text, or its first bad message.
-    pub(crate) fn close(self) -> Result<B, DayFault>
+    /// The taker, which has been handed exactly the bodies of the text up to its first bad message,
+    /// and that message.
+    pub(crate) fn close(self) -> ReadDay<B>
         requires { IsMessagesWithinLimit B.has_taken self }
         ensures { (text : List ℕ) → IsMessagesOf B.has_taken self text
-            → AnswersBodies B.has_taken
-            (MatchesReading (HasBodies text) (IsBadText self.start text)) result }
+            → HasReadBodies (B.has_taken result.bodies) (IsTextReading self.start text) result.bad }
     {
         if let Some(bad) = self.bad {
-            return Err(DayFault::Bad(bad));
+            return ReadDay {
+                bodies: self.bodies,
+                bad: Some(bad),
+            };
         }
         match self.framer.finish() {
-            Ok(()) => Ok(self.bodies),
-            Err(at) => Err(DayFault::Bad(bad_at(
-                self.start,
-                self.count,
-                at,
-                FrameFault::Truncated,
-            ))),
+            Ok(()) => ReadDay {
+                bodies: self.bodies,
+                bad: None,
+            },
+            Err(at) => ReadDay {
+                bodies: self.bodies,
+                bad: Some(bad_at(self.start, self.count, at, FrameFault::Truncated)),
+            },
         }
     }
 }

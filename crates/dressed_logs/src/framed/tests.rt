@@ -3,6 +3,7 @@ ghost use Rattle.std.specs.Prelude.{◌≤◌, length};
 use super::*;
 use crate::faults::BadMessage;
 use crate::joined::Joined;
+use crate::read_day::ReadDay;
 use audit_base::terms::Which;
 use fix_framing::frames::FrameFault;
 use log_source::limits::LONGEST_READ;
@@ -26,30 +27,35 @@ const GOOD: [(&[u8], &[u8]); 6] = [
     ),
 ];
 
-/// A day, and its first bad message: its place, its offset and its fault.
-const BAD: [(&[u8], u32, u64, FrameFault); 11] = [
+/// A day, the bodies before its first bad message, each with `;` after it, and that message: its
+/// place, its offset and its fault.
+const BAD: [(&[u8], &[u8], u32, u64, FrameFault); 11] = [
     // A mark in the middle, a second one, and one that isn't all there.
     (
         b"8=FIX.4.2\x019=5\x0135=0\x0110=161\x01\xEF\xBB\xBF8=FIX.4.4\x019=5\x0135=0\x0110=163\x01",
+        b"35=0\x01;",
         2,
         26,
         FrameFault::Begin,
     ),
     (
         b"\xEF\xBB\xBF\xEF\xBB\xBF8=FIX.4.4\x019=5\x0135=0\x0110=163\x01",
+        b"",
         1,
         3,
         FrameFault::Begin,
     ),
-    (b"\xEF\xBB", 1, 0, FrameFault::Begin),
+    (b"\xEF\xBB", b"", 1, 0, FrameFault::Begin),
     (
         b"\xEF\xBB8=FIX.4.4\x019=5\x0135=0\x0110=163\x01",
+        b"",
         1,
         0,
         FrameFault::Begin,
     ),
     (
         b"\n\xEF\xBB\xBF8=FIX.4.4\x019=5\x0135=0\x0110=163\x01",
+        b"",
         1,
         1,
         FrameFault::Begin,
@@ -57,26 +63,30 @@ const BAD: [(&[u8], u32, u64, FrameFault); 11] = [
     // After a mark, offsets count its bytes.
     (
         b"\xEF\xBB\xBF8=FIX.4.4\x019=5\x0135=0\x0110=163\x01\n8=FIX.4.5\x019=5",
+        b"35=0\x01;",
         2,
         30,
         FrameFault::Begin,
     ),
     (
         b"\xEF\xBB\xBF8=FIX.4.4\x019=5\x0135=0\x0110=163\x01\r\n8=FIX.4.2\x019=5\x0135=0\x0110=161",
+        b"35=0\x01;",
         2,
         31,
         FrameFault::Truncated,
     ),
-    (b"8=", 1, 0, FrameFault::Truncated),
-    (b"\r8=FIX.4.1\x019=x", 1, 1, FrameFault::Length),
+    (b"8=", b"", 1, 0, FrameFault::Truncated),
+    (b"\r8=FIX.4.1\x019=x", b"", 1, 1, FrameFault::Length),
     (
         b"8=FIX.4.4\x019=4\x0135=0\x0110=163\x01",
+        b"",
         1,
         0,
         FrameFault::Trailer,
     ),
     (
         b"8=FIX.4.4\x019=5\x0135=0\x0110=163\x018=FIXT.1.1\x019=5\x0135=0\x0110=240\x01\x01",
+        b"35=0\x01;",
         2,
         26,
         FrameFault::Checksum,
@@ -84,32 +94,32 @@ const BAD: [(&[u8], u32, u64, FrameFault); 11] = [
 ];
 
 /// The bodies of the day, read in pieces of this size.
-fn read_in_pieces(alloc: Global, day: &[u8], piece: usize) -> Result<Vec<u8>, DayFault>
+fn read_in_pieces(alloc: Global, day: &[u8], piece: usize) -> Result<ReadDay<Joined>, NoMemory>
     requires { 1 ≤ piece }
 {
     let mut shelf = MemoryShelf::new(alloc, piece, Vec::new(alloc));
-    let Ok(bytes) = Vec::from_slice(alloc, day) else {
-        return Err(DayFault::Memory);
-    };
-    shelf.put(String::new(alloc), bytes)?;
+    shelf.put(String::new(alloc), Vec::from_slice(alloc, day)?)?;
     let mut feed = FramedFeed::over(alloc, Joined::new(alloc));
     if pump(&mut shelf, Which::Orders, "", LONGEST_READ, &mut feed).is_err() {
-        return Err(DayFault::Memory);
+        return Err(NoMemory);
     }
-    let bodies = feed.close()?;
-    Ok(bodies.text)
+    feed.close()
 }
 
 /// The bodies of the day, read in two pieces.
-fn read_cut(alloc: Global, day: &[u8], cut: usize) -> Result<Vec<u8>, DayFault>
+fn read_cut(alloc: Global, day: &[u8], cut: usize) -> Result<ReadDay<Joined>, NoMemory>
     requires within { cut ≤ length day.now }
     requires short { length day.now ≤ 1000 }
 {
     let mut feed = FramedFeed::over(alloc, Joined::new(alloc));
     feed.feed(&day[..cut])?;
     feed.feed(&day[cut..])?;
-    let bodies = feed.close()?;
-    Ok(bodies.text)
+    feed.close()
+}
+
+/// Whether the day was read as these bodies and this first bad message.
+fn is_read(read: &Result<ReadDay<Joined>, NoMemory>, text: &[u8], bad: Option<BadMessage>) -> bool {
+    matches!(read, Ok(day) if day.bodies.text.as_slice() == text && day.bad == bad)
 }
 
 #[test]
@@ -117,14 +127,14 @@ fn good_days_are_read_in_pieces_of_every_size(rt: HostRuntime) {
     for &(day, want) in &GOOD {
         for piece in 1..65 {
             let read = read_in_pieces(rt.alloc(), day, piece);
-            assert!(rt; matches!(&read, Ok(text) if text.as_slice() == want));
+            assert!(rt; is_read(&read, want, None));
         }
     }
 }
 
 #[test]
 fn bad_days_are_refused_in_pieces_of_every_size(rt: HostRuntime) {
-    for &(day, place, offset, fault) in &BAD {
+    for &(day, want, place, offset, fault) in &BAD {
         let bad = BadMessage {
             place,
             offset,
@@ -132,7 +142,7 @@ fn bad_days_are_refused_in_pieces_of_every_size(rt: HostRuntime) {
         };
         for piece in 1..65 {
             let read = read_in_pieces(rt.alloc(), day, piece);
-            assert!(rt; matches!(&read, Err(fault) if *fault == DayFault::Bad(bad)));
+            assert!(rt; is_read(&read, want, Some(bad)));
         }
     }
 }
@@ -143,6 +153,6 @@ fn a_day_is_read_wherever_it_is_cut(rt: HostRuntime) {
     assert!(rt; day.len() <= 1000);
     for cut in 0..=day.len() {
         let read = read_cut(rt.alloc(), day, cut);
-        assert!(rt; matches!(&read, Ok(text) if text.as_slice() == want));
+        assert!(rt; is_read(&read, want, None));
     }
 }

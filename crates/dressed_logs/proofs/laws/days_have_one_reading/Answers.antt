@@ -7,6 +7,6 @@ pub returns : goal.returns
 returns c = record {
   framed = record {
     some = λ day. some-reading (length (mark_of day)) (after_mark day);
-    one = λ day reading other. one-reading (length (mark_of day)) (after_mark day) reading other;
+    one = λ day bodies others bad other. one-reading (length (mark_of day)) (after_mark day) bodies others bad other;
   };
 }

@@ -16,6 +16,6 @@ bad_at-requires-clause-offset g c =
 pub returns-in-Ok : goal.returns-in-Ok
 returns-in-Ok g c = λ text stood. ends-good g.B.Bodies.has_taken c.args.self text c.in_default.is (c.in-Ok.ensures.ok.0 refl) stood
 
-pub returns-in-Err : goal.returns-in-Err
-returns-in-Err g c = λ text stood.
+pub returns : goal.returns
+returns g c = λ text stood.
     ends-cut g.B.Bodies.has_taken c.args.self c.in-Err.at c.bad_at.result text c.in_default.is c.in-Err.ensures.err (not-all _ (λ all. false≢true (c.in-Err.ensures.ok.1 all))) c.bad_at.ensures stood

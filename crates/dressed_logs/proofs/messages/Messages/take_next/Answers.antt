@@ -18,7 +18,7 @@ returns-in-Wait g c = ends-wait g.B.Bodies.has_taken c.args.self.now _ c.require
 
 pub returns-in-Fault : goal.returns-in-Fault
 returns-in-Fault g c =
-    ends-fault g.B.Bodies.has_taken c.args.self.now c.shut.new.self c.next_frame.new.self c.in-Fault.at c.in-Fault.fault c.bad_at-bad.result c.shut.ensures.bad c.shut.ensures.nothing c.shut.ensures.start c.in-Fault.ensures.answers
+    ends-fault g.B.Bodies.has_taken c.args.self.now c.shut.new.self c.next_frame.new.self c.in-Fault.at c.in-Fault.fault c.bad_at-bad.result c.shut.ensures.bad c.shut.ensures.nothing c.shut.ensures.bodies c.shut.ensures.start c.in-Fault.ensures.answers
     c.bad_at-bad.ensures
 
 pub returns-in_ok-take-in-Whole : goal.returns-in_ok-take-in-Whole

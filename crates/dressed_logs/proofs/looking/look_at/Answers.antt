@@ -1,0 +1,33 @@
+use Rattle.std.proofs.Common.{ℕ, List, ◌-◌, ◌<◌, length, subst, sym, arith}
+use Rattle.dressed_logs.specs.Undressings.{HasUndressed}
+use Rattle.dressed_logs.proofs.LookLemmas.{needs-fewer}
+use Rattle.dressed_logs.proofs.UndressLemmas.{has-undressed, undresses-on}
+use Rattle.dressed_logs.proofs.looking.look_at.Goals as goal
+
+pub answer_of-requires-clause-bytes : goal.answer_of-requires-clause-bytes
+answer_of-requires-clause-bytes c =
+    let all = undresses-on c.args.soh.now c.args.held.now c.args.place c.looks.at c.args.ended _ _ c.in_ok-reached.reached c.looks.invariant.3 c.in_ok-reached.ensures.bytes in
+    subst (λ (t : List ℕ). HasUndressed c.args.soh.now c.args.held.now c.args.place (length t)) (sym c.deref.ensures.value)
+    (has-undressed c.args.soh.now c.args.held.now c.args.place c.args.ended c.in_ok-reached.reached c.undress.new.out.items all)
+
+pub returns-in-Some : goal.returns-in-Some
+returns-in-Some c =
+    let all = undresses-on c.args.soh.now c.args.held.now c.args.place c.looks.at c.args.ended _ _ c.in_ok-reached.reached c.looks.invariant.3 c.in_ok-reached.ensures.bytes in
+    let says = rw c.deref.ensures.value at c.in-Some.ensures in
+    says c.looks.count c.args.ended c.in_ok-reached.reached all c.in_ok-reached.ensures.bytes.inside c.in_ok-reached.ensures.reached
+
+pub looks-smaller : goal.looks-smaller
+looks-smaller c =
+    let all = undresses-on c.args.soh.now c.args.held.now c.args.place c.looks.at c.args.ended _ _ c.in_ok-reached.reached c.looks.invariant.3 c.in_ok-reached.ensures.bytes in
+    let says = rw c.deref.ensures.value at c.in_default.ensures in
+    let needs = says c.looks.count c.args.ended c.in_ok-reached.reached all c.in_ok-reached.ensures.bytes.inside c.in_ok-reached.ensures.reached in
+    let few = needs-fewer c.args.held.now c.undress.new.out.items c.looks.count c.args.ended c.in_ok-reached.reached c.in_ok-reached.why needs c.in_ok-reached.ensures.reached in
+    let low = c.looks.invariant.1 in
+    let less : 1048607 - c.min-count.result < 1048607 - c.looks.count = omega (arith, few, low) in
+    less
+
+pub looks-preserved : goal.looks-preserved
+looks-preserved c =
+    let all = undresses-on c.args.soh.now c.args.held.now c.args.place c.looks.at c.args.ended _ _ c.in_ok-reached.reached c.looks.invariant.3 c.in_ok-reached.ensures.bytes in
+    let low = c.looks.invariant.1 in
+    (c.in_ok-reached.ensures.bytes.inside, omega (arith, low), omega arith, all)
