@@ -24,8 +24,9 @@ begins_past_breaks [] = false
 begins_past_breaks (byte ∷ rest) = not (is_line_end_byte byte)
 
 -- The message is bad: after messages with these bodies, and CR and LF, comes another byte at which
--- no message begins. The place is one more than the number of messages before it, the offset that of this
--- byte, where `start` bytes are before the text, and the fault the first test that fails there.
+-- no message begins. The place is one more than the number of messages before it, the offset that
+-- of this byte, where `start` bytes are before the text, and the fault the first test that fails
+-- there.
 pub record IsBadText (start : ℕ) (text : List ℕ) (bodies : List (List ℕ)) (bad : BadMessage)
     : Type 0 where
   pub front : List ℕ

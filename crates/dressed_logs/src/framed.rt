@@ -88,8 +88,8 @@ impl<B: Bodies> FramedFeed<B> {
     }
 
     /// The taker, which has been handed exactly the bodies of the messages of the day that has
-    /// come, in order, up to the first bad one, and that one: together what the reading of the whole
-    /// day says, for every day that the feed stands for.
+    /// come, in order, up to the first bad one, and that one: together what the reading of the
+    /// whole day says, for every day that the feed stands for.
     pub fn close(mut self) -> Result<ReadDay<B>, NoMemory>
         requires { IsFramedFeedWithinLimit B.has_taken self }
         ensures { (day : List ℕ) → IsFramedFeedOf B.has_taken self day

@@ -3,8 +3,8 @@
 //!
 //! `framed` reads messages one after another, as in a FIX log, after a byte order mark if there is
 //! one. `lines` reads messages that stand on lines, after anything, and in which a text may stand
-//! for SOH. Each hands each body to a taker (`bodies`), and gives at the end the taker and the first
-//! bad message (`faults`), if there is one (`read_day`). `laws` has what holds of every day.
+//! for SOH. Each hands each body to a taker (`bodies`), and gives at the end the taker and the
+//! first bad message (`faults`), if there is one (`read_day`). `laws` has what holds of every day.
 //!
 //! Of a line, `beginnings` finds where a message may begin, `undressing` makes the bytes that the
 //! line stands for, and `looking` says what they are.

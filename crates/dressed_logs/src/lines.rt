@@ -22,9 +22,9 @@ use std::alloc::Global;
 use std::marker::{Brand, PhantomData};
 
 /// The text that stands for SOH in a day, for proofs alone. What hands pieces to feeds of any kind
-/// can say of one only which day it has been handed, and not which text it was made for. So the type
-/// of a feed says that. Whoever makes one picks the text, at `Brand`, and nothing of it is there
-/// when the program runs.
+/// can say of one only which day it has been handed, and not which text it was made for. So the
+/// type of a feed says that. Whoever makes one picks the text, at `Brand`, and nothing of it is
+/// there when the program runs.
 pub trait SohText {
     ghost text: { List ℕ };
 }
@@ -88,8 +88,8 @@ fn drop_front(bytes: &mut Vec<u8>, count: usize)
 }
 
 impl<B: Bodies, S: SohText> LineFeed<B, S> {
-    /// A feed that has been handed no bytes, over a taker that has been handed nothing. `soh` is the
-    /// text that stands for SOH in the day.
+    /// A feed that has been handed no bytes, over a taker that has been handed nothing. `soh` is
+    /// the text that stands for SOH in the day.
     pub fn over(alloc: Global, soh: Vec<u8>, bodies: B) -> Self
         requires soh { soh.items ≡ S.text }
         requires is { IsTrue (is_soh_text S.text) }
@@ -110,7 +110,8 @@ impl<B: Bodies, S: SohText> LineFeed<B, S> {
         }
     }
 
-    // Drops the bytes before this place: those after it are read next, from where they are searched.
+    // Drops the bytes before this place: those after it are read next, from where they are
+    // searched.
     fn drop_to(&mut self, place: usize, searched: usize)
         requires place { place ≤ length self.old.held.items }
         requires room { self.old.base + length self.old.held.items < 2 ^ 63 }
@@ -229,8 +230,8 @@ impl<B: Bodies, S: SohText> LineFeed<B, S> {
     }
 
     /// The taker, which has been handed exactly the bodies of the messages of the day that has
-    /// come, in order, up to the first bad one, and that one: together what the reading of the whole
-    /// day says, for every day that the feed stands for.
+    /// come, in order, up to the first bad one, and that one: together what the reading of the
+    /// whole day says, for every day that the feed stands for.
     pub fn close(mut self) -> Result<ReadDay<B>, NoMemory>
         requires { IsLineFeedWithinLimit S.text B.has_taken self }
         ensures { (day : List ℕ) → IsLineFeedOf S.text B.has_taken self day

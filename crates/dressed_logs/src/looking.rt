@@ -1,5 +1,5 @@
-//! A look at the message that begins at a place: whether it is all there, what its body is and where
-//! it ends, or which test it fails.
+//! A look at the message that begins at a place: whether it is all there, what its body is and
+//! where it ends, or which test it fails.
 ghost use Rattle.std.specs.Prelude.{◌≡◌, ◌≤◌, ◌<◌, ℕ, List, Bool, Some, length, IfOk, MatchOption};
 ghost use Rattle.fix_framing.specs.Headers.{any_version};
 ghost use Rattle.fix_framing.specs.Frames.{frame_fault_with};
