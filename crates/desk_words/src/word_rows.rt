@@ -3,6 +3,7 @@ use crate::commands::DeskCommand;
 use crate::requests::{DayLogs, DeskRequest, read_desk_words};
 use audit_base::faults::NoMemory;
 use audit_base::terms::{Form, Rule};
+use command_words::paths::PathText;
 use command_words::requests::WordsFault;
 use day_symbols::shares::Share;
 use session_audit::phases::Phase;
@@ -220,23 +221,47 @@ fn check_rules(alloc: Global, rows: &[(&str, Rule, bool)]) -> Result<(), RowFaul
     Ok(())
 }
 
+/// A line that asks for the digests of two logs.
+struct DigestRow {
+    line: &'static str,
+    orders: &'static str,
+    trades: &'static str,
+}
+
+impl DigestRow {
+    /// Whether these are the logs of the row.
+    fn has(&self, orders: &PathText, trades: &PathText) -> bool {
+        orders.as_str() == self.orders && trades.as_str() == self.trades
+    }
+}
+
 /// Lines that ask for digests, and of which logs.
-const DIGESTS: [(&str, &str, &str); 3] = [
-    ("digest o t", "o", "t"),
-    ("digest help ./-t", "help", "./-t"),
-    ("digest o o", "o", "o"),
+const DIGESTS: [DigestRow; 3] = [
+    DigestRow {
+        line: "digest o t",
+        orders: "o",
+        trades: "t",
+    },
+    DigestRow {
+        line: "digest help ./-t",
+        orders: "help",
+        trades: "./-t",
+    },
+    DigestRow {
+        line: "digest o o",
+        orders: "o",
+        trades: "o",
+    },
 ];
 
-fn check_digests(alloc: Global, rows: &[(&str, &str, &str)]) -> Result<(), RowFault> {
-    for &(line, wanted_orders, wanted_trades) in rows {
-        let words = words_of(alloc, line)?;
+fn check_digests(alloc: Global, rows: &[DigestRow]) -> Result<(), RowFault> {
+    for row in rows {
+        let words = words_of(alloc, row.line)?;
         let holds = match read_desk_words(alloc, &words) {
-            Ok(DeskRequest::Digest { orders, trades }) => {
-                orders.as_str() == wanted_orders && trades.as_str() == wanted_trades
-            }
+            Ok(DeskRequest::Digest { orders, trades }) => row.has(&orders, &trades),
             _ => false,
         };
-        check_row(alloc, line, holds)?;
+        check_row(alloc, row.line, holds)?;
     }
     Ok(())
 }
