@@ -254,14 +254,19 @@ const DIGESTS: [DigestRow; 3] = [
     },
 ];
 
+/// Whether the digests of the row's logs are asked for.
+fn is_digest_of(row: &DigestRow, asked: &Result<DeskRequest, WordsFault>) -> bool {
+    match asked {
+        Ok(DeskRequest::Digest { orders, trades }) => row.has(orders, trades),
+        _ => false,
+    }
+}
+
 fn check_digests(alloc: Global, rows: &[DigestRow]) -> Result<(), RowFault> {
     for row in rows {
         let words = words_of(alloc, row.line)?;
-        let holds = match read_desk_words(alloc, &words) {
-            Ok(DeskRequest::Digest { orders, trades }) => row.has(&orders, &trades),
-            _ => false,
-        };
-        check_row(alloc, row.line, holds)?;
+        let asked = read_desk_words(alloc, &words);
+        check_row(alloc, row.line, is_digest_of(row, &asked))?;
     }
     Ok(())
 }
