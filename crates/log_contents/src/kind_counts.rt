@@ -101,9 +101,4 @@ impl KindCounts {
     {
         self.kinds.len()
     }
-
-    /// Whether none was counted.
-    pub fn is_empty(&self) -> bool {
-        self.kinds.is_empty()
-    }
 }
