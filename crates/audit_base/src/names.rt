@@ -1,4 +1,6 @@
 //! Names of firms, orders, symbols and trades.
+//!
+//! A name is a block of 64 bytes and a length, so a record is copied without an allocation.
 ghost use Rattle.std.specs.Prelude.{◌≡◌, ◌+◌, ◌-◌, ◌≤◌, ◌++◌, IsTrue, drop, length, replicate};
 ghost use Rattle.std.specs.List.{list_all};
 ghost use Rattle.audit_base.specs.Names as form;

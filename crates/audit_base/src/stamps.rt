@@ -1,4 +1,7 @@
 //! Points in time, as logs write them.
+//!
+//! A stamp has two public numbers and a model, so contracts speak of a moment and each has one
+//! canonical text.
 ghost use Rattle.std.specs.Prelude.{◌≡◌, ◌<◌, ◌≤◌, ◌^◌, IfSome, length};
 ghost use Rattle.audit_base.specs.Moments.{is_before};
 ghost use Rattle.audit_base.specs.Stamps as form;

@@ -1,4 +1,8 @@
 //! Reads a body as its list of fields, in one pass from left to right.
+//!
+//! The reader is given the bytes after the body too and reads no field there, since `memchr` looks
+//! at 32 bytes at once where there are as many. One iterator finds all ends of a body. Of the field
+//! before the next one only a length field is kept.
 ghost use Rattle.std.specs.Prelude.{◌≡◌, ◌≤◌, ◌+◌, ℕ, List, [], None, Some, length, take, drop, IfOk, IfErr, IfSome, IfNone, IsOk, IsOkAnd, OnOk, OnErr};
 ghost use Rattle.std.specs.Option.{option_map, ForSome};
 ghost use Rattle.std.specs.Result.{IsErrOf};

@@ -4,6 +4,9 @@
 //!
 //! Framed bytes are dropped where a message isn't all there: only the bytes of that message move to
 //! the front then, and they move no second time before it is given.
+//!
+//! Only the bytes of the unfinished message are kept, and only an answer that more is needed moves
+//! them.
 ghost use Rattle.std.specs.Prelude.{◌≡◌, ◌≢◌, ℕ, ◌+◌, ◌<◌, ◌≤◌, ◌^◌, ◌↔◌, List, [], length, drop, Some, None, IsTrue, IsOk, IfErr, OnOk, OnErr, vec_len};
 ghost use Rattle.std.specs.List.{list_all};
 ghost use Rattle.fix_framing.specs.Breaks.{is_line_end_byte};

@@ -1,4 +1,7 @@
 //! Writing a message: the frame around a body. FIX 4.4, BodyLength (9) and CheckSum (10).
+//!
+//! The frame is made in memory of its own first, so that the output changes in one step or not at
+//! all.
 ghost use Rattle.std.specs.Prelude.{◌≡◌, ◌≤◌, ◌<◌, ◌++◌, length, IfOk, OnOk, OnErr};
 ghost use Rattle.audit_base.specs.Sizes.{longest_body};
 ghost use Rattle.fix_framing.specs.Frames.{IsFrame, frame_text, three_digits};

@@ -41,7 +41,7 @@ pub type FixOrderFeed = FixFeed<Vec<OrderRecord>>;
 pub type FixReportFeed = FixFeed<Vec<Report>>;
 
 /// A fault of a frame as the reason of a bad place.
-fn frame_reason(fault: FrameFault) -> Reason
+pub fn frame_reason(fault: FrameFault) -> Reason
     ensures { result ≡ frame_reason fault }
 {
     match fault {

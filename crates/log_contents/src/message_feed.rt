@@ -2,7 +2,6 @@
 //! too.
 ghost use Rattle.std.specs.Prelude.{◌≡◌, ℕ, List, [], None, Some, IfOk, MatchBool, OnOk};
 ghost use Rattle.fix_framing.specs.Framing.{bytes_held};
-ghost use Rattle.fix_messages.specs.Logs.{frame_reason};
 ghost use Rattle.fix_messages.specs.Steps.{IsBadMessagePlace};
 ghost use Rattle.log_contents.specs.Contents.{HasRecords};
 ghost use Rattle.log_contents.specs.MessageFeeds.{AnswersContents, CountsMessage, CountsNoMessage, HasMessages, IsMessageFeedOf, IsMessageFeedWithinLimit};
@@ -14,9 +13,8 @@ use audit_base::faults::{BadPlace, LogFault, NoMemory, Reason};
 use audit_base::stamp_reader::StampReader;
 use fix_fields::notes::TagNotes;
 use fix_framing::framer::{Framer, Step};
-use fix_framing::frames::FrameFault;
 use fix_messages::entries::FixRecord;
-use fix_messages::feeds::FixFeed;
+use fix_messages::feeds::{FixFeed, frame_reason};
 use log_source::feed::Feed;
 use seeded_hash::seed::HashSeed;
 use std::alloc::Global;
@@ -28,19 +26,6 @@ use std::alloc::Global;
 #[derive(Drop)]
 pub struct MessageFeed<R> {
     feed: FixFeed<Contents<R>>,
-}
-
-/// A fault of a frame as the reason of a bad place.
-fn frame_reason(fault: FrameFault) -> Reason
-    ensures { result ≡ frame_reason fault }
-{
-    match fault {
-        FrameFault::Begin => Reason::Begin,
-        FrameFault::Length => Reason::Length,
-        FrameFault::Truncated => Reason::Truncated,
-        FrameFault::Trailer => Reason::Trailer,
-        FrameFault::Checksum => Reason::Checksum,
-    }
 }
 
 /// The place of a bad message that begins at this offset.

@@ -1,4 +1,7 @@
 //! The shelf of the program: files, each opened under its path.
+//!
+//! A slot closes its file before it opens the next, so a program that reads a log again needs no
+//! third descriptor.
 ghost use Rattle.std.specs.Prelude.{◌≡◌, ◌<◌, ◌≤◌, true, false, length, None, IsErrOf, ℕ, List};
 ghost use Rattle.audit_base.specs.declared.terms.Which.{Which};
 ghost use Rattle.log_source.specs.Sources.{ChangesOneSlot, Starts, Reads, fresh_slot, longest_read};

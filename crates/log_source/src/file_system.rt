@@ -1,4 +1,7 @@
 //! What a shelf over files asks of the system: one call, that opens the file under a path.
+//!
+//! A file system whose files are known has files that never change. A log that is written to while
+//! it is read has no bytes of which an answer could speak.
 ghost use Rattle.std.specs.Prelude.{ℕ, Bool, false, List, Option, None};
 ghost use Rattle.log_source.specs.FileSystems.{OpensFile};
 

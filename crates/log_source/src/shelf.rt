@@ -1,4 +1,8 @@
 //! A shelf: two slots, one for each log, that give their bytes piece by piece.
+//!
+//! A shelf's meaning is one record for each slot, so that "the other slot stays" is one equation. A
+//! slot counts its starts, since a log opened, read in part and opened again would else leave no
+//! trace in a contract.
 ghost use Rattle.std.specs.Prelude.{◌≡◌, ℕ, ◌<◌, ◌≤◌, Bool, true, List, length, Option};
 ghost use Rattle.audit_base.specs.declared.terms.Which.{Which};
 ghost use Rattle.log_source.specs.Sources.{ChangesOneSlot, Slot, Starts, Reads, longest_read};

@@ -1,4 +1,7 @@
 //! A sink: what takes a text piece by piece.
+//!
+//! While fewer than `sure` bytes are written, no write fails. Without this number no caller could
+//! show that a text which fits a sink in memory meets no fault.
 ghost use Rattle.std.specs.Prelude.{◌<◌, length};
 ghost use Rattle.log_source.specs.Sinks.{SinkState, Writes};
 

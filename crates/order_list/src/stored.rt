@@ -1,4 +1,7 @@
 //! What an order list keeps of an order: 48 bytes, with a number in place of the key.
+//!
+//! Reading needs no condition: a number with no key gives the key `?`, numbers that are no time the
+//! first moment. 2^32 - 1 means no target.
 ghost use Rattle.std.specs.Prelude.{◌≡◌, ◌<◌, IfSome, Some, None};
 ghost use Rattle.audit_base.specs.declared.names.Key.{Key as AKey};
 ghost use Rattle.order_list.specs.Changed.{with_terms, with_ending};

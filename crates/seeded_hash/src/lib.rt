@@ -4,6 +4,9 @@
 //! names could be chosen that all hash alike, and each search in a map would
 //! compare with all of them: a log of `n` records would take `n` squared steps.
 //! So the hashes begin with a seed that is drawn when the program starts.
+//!
+//! A block is eight words, each times a secret factor drawn by SipHash-1-3. Longer names keep
+//! SipHash-1-3, since they would want as many secrets.
 #![tactic(auto)]
 
 pub mod blocks;
