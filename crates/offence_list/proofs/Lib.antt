@@ -1,0 +1,4 @@
+pub mod ListLemmas
+pub mod KindLemmas
+pub mod PlaceLemmas
+mod FirstLemmas
