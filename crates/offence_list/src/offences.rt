@@ -11,7 +11,10 @@ use audit_base::terms::Side;
 #[derive(Clone, Copy, Debug)]
 pub enum Offence {
     /// 7: the trade's order is not there to trade.
-    Inactive { place: u32, order: TradedOrder },
+    Inactive {
+        place: u32,
+        order: TradedOrder,
+    },
     /// 8: the trade's price is outside a limit, of this bid or this ask.
     Limit {
         place: u32,
@@ -19,7 +22,10 @@ pub enum Offence {
         ask: TradedOrder,
     },
     /// 9: the trade's price is not that of the first trade, which is at the place `first`.
-    UniformPrice { place: u32, first: u32 },
+    UniformPrice {
+        place: u32,
+        first: u32,
+    },
     /// 10 and 11: the trade's order, of this side, trades more than it asks for.
     Quantity {
         place: u32,

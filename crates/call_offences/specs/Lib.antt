@@ -1,0 +1,4 @@
+-- What the public contracts cite.
+pub mod Listings
+-- What private functions pass on.
+pub mod DealOffences
