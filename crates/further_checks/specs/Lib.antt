@@ -1,0 +1,6 @@
+-- What the public contracts cite.
+pub mod FurtherRules
+pub mod FurtherTexts
+pub mod Laws
+-- What private functions pass on.
+pub mod Sides

@@ -1,0 +1,54 @@
+//! What the further checks tell.
+ghost use Rattle.std.specs.Prelude.{◌≡◌};
+ghost use Rattle.further_checks.specs.FurtherTexts.{further_place, further_word};
+
+use audit_base::findings::OrderLine;
+
+/// Which of the two checks are asked for.
+#[derive(Clone, Copy, Debug, PartialEq, Eq)]
+pub struct FurtherChecks {
+    /// 17: a trade has the price of its resting order.
+    pub resting_price: bool,
+    /// 18: no trade is earlier than the records of its orders.
+    pub trade_times: bool,
+}
+
+/// The finding at a trade that fails a check, with the orders that show it. The place is the number
+/// of the trade's record in the trade log, from 1.
+#[derive(Clone, Copy, Debug, PartialEq, Eq)]
+pub enum FurtherFinding {
+    /// 17: the trade's price is not the limit of its resting order.
+    RestingPrice {
+        place: u32,
+        resting: OrderLine,
+        incoming: OrderLine,
+    },
+    /// 18: the trade's time is before that of the record of its bid or of its ask; the order whose
+    /// record is the later one.
+    TradeTime {
+        place: u32,
+        order: OrderLine,
+    },
+}
+
+impl FurtherFinding {
+    /// The word that reports use for the property.
+    pub fn word(&self) -> &'static [u8]
+        ensures { result.now ≡ further_word self.now }
+    {
+        match self {
+            FurtherFinding::RestingPrice { .. } => b"resting-price",
+            FurtherFinding::TradeTime { .. } => b"trade-time",
+        }
+    }
+
+    /// The place of the trade.
+    pub fn place(&self) -> u32
+        ensures { result ≡ further_place self.now }
+    {
+        match self {
+            FurtherFinding::RestingPrice { place, .. } => *place,
+            FurtherFinding::TradeTime { place, .. } => *place,
+        }
+    }
+}
