@@ -1,0 +1,98 @@
+//! Records of one firm and one symbol, and the history and the deals of their logs.
+ghost use Rattle.audit_base.specs.Deals.{IsDealList};
+
+use audit_base::names::{Key, Name, read_name};
+use audit_base::numbers::{Price, Quantity};
+use audit_base::orders::Deal;
+use audit_base::records::{OrderRecord, TradeRecord};
+use audit_base::stamps::Stamp;
+use audit_base::terms::{Life, Side};
+use instruction_history::history::History;
+use matching_core::resolving::resolve;
+use std::process::Abort;
+
+/// The time of the records that are given none.
+pub(crate) const NOON: Stamp = Stamp { second: 5, nano: 0 };
+
+fn name(rt: &impl Abort, text: &str) -> Name {
+    read_name(text.as_bytes()).expect(rt, "a name")
+}
+
+fn key(rt: &impl Abort, id: &str) -> Key {
+    Key {
+        firm: name(rt, "A"),
+        id: name(rt, id),
+    }
+}
+
+fn quantity(rt: &impl Abort, number: u64) -> Quantity {
+    Quantity::of(number).expect(rt, "a quantity")
+}
+
+fn price(rt: &impl Abort, units: u64) -> Price {
+    Price::of(units).expect(rt, "a price")
+}
+
+/// A new order that rests: id, side, quantity and limit.
+pub(crate) fn order(
+    rt: &impl Abort,
+    id: &str,
+    side: Side,
+    number: u64,
+    limit: u64,
+    time: Stamp,
+) -> OrderRecord {
+    OrderRecord::New {
+        key: key(rt, id),
+        time,
+        symbol: name(rt, "Z"),
+        side,
+        quantity: quantity(rt, number),
+        price: price(rt, limit),
+        life: Life::Rests,
+    }
+}
+
+/// A trade at noon: its id, the ids of its bid and its ask, the quantity and the price.
+pub(crate) fn trade(
+    rt: &impl Abort,
+    id: &str,
+    buy: &str,
+    sell: &str,
+    number: u64,
+    units: u64,
+) -> TradeRecord {
+    TradeRecord {
+        trade: name(rt, id),
+        time: NOON,
+        symbol: name(rt, "Z"),
+        buy: key(rt, buy),
+        sell: key(rt, sell),
+        quantity: quantity(rt, number),
+        price: price(rt, units),
+    }
+}
+
+/// The history of these records.
+pub(crate) fn history_of<R: AllocGlobal + Abort>(rt: &R, entries: &[OrderRecord]) -> History {
+    assert!(rt; entries.len() < 100);
+    let Ok(history) = History::build(rt.alloc(), entries, &name(rt, "Z")) else {
+        panic!(rt; "no history");
+    };
+    history
+}
+
+/// The deals of these records.
+pub(crate) fn deals_of<R: AllocGlobal + Abort>(
+    rt: &R,
+    history: &History,
+    trades: &[TradeRecord],
+) -> Vec<Deal>
+    ensures { IsDealList history.now result.items }
+{
+    assert!(rt; trades.len() < 100);
+    let Ok(deals) = resolve(rt.alloc(), history, trades, &name(rt, "Z")) else {
+        panic!(rt; "unsound trades");
+    };
+    deals
+}
