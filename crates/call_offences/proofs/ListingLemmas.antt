@@ -1,7 +1,8 @@
 -- What each order trades and what has been found, when the first deals have been read, and one deal further.
-use Rattle.std.proofs.Common.{◌≡◌, ◌∙◌, sym, ap, refl, subst, ℕ, Bool, true, false, ◌+◌, ◌^◌, ◌<◌, ◌≤◌, List, [], ◌∷◌, length, take, get_or, Option, arith}
-use Rattle.std.specs.Prelude.{All, option_map, ◌&&◌, ◌==◌, not}
+use Rattle.std.proofs.Common.{◌≡◌, ◌∙◌, sym, ap, refl, subst, ℕ, Bool, true, false, ◌+◌, ◌^◌, ◌<◌, ◌≤◌, List, [], ◌∷◌, length, take, get_or, Option, Some, None, arith}
+use Rattle.std.specs.Prelude.{All, IfSome, option_map, ◌&&◌, ◌==◌, not}
 use Rattle.std.proofs.lemmas.List.{take_all}
+use Rattle.std.proofs.lemmas.List.Elements.{All-append, All-cons}
 use Rattle.audit_base.specs.declared.orders.Order.{Order}
 use Rattle.audit_base.specs.declared.orders.Deal.{Deal}
 use Rattle.audit_base.specs.declared.terms.Side.TheVariants.{Buy, Sell}
@@ -17,6 +18,7 @@ use Rattle.offence_list.specs.declared.offences.Offence.TheVariants.{Inactive, L
 use Rattle.offence_list.specs.Answers.{answers_below, with_answer}
 use Rattle.offence_list.specs.ListedOffences.{finding_of_offence, findings_of_offences}
 use Rattle.offence_list.proofs.ListLemmas.{mapped-further}
+use Rattle.call_offences.specs.Inside.{IsOffenceInside, AreOffencesInside}
 use Rattle.call_offences.specs.DealOffences.{order_trading, deal_offence}
 
 -- what each order trades in the first k deals, each number below a bound
@@ -27,6 +29,13 @@ AreTotalsOf orders deals k so_far = AreTotalsSoFar orders deals k so_far (volume
 pub record IsListedUpto (uniform : Bool) (orders : List Order) (deals : List Deal) (k : ℕ) (so_far : List ℕ) (found : List Offence) : Type 0 where
   pub totals : AreTotalsOf orders deals k so_far
   pub found_is : findings_of_offences orders found ≡ answers_below (matching_finding uniform orders deals) k
+  pub inside : AreOffencesInside orders found
+
+-- one more offence, where there is one
+pub inside-further : (orders : List Order) (found later : List Offence) (o : Option Offence) → AreOffencesInside orders found → IfSome o (IsOffenceInside orders) → later ≡ with_answer found o → AreOffencesInside orders later
+inside-further orders found later None all one is = rw is all
+inside-further orders found later (Some x) all one is =
+    rw is (All-append (IsOffenceInside orders) found (x ∷ []) all (All-cons (IsOffenceInside orders) x [] one (λ k d lt. absurd (omega arith))))
 
 -- the first of what is wrong, as a finding, is the first of the findings
 first-made : (a b c d e g : Bool) (ia ib ic id ie ig : Offence) (f : Offence → Finding)
@@ -85,9 +94,11 @@ module _ (orders : List Order) (deals : List Deal) (k : ℕ) (lt : k < length de
       → findings_of_offences orders found ≡ answers_below (matching_finding uniform orders deals) k
       → first ≡ deal_at deals 0 → bid_traded ≡ get_or so_far d.bid 0 + quantity → ask_traded ≡ get_or so_far d.ask 0 + quantity
       → later ≡ traded_with_deal so_far d.bid d.ask quantity → offence ≡ deal_offence uniform orders d first bid_traded ask_traded → later_found ≡ with_answer found offence
+      → AreOffencesInside orders found → IfSome offence (IsOffenceInside orders)
       → IsListedUpto uniform orders deals (k + 1) later later_found
-  listed-further uniform found later_found later offence first bid_traded ask_traded found_is f_is bt_is at_is later_is offence_is later_found_is = record {
+  listed-further uniform found later_found later offence first bid_traded ask_traded found_is f_is bt_is at_is later_is offence_is later_found_is all one = record {
     totals = totals-further later later_is;
     found_is = mapped-further (finding_of_offence orders) (matching_finding uniform orders deals) k found later_found offence found_is
         (ap (option_map (finding_of_offence orders)) offence_is ∙ offence-read uniform first bid_traded ask_traded f_is bt_is at_is) later_found_is;
+    inside = inside-further orders found later_found offence all one later_found_is;
   }

@@ -1,6 +1,6 @@
 -- A deal passes over a short order exactly where the best short order of the side is better than the deal's: Better is a strict
 -- total order on the side.
-use Rattle.std.proofs.Common.{◌≡◌, ◌<◌, ◌∙◌, sym, ap, refl, subst, ℕ, ◌+◌, Bool, true, false, List, length, get_or, Option, Some, None, inl, inr, arith, All}
+use Rattle.std.proofs.Common.{◌≡◌, ◌<◌, ◌∙◌, sym, ap, refl, subst, ℕ, ◌+◌, Bool, true, false, List, length, get_or, Option, Some, None, inl, inr, All}
 use Rattle.std.specs.Prelude.{◌&&◌, nat_lt, IfSome, slice_index, option_map}
 use Rattle.std.specs.Option.{option_or}
 use Rattle.std.proofs.lemmas.Bool.{cases_Bool, cases_eq, and_parts, and_from, both_ways, false_from_ne_true}

@@ -1,6 +1,7 @@
 //! Findings 7 to 11: what is wrong with a deal by itself, by what its two orders trade up to it.
-ghost use Rattle.std.specs.Prelude.{◌≡◌, ◌<◌, length};
+ghost use Rattle.std.specs.Prelude.{◌≡◌, ◌<◌, IfSome, length};
 ghost use Rattle.call_offences.specs.DealOffences as spec;
+ghost use Rattle.call_offences.specs.Inside.{IsOffenceInside};
 ghost use Rattle.matching_core.specs.DealFlaws.{is_overfilled};
 
 use audit_base::flaws::TradedOrder;
@@ -29,8 +30,9 @@ pub(crate) fn deal_offence(
 ) -> Option<Offence>
     requires bid { deal.now.bid < length orders.now }
     requires ask { deal.now.ask < length orders.now }
-    ensures { let offence = spec.deal_offence uniform orders.now deal.now first.now in
+    ensures first { let offence = spec.deal_offence uniform orders.now deal.now first.now in
         result ≡ offence bid_traded ask_traded }
+    ensures inside { IfSome result (IsOffenceInside orders.now) }
 {
     let bid = TradedOrder {
         index: deal.bid,

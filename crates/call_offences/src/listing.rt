@@ -2,6 +2,7 @@
 ghost use Rattle.std.specs.Prelude.{◌≡◌, IfOk};
 ghost use Rattle.audit_base.specs.Deals.{IsDealList};
 ghost use Rattle.audit_base.specs.Orders.{IsOrderList};
+ghost use Rattle.call_offences.specs.Inside.{IsListingInside};
 ghost use Rattle.call_offences.specs.Listings.{call_asks_one_price, IsListingOf};
 
 use super::matching::matching_offences;
@@ -46,7 +47,8 @@ pub fn call_offences(
 ) -> Result<Listing, NoMemory>
     requires order_list { IsOrderList orders.now }
     requires deal_list { IsDealList orders.now deals.now }
-    ensures { IfOk result (IsListingOf rule orders.now deals.now first.now) }
+    ensures list { IfOk result (IsListingOf rule orders.now deals.now first.now) }
+    ensures inside { IfOk result (IsListingInside orders.now) }
 {
     match OffenceKind::of(first.property) {
         OffenceKind::OfDeal => {

@@ -1,6 +1,7 @@
 //! Every deal that a matching does not have.
 ghost use Rattle.std.specs.Prelude.{◌≡◌, IfOk};
 ghost use Rattle.audit_base.specs.Deals.{IsDealList};
+ghost use Rattle.call_offences.specs.Inside.{AreOffencesInside};
 ghost use Rattle.offence_list.specs.CallLists as list;
 ghost use Rattle.offence_list.specs.ListedOffences.{findings_of_offences};
 
@@ -25,8 +26,9 @@ pub fn matching_offences(
     uniform: bool,
 ) -> Result<Vec<Offence>, NoMemory>
     requires { IsDealList orders.now deals.now }
-    ensures { IfOk result (λ found. findings_of_offences orders.now found.items
+    ensures list { IfOk result (λ found. findings_of_offences orders.now found.items
         ≡ list.matching_offences uniform orders.now deals.now) }
+    ensures inside { IfOk result (λ found. AreOffencesInside orders.now found.items) }
 {
     let mut traded = zeros(alloc, orders.len())?;
     let mut found = Vec::new(alloc);

@@ -3,6 +3,7 @@ ghost use Rattle.std.specs.Prelude.{◌≡◌, ◌<◌, IfSome, length};
 ghost use Rattle.audit_base.specs.declared.terms.Side.TheVariants.{Buy, Sell};
 ghost use Rattle.audit_base.specs.Deals.{NamesOrders};
 ghost use Rattle.call_offences.specs.DealOffences as spec;
+ghost use Rattle.call_offences.specs.Inside.{IsOffenceInside};
 
 use audit_base::flaws::TradedOrder;
 use audit_base::orders::Deal;
@@ -32,7 +33,9 @@ fn passed_over_on_side(
     requires count { length traded.now ≡ length orders.now }
     requires short { IfSome short (spec.IsOrderOnSide orders.now side) }
     requires own { spec.IsOrderOnSide orders.now side (spec.order_on_side side deal.now) }
-    ensures { result ≡ spec.passed_over_on_side orders.now traded.now side short deal.now }
+    ensures passed { result
+        ≡ spec.passed_over_on_side orders.now traded.now side short deal.now }
+    ensures inside { IfSome result (IsOffenceInside orders.now) }
 {
     let short = short?;
     let index = order_on_side(side, deal);
@@ -69,7 +72,9 @@ pub(crate) fn passed_over(
     requires short_bid { IfSome short_bid (spec.IsOrderOnSide orders.now Buy) }
     requires short_ask { IfSome short_ask (spec.IsOrderOnSide orders.now Sell) }
     requires named { NamesOrders orders.now deal.now }
-    ensures { result ≡ spec.passed_over orders.now traded.now short_bid short_ask deal.now }
+    ensures passed { result
+        ≡ spec.passed_over orders.now traded.now short_bid short_ask deal.now }
+    ensures inside { IfSome result (IsOffenceInside orders.now) }
 {
     match passed_over_on_side(orders, traded, Side::Buy, short_bid, deal) {
         Some(offence) => Some(offence),

@@ -4,6 +4,7 @@ ghost use Rattle.audit_base.specs.declared.terms.Side.TheVariants.{Buy, Sell};
 ghost use Rattle.audit_base.specs.CallOffences.{best_short};
 ghost use Rattle.audit_base.specs.Deals.{AreTotals, IsDealList};
 ghost use Rattle.audit_base.specs.Orders.{IsOrderList};
+ghost use Rattle.call_offences.specs.Inside.{AreOffencesInside};
 ghost use Rattle.offence_list.specs.CallLists as list;
 ghost use Rattle.offence_list.specs.ListedOffences.{findings_of_offences};
 
@@ -32,8 +33,9 @@ fn all_passed_over(
     requires totals { AreTotals orders.now deals.now traded.now }
     requires short_bid { short_bid ≡ best_short orders.now deals.now Buy }
     requires short_ask { short_ask ≡ best_short orders.now deals.now Sell }
-    ensures { IfOk result (λ found. findings_of_offences orders.now found.items
+    ensures list { IfOk result (λ found. findings_of_offences orders.now found.items
         ≡ list.priority_offences orders.now deals.now) }
+    ensures inside { IfOk result (λ found. AreOffencesInside orders.now found.items) }
 {
     let mut found = Vec::new(alloc);
     'deals: for deal in deals {
@@ -54,8 +56,9 @@ pub fn priority_offences(
 ) -> Result<Vec<Offence>, NoMemory>
     requires order_list { IsOrderList orders.now }
     requires deal_list { IsDealList orders.now deals.now }
-    ensures { IfOk result (λ found. findings_of_offences orders.now found.items
+    ensures list { IfOk result (λ found. findings_of_offences orders.now found.items
         ≡ list.priority_offences orders.now deals.now) }
+    ensures inside { IfOk result (λ found. AreOffencesInside orders.now found.items) }
 {
     let traded = totals_of(alloc, orders, deals)?;
     let short_bid = best_short_on(orders, &traded, Side::Buy);
