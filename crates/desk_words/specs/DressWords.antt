@@ -29,7 +29,7 @@ soh_in words = first_answer (
 
 -- how a day is dressed, by the words after DAY: no word, `--lines` alone, or `--lines` and
 -- `--soh TEXT` in either order
-abbrev pub dress_named : List (List ℕ) → Option DayDress
+unfoldable pub dress_named : List (List ℕ) → Option DayDress
 dress_named words =
     if length words == 0 then Some Framed
     else (if length words == 1 then only_if (is_lines_option (nth_word words 0)) (OnLines None)

@@ -93,6 +93,7 @@ fn soh_in(words: &[String]) -> Option<&str>
 /// How the messages of a day are dressed, by the words after DAY. There is nothing, and no memory
 /// is taken, where a word is no option, a value is missing or not well-formed, an option is given
 /// twice, or `--soh` without `--lines`.
+#[tactic(auto, unfolding(crate::specs::DressWords::dress_named))]
 pub(crate) fn dress_named(alloc: Global, words: &[String]) -> Result<Option<DayDress>, NoMemory>
     ensures dress { IfOk result (λ made. made ≡ spec.dress_named (map string_bytes words.now)) }
     ensures memory { IsErr result → IsSome (spec.dress_named (map string_bytes words.now)) }
