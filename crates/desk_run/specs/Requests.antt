@@ -1,6 +1,6 @@
 -- What each command of `desk` reads, and what it answers to that.
 -- A command is one case of each definition here.
-use Rattle.std.specs.Prelude.{ℕ, Bool, List, Option, None, Some}
+use Rattle.std.specs.Prelude.{ℕ, Bool, false, List, Option, None, Some}
 use Rattle.audit_base.specs.declared.terms.Rule.{Rule}
 use Rattle.audit_base.specs.declared.terms.Which.{Which}
 use Rattle.audit_base.specs.Words.{rule_word}
@@ -74,4 +74,8 @@ IsDeskAnswer Version bytes status text = IsAnswerWith Accepted version_text stat
 -- the command that a request asks for
 abbrev pub desk_command_of : DeskRequest → Command
 desk_command_of request =
-    record { next = next_desk_log request; is_answer = IsDeskAnswer request }
+    record {
+      next = next_desk_log request;
+      is_answer = IsDeskAnswer request;
+      writes_early = false;
+    }
