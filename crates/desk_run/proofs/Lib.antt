@@ -1,3 +1,4 @@
 mod DayLemmas
 mod DigestLemmas
 mod HeadlineLemmas
+mod PlainLemmas

@@ -12,6 +12,7 @@ ghost use Rattle.log_verdict.specs.Steps.{FaultsNeverFall, KeepsShelfLogs};
 
 use super::days::{answer_audit, answer_session};
 use super::digests::answer_digest;
+use super::plain::answer_plain;
 use super::program::Desk;
 use super::sources::{day_source, share_asked};
 use audit_base::faults::NoMemory;
@@ -96,6 +97,7 @@ pub(crate) fn answer_request<F: Shelf>(
             )
         }
         DeskRequest::Digest { orders, trades } => answer_digest(alloc, shelf, orders, trades),
+        DeskRequest::Plain { day, dress } => answer_plain(alloc, shelf, day, dress),
         DeskRequest::Help(about) => Ok(answer_help(alloc, *about)?),
         DeskRequest::Version => Ok(answer_version(alloc)?),
     }

@@ -1,5 +1,5 @@
 //! Tests of `desk`: what a row of a whole call is and what checks it (`checks`), and the rows:
-//! days of several symbols and their shares, digests, words that are not well-formed, help and
+//! days of several symbols and their shares, digests, days made plain, words that are not well-formed, help and
 //! version, every cut in every piece, and every call that fails.
 #![tactic(auto)]
 
@@ -13,5 +13,7 @@ mod day_rows;
 mod digest_rows;
 #[cfg(test)]
 mod fault_rows;
+#[cfg(test)]
+mod plain_rows;
 #[cfg(test)]
 mod word_rows;

@@ -8,7 +8,8 @@ use Rattle.desk_words.specs.declared.commands.DeskCommand.TheVariants as command
 abbrev pub desk_usage_line : List ℕ
 desk_usage_line = codes "usage: audit RULE ORDERS TRADES"
     ++ codes " | session PHASES ORDERS TRADES" ++ codes " | digest ORDERS TRADES"
-    ++ codes " | help [COMMAND]" ++ 10 ∷ []
+    ++ codes " | plain DAY" ++ codes " | contents ORDERS TRADES" ++ codes " | help [COMMAND]"
+    ++ 10 ∷ []
 
 -- these lines, each with its end
 abbrev pub text_of_lines : List (List ℕ) → List ℕ
@@ -64,13 +65,42 @@ digest_help = text_of_lines (
     ∷ codes "    Example: desk digest orders.csv trades.csv"
     ∷ [])
 
+-- what `plain` does, with its word, its options and an example
+unfoldable pub plain_help : List ℕ
+plain_help = text_of_lines (
+    codes "plain DAY"
+    ∷ codes "    Writes the messages of a day as a FIX log that the other commands read: the same"
+    ∷ codes "    bodies in the same order, one on a line, each as FIX.4.4 with a length and a"
+    ∷ codes "    checksum of its own. What a message means is not read."
+    ∷ codes "    DAY                 the path of the day: FIX 4.0 to 4.4 or FIXT 1.1, one message"
+    ∷ codes "                        right after another"
+    ∷ codes "    --lines             finds the messages on lines, behind anything, from 8=FIX on;"
+    ∷ codes "                        lines without a message are passed over"
+    ∷ codes "    --soh TEXT          with --lines: TEXT, 1 to 5 bytes from 0x21 to 0x7E, is for SOH"
+    ∷ codes "    Example: desk plain day.log --lines --soh '|' >orders.fix"
+    ∷ [])
+
+-- what `contents` does, with its words, its options and an example
+unfoldable pub contents_help : List ℕ
+contents_help = text_of_lines (
+    codes "contents ORDERS TRADES"
+    ∷ codes "    Writes how many messages or records of each kind each log has, those that are"
+    ∷ codes "    passed over too, with why. Then which were passed over though they change what of"
+    ∷ codes "    an order may trade, how many symbols there are, and from when to when records are."
+    ∷ codes "    ORDERS              the path of the order log"
+    ∷ codes "    TRADES              the path of the trade log"
+    ∷ codes "    --orders-form FORM  the form of the order log: csv, as without it, or fix"
+    ∷ codes "    --trades-form FORM  the form of the trade log: csv, as without it, or fix"
+    ∷ codes "    Example: desk contents orders.fix trades.fix --orders-form fix --trades-form fix"
+    ∷ [])
+
 -- what `help` does, with its word and an example
 unfoldable pub help_help : List ℕ
 help_help = text_of_lines (
     codes "help [COMMAND]"
-    ∷ codes "    Writes what each command does, or what COMMAND does: audit, session, digest or"
-    ∷ codes "    help. --help alone does as help, and --version writes the version of the program"
-    ∷ codes "    and the kit that it is proved with."
+    ∷ codes "    Writes what each command does, or what COMMAND does: audit, session, digest,"
+    ∷ codes "    plain, contents or help. --help alone does as help, and --version writes the"
+    ∷ codes "    version of the program and the kit that it is proved with."
     ∷ codes "    Example: desk help audit"
     ∷ [])
 
@@ -79,11 +109,14 @@ abbrev pub command_help : DeskCommand → List ℕ
 command_help command.Audit = audit_help
 command_help command.Session = session_help
 command_help command.Digest = digest_help
+command_help command.Plain = plain_help
+command_help command.Contents = contents_help
 command_help command.Help = help_help
 
 -- what each command does, with an empty line between two
 abbrev pub whole_help : List ℕ
-whole_help = audit_help ++ 10 ∷ session_help ++ 10 ∷ digest_help ++ 10 ∷ help_help
+whole_help = audit_help ++ 10 ∷ session_help ++ 10 ∷ digest_help ++ 10 ∷ plain_help
+    ++ 10 ∷ contents_help ++ 10 ∷ help_help
 
 -- what is written for `help`, or for `help` and a command
 abbrev pub help_text : Option DeskCommand → List ℕ

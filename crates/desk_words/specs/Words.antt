@@ -1,21 +1,23 @@
 -- What the words of a command line of `desk` without the program's name ask for, where they are
 -- well-formed. The first word names the command; what the words of each command ask for has a
 -- definition of its own.
-use Rattle.std.specs.Prelude.{ℕ, Bool, not, ◌==◌, ◌&&◌, ◌||◌, Option, None, Some, List, [], ◌∷◌, length, drop, codes, nat_le, if◌then◌else◌, IsTrue}
+use Rattle.std.specs.Prelude.{ℕ, Bool, not, ◌==◌, ◌&&◌, ◌||◌, ◌+◌, Option, None, Some, List, [], ◌∷◌, length, drop, codes, nat_le, if◌then◌else◌, IsTrue}
 use Rattle.audit_base.specs.Least.{first_answer, only_if}
 use Rattle.audit_base.specs.RuleKinds.{has_table}
 use Rattle.audit_base.specs.declared.terms.Rule.{Rule}
 use Rattle.session_audit.specs.Phases.{ArePhases}
-use Rattle.command_words.specs.Options.{or_csv}
+use Rattle.command_words.specs.declared.options.Options.{Options}
+use Rattle.command_words.specs.Options.{options_in, or_csv}
 use Rattle.command_words.specs.PhaseWords.{phases_named}
-use Rattle.command_words.specs.WordForms.{nth_word, rule_named, word_equals}
+use Rattle.command_words.specs.WordForms.{is_path, nth_word, rule_named, word_equals}
 use Rattle.command_words.specs.Words.{names_logs, when_both, when_some}
 use Rattle.desk_words.specs.declared.commands.DeskCommand.{DeskCommand}
 use Rattle.desk_words.specs.declared.commands.DeskCommand.TheVariants as command
 use Rattle.desk_words.specs.declared.options.DeskOptions.{DeskOptions}
 use Rattle.desk_words.specs.declared.requests.DayLogs.{DayLogs}
 use Rattle.desk_words.specs.declared.requests.DeskRequest.{DeskRequest}
-use Rattle.desk_words.specs.declared.requests.DeskRequest.TheVariants.{Audit, Session, Digest, Help, Version}
+use Rattle.desk_words.specs.declared.requests.DeskRequest.TheVariants.{Audit, Session, Digest, Plain, Contents, Help, Version}
+use Rattle.desk_words.specs.DressWords.{dress_named, HasSohWord}
 use Rattle.desk_words.specs.Options.{desk_options_in}
 
 -- the command that a word names
@@ -23,16 +25,17 @@ abbrev pub desk_command_named : List ℕ → Option DeskCommand
 desk_command_named word = first_answer (only_if (word_equals word (codes "audit")) command.Audit
     ∷ only_if (word_equals word (codes "session")) command.Session
     ∷ only_if (word_equals word (codes "digest")) command.Digest
+    ∷ only_if (word_equals word (codes "plain")) command.Plain
+    ∷ only_if (word_equals word (codes "contents")) command.Contents
     ∷ only_if (word_equals word (codes "help")) command.Help ∷ [])
 
--- ORDERS and TRADES, which follow the command and one other word, with the forms that options
--- give them
-abbrev pub day_logs : List (List ℕ) → DeskOptions → DayLogs
-day_logs words said = record {
-  orders = nth_word words 2;
-  trades = nth_word words 3;
-  orders_form = or_csv said.common.orders_form;
-  trades_form = or_csv said.common.trades_form;
+-- ORDERS and TRADES, at a place and after it, with the forms that options give them
+abbrev pub day_logs : List (List ℕ) → ℕ → Options → DayLogs
+day_logs words place said = record {
+  orders = nth_word words place;
+  trades = nth_word words (place + 1);
+  orders_form = or_csv said.orders_form;
+  trades_form = or_csv said.trades_form;
 }
 
 -- a table is asked for only where the rule has one
@@ -51,7 +54,7 @@ abbrev pub desk_audit_asked : List (List ℕ) → Option DeskRequest
 desk_audit_asked words =
     if nat_le 4 (length words) && names_logs words 2 then
     when_both (rule_and_options (nth_word words 1) (drop 4 words)) (λ the_rule said.
-    Some (Audit the_rule (day_logs words said) said.common.table said.share))
+    Some (Audit the_rule (day_logs words 2 said.common) said.common.table said.share))
     else None
 
 -- `session PHASES ORDERS TRADES` and options
@@ -60,7 +63,7 @@ desk_session_asked words =
     if nat_le 4 (length words) && names_logs words 2 then
     when_some (desk_options_in (drop 4 words)) (λ said.
     when_some (phases_named (nth_word words 1)) (λ phases.
-    Some (Session phases (day_logs words said) said.common.table said.share)))
+    Some (Session phases (day_logs words 2 said.common) said.common.table said.share)))
     else None
 
 -- `digest ORDERS TRADES`
@@ -68,6 +71,24 @@ abbrev pub digest_asked : List (List ℕ) → Option DeskRequest
 digest_asked words =
     if length words == 3 && names_logs words 1
     then Some (Digest (nth_word words 1) (nth_word words 2)) else None
+
+-- `plain DAY` and options
+abbrev pub plain_asked : List (List ℕ) → Option DeskRequest
+plain_asked words =
+    if nat_le 2 (length words) && is_path (nth_word words 1) then
+    when_some (dress_named (drop 2 words)) (λ dress. Some (Plain (nth_word words 1) dress))
+    else None
+
+-- what these words say as options, where that is nothing but the forms of the logs
+abbrev pub form_options_in : List (List ℕ) → Option Options
+form_options_in words = when_some (options_in words) (λ said. only_if (not said.table) said)
+
+-- `contents ORDERS TRADES` and options
+abbrev pub contents_asked : List (List ℕ) → Option DeskRequest
+contents_asked words =
+    if nat_le 3 (length words) && names_logs words 1 then
+    when_some (form_options_in (drop 3 words)) (λ said. Some (Contents (day_logs words 1 said)))
+    else None
 
 -- `help`, or `help COMMAND`
 abbrev pub help_asked : List (List ℕ) → Option DeskRequest
@@ -82,6 +103,8 @@ abbrev pub desk_asked_by : DeskCommand → List (List ℕ) → Option DeskReques
 desk_asked_by command.Audit words = desk_audit_asked words
 desk_asked_by command.Session words = desk_session_asked words
 desk_asked_by command.Digest words = digest_asked words
+desk_asked_by command.Plain words = plain_asked words
+desk_asked_by command.Contents words = contents_asked words
 desk_asked_by command.Help words = help_asked words
 
 -- what a word asks for that is no command and is the only word: `--help`, as `help`,
@@ -104,11 +127,13 @@ asked_by_first (Some named) words = desk_asked_by named words
 abbrev pub desk_request_of : List (List ℕ) → Option DeskRequest
 desk_request_of words = asked_by_first (desk_command_named (nth_word words 0)) words
 
--- what well-formed words ask for is a table only of a rule that has one, and phases that are
--- those of a day
+-- what well-formed words ask for is a table only of a rule that has one, phases that are those of
+-- a day, and a word of 1 to 5 bytes from 0x21 to 0x7E in the place of SOH
 abbrev pub MayBeAskedOfDesk : DeskRequest → Type 0
 MayBeAskedOfDesk (Audit rule logs table share) = IsTrue (table_fits_rule table rule)
 MayBeAskedOfDesk (Session phases logs table share) = ArePhases phases
 MayBeAskedOfDesk (Digest orders trades) = Unit {0}
+MayBeAskedOfDesk (Plain day dress) = HasSohWord dress
+MayBeAskedOfDesk (Contents logs) = Unit {0}
 MayBeAskedOfDesk (Help about) = Unit {0}
 MayBeAskedOfDesk Version = Unit {0}

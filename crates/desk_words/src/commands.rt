@@ -1,19 +1,20 @@
 //! The words of each command. The first word names the command. A function gives the request
 //! where the words after it are those of its command, and nothing, with no memory taken, where
 //! they are not.
-ghost use Rattle.std.specs.Prelude.{◌≡◌, ◌≤◌, length, map, IfOk, IfSome, IsErr, IsSome, IsTrue};
+ghost use Rattle.std.specs.Prelude.{◌≡◌, ◌+◌, ◌<◌, length, map, IfOk, IfSome, IsErr, IsSome, IsTrue};
 ghost use Rattle.std.specs.String.{string_bytes};
 ghost use Rattle.command_words.specs.WordForms.{nth_word};
 ghost use Rattle.desk_words.specs.Words as spec;
 
+use super::dress_words::dress_named;
 use super::options::{DeskOptions, desk_options_in};
 use super::requests::{DayLogs, DeskRequest};
 use audit_base::faults::NoMemory;
 use audit_base::terms::Rule;
-use command_words::options::or_csv;
-use command_words::paths::{LogPaths, log_paths, names_logs};
+use command_words::options::{Options, options_in, or_csv};
+use command_words::paths::{LogPaths, log_paths, names_logs, path_of};
 use command_words::phase_words::phases_named;
-use command_words::word_forms::{is_word, rule_named, word_at};
+use command_words::word_forms::{is_path, is_word, rule_named, word_at};
 use std::alloc::Global;
 
 /// The commands, each with a word of its own.
@@ -22,6 +23,8 @@ pub enum DeskCommand {
     Audit,
     Session,
     Digest,
+    Plain,
+    Contents,
     Help,
 }
 
@@ -38,6 +41,12 @@ fn desk_command_named(word: &str) -> Option<DeskCommand>
     if is_word(word, b"digest") {
         return Some(DeskCommand::Digest);
     }
+    if is_word(word, b"plain") {
+        return Some(DeskCommand::Plain);
+    }
+    if is_word(word, b"contents") {
+        return Some(DeskCommand::Contents);
+    }
     if is_word(word, b"help") {
         return Some(DeskCommand::Help);
     }
@@ -52,18 +61,23 @@ fn desk_command_in(words: &[String]) -> Option<DeskCommand>
     desk_command_named(first.as_str())
 }
 
-/// ORDERS and TRADES, after the command and one other word, with the forms that options give
-/// them.
-fn day_logs(alloc: Global, words: &[String], said: &DeskOptions) -> Result<DayLogs, NoMemory>
-    requires { 4 ≤ length words.now }
-    ensures { IfOk result (λ logs. logs ≡ spec.day_logs (map string_bytes words.now) said.now) }
+/// ORDERS and TRADES, at a place and after it, with the forms that options give them.
+fn day_logs(
+    alloc: Global,
+    words: &[String],
+    place: usize,
+    said: &Options,
+) -> Result<DayLogs, NoMemory>
+    requires { place + 1 < length words.now }
+    ensures { IfOk result
+        (λ logs. logs ≡ spec.day_logs (map string_bytes words.now) place said.now) }
 {
-    let LogPaths { orders, trades } = log_paths(alloc, words, 2)?;
+    let LogPaths { orders, trades } = log_paths(alloc, words, place)?;
     Ok(DayLogs {
         orders,
         trades,
-        orders_form: or_csv(said.common.orders_form),
-        trades_form: or_csv(said.common.trades_form),
+        orders_form: or_csv(said.orders_form),
+        trades_form: or_csv(said.trades_form),
     })
 }
 
@@ -94,7 +108,7 @@ fn desk_audit_request(alloc: Global, words: &[String]) -> Result<Option<DeskRequ
     let Some((rule, said)) = rule_and_options(word_at(words, 1), &words[4..]) else {
         return Ok(None);
     };
-    let logs = day_logs(alloc, words, &said)?;
+    let logs = day_logs(alloc, words, 2, &said.common)?;
     Ok(Some(DeskRequest::Audit {
         rule,
         logs,
@@ -121,7 +135,7 @@ fn desk_session_request(alloc: Global, words: &[String]) -> Result<Option<DeskRe
     let Some(phases) = phases_named(alloc, word_at(words, 1))? else {
         return Ok(None);
     };
-    let logs = day_logs(alloc, words, &said)?;
+    let logs = day_logs(alloc, words, 2, &said.common)?;
     Ok(Some(DeskRequest::Session {
         phases,
         logs,
@@ -142,6 +156,51 @@ fn digest_request(alloc: Global, words: &[String]) -> Result<Option<DeskRequest>
     }
     let LogPaths { orders, trades } = log_paths(alloc, words, 1)?;
     Ok(Some(DeskRequest::Digest { orders, trades }))
+}
+
+/// `plain DAY` with its options.
+fn plain_request(alloc: Global, words: &[String]) -> Result<Option<DeskRequest>, NoMemory>
+    ensures request { IfOk result
+        (λ made. made ≡ spec.plain_asked (map string_bytes words.now)) }
+    ensures memory { IsErr result → IsSome (spec.plain_asked (map string_bytes words.now)) }
+    ensures asked { IfOk result (λ made. IfSome made spec.MayBeAskedOfDesk) }
+{
+    if words.len() < 2 || !is_path(word_at(words, 1)) {
+        return Ok(None);
+    }
+    let Some(dress) = dress_named(alloc, &words[2..])? else {
+        return Ok(None);
+    };
+    let day = path_of(alloc, word_at(words, 1))?;
+    Ok(Some(DeskRequest::Plain { day, dress }))
+}
+
+/// What these words say as options, if they say nothing but the forms of the logs.
+fn form_options_in(words: &[String]) -> Option<Options>
+    ensures { result ≡ spec.form_options_in (map string_bytes words.now) }
+{
+    let said = options_in(words)?;
+    if said.table {
+        return None;
+    }
+    Some(said)
+}
+
+/// `contents ORDERS TRADES` with its options.
+fn contents_request(alloc: Global, words: &[String]) -> Result<Option<DeskRequest>, NoMemory>
+    ensures request { IfOk result
+        (λ made. made ≡ spec.contents_asked (map string_bytes words.now)) }
+    ensures memory { IsErr result → IsSome (spec.contents_asked (map string_bytes words.now)) }
+    ensures asked { IfOk result (λ made. IfSome made spec.MayBeAskedOfDesk) }
+{
+    if words.len() < 3 || !names_logs(words, 1) {
+        return Ok(None);
+    }
+    let Some(said) = form_options_in(&words[3..]) else {
+        return Ok(None);
+    };
+    let logs = day_logs(alloc, words, 1, &said)?;
+    Ok(Some(DeskRequest::Contents { logs }))
 }
 
 /// `help`, or `help COMMAND`. Takes no memory.
@@ -200,6 +259,8 @@ fn desk_request_by(
         DeskCommand::Audit => desk_audit_request(alloc, words),
         DeskCommand::Session => desk_session_request(alloc, words),
         DeskCommand::Digest => digest_request(alloc, words),
+        DeskCommand::Plain => plain_request(alloc, words),
+        DeskCommand::Contents => contents_request(alloc, words),
         DeskCommand::Help => Ok(help_request(words)),
     }
 }

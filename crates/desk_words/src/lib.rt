@@ -4,11 +4,13 @@
 //! Exactly the well-formed words are taken, and words that are not well-formed take no memory.
 //! `requests` has what words may ask for, and `read_desk_words`, which says what they do;
 //! `commands` reads the words of each command, by `options` (what follows the other words),
-//! `share_words` (a share of a day) and the crate `command_words`, whose words these are but
-//! for the share. `texts` has the usage line, the help and the version.
+//! `share_words` (a share of a day), `dress_words` (how the messages of a day are dressed) and the
+//! crate `command_words`, whose words the others are. `texts` has the usage line, the help and the
+//! version.
 #![tactic(auto)]
 
 pub mod commands;
+pub mod dress_words;
 mod options;
 pub mod requests;
 mod share_words;

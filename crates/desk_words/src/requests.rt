@@ -4,6 +4,7 @@ ghost use Rattle.std.specs.String.{string_bytes};
 ghost use Rattle.desk_words.specs.Words as spec;
 
 use super::commands::{DeskCommand, desk_request_in};
+use super::dress_words::DayDress;
 use audit_base::terms::{Form, Rule};
 use command_words::paths::PathText;
 use command_words::requests::WordsFault;
@@ -44,6 +45,15 @@ pub enum DeskRequest {
         orders: PathText,
         trades: PathText,
     },
+    /// To write the messages of a day as a FIX log.
+    Plain {
+        day: PathText,
+        dress: DayDress,
+    },
+    /// To write what is in each log.
+    Contents {
+        logs: DayLogs,
+    },
     /// To write what each command does, or one of them.
     Help(Option<DeskCommand>),
     /// To write which version of the program this is.
@@ -57,13 +67,16 @@ pub enum DeskRequest {
 ///   `--table`;
 /// - `session PHASES ORDERS TRADES`, and after them the same options;
 /// - `digest ORDERS TRADES`;
+/// - `plain DAY`, and after it `--lines`, or `--lines` and `--soh TEXT` in either order;
+/// - `contents ORDERS TRADES`, and after them, in any order and each at most once,
+///   `--orders-form FORM` and `--trades-form FORM`;
 /// - `help`, which `--help` asks for too, and `help COMMAND`, COMMAND being `audit`, `session`,
-///   `digest` or `help`;
+///   `digest`, `plain`, `contents` or `help`;
 /// - `--version`.
 ///
 /// RULE, FORM and PHASES are those of `read_words` of `command_words`. K/N is two decimal
 /// numbers without leading zeros, joined by `/`, where K is from 1 to N, and N at most 65,536.
-/// `Usage` comes exactly where the words are not well-formed, and takes no memory. `Memory`
+/// DAY is a path, and TEXT has 1 to 5 bytes from 0x21 to 0x7E. `Usage` comes exactly where the words are not well-formed, and takes no memory. `Memory`
 /// comes only where they are, and there was not enough.
 pub fn read_desk_words(alloc: Global, words: &[String]) -> Result<DeskRequest, WordsFault>
     ensures request { IfOk result

@@ -6,13 +6,13 @@ use std::test::Fail;
 #[test]
 fn lines_of_usage_and_version(rt: HostRuntime) {
     let usage = "usage: audit RULE ORDERS TRADES | session PHASES ORDERS TRADES \
-                 | digest ORDERS TRADES | help [COMMAND]\n";
+                 | digest ORDERS TRADES | plain DAY | contents ORDERS TRADES | help [COMMAND]\n";
     assert_eq!(rt; desk_usage_text(), usage.as_bytes());
     assert!(rt; version_text().starts_with(b"desk (Mekdrox) "));
 }
 
 /// How the help of each command begins and ends.
-const HELPS: [(DeskCommand, &str, &str); 4] = [
+const HELPS: [(DeskCommand, &str, &str); 6] = [
     (
         DeskCommand::Audit,
         "audit RULE ORDERS TRADES\n",
@@ -27,6 +27,16 @@ const HELPS: [(DeskCommand, &str, &str); 4] = [
         DeskCommand::Digest,
         "digest ORDERS TRADES\n",
         "Example: desk digest orders.csv trades.csv\n",
+    ),
+    (
+        DeskCommand::Plain,
+        "plain DAY\n",
+        "Example: desk plain day.log --lines --soh '|' >orders.fix\n",
+    ),
+    (
+        DeskCommand::Contents,
+        "contents ORDERS TRADES\n",
+        "Example: desk contents orders.fix trades.fix --orders-form fix --trades-form fix\n",
     ),
     (
         DeskCommand::Help,
@@ -55,6 +65,10 @@ fn whole_help_has_each_command_after_an_empty_line(rt: HostRuntime) -> Result<()
     append_help(Some(DeskCommand::Session), &mut joined)?;
     joined.push(b'\n')?;
     append_help(Some(DeskCommand::Digest), &mut joined)?;
+    joined.push(b'\n')?;
+    append_help(Some(DeskCommand::Plain), &mut joined)?;
+    joined.push(b'\n')?;
+    append_help(Some(DeskCommand::Contents), &mut joined)?;
     joined.push(b'\n')?;
     append_help(Some(DeskCommand::Help), &mut joined)?;
     assert_eq!(rt; whole.as_slice(), joined.as_slice());

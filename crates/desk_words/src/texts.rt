@@ -13,6 +13,8 @@ pub fn desk_usage_text() -> &'static [u8]
     b"usage: audit RULE ORDERS TRADES \
       | session PHASES ORDERS TRADES \
       | digest ORDERS TRADES \
+      | plain DAY \
+      | contents ORDERS TRADES \
       | help [COMMAND]\n"
 }
 
@@ -84,15 +86,50 @@ fn digest_help() -> &'static [u8]
 "
 }
 
+/// What `plain` does.
+#[tactic(auto, unfolding(crate::specs::Texts::plain_help))]
+fn plain_help() -> &'static [u8]
+    ensures { result.now ≡ text.plain_help }
+{
+    b"plain DAY
+    Writes the messages of a day as a FIX log that the other commands read: the same
+    bodies in the same order, one on a line, each as FIX.4.4 with a length and a
+    checksum of its own. What a message means is not read.
+    DAY                 the path of the day: FIX 4.0 to 4.4 or FIXT 1.1, one message
+                        right after another
+    --lines             finds the messages on lines, behind anything, from 8=FIX on;
+                        lines without a message are passed over
+    --soh TEXT          with --lines: TEXT, 1 to 5 bytes from 0x21 to 0x7E, is for SOH
+    Example: desk plain day.log --lines --soh '|' >orders.fix
+"
+}
+
+/// What `contents` does.
+#[tactic(auto, unfolding(crate::specs::Texts::contents_help))]
+fn contents_help() -> &'static [u8]
+    ensures { result.now ≡ text.contents_help }
+{
+    b"contents ORDERS TRADES
+    Writes how many messages or records of each kind each log has, those that are
+    passed over too, with why. Then which were passed over though they change what of
+    an order may trade, how many symbols there are, and from when to when records are.
+    ORDERS              the path of the order log
+    TRADES              the path of the trade log
+    --orders-form FORM  the form of the order log: csv, as without it, or fix
+    --trades-form FORM  the form of the trade log: csv, as without it, or fix
+    Example: desk contents orders.fix trades.fix --orders-form fix --trades-form fix
+"
+}
+
 /// What `help` does.
 #[tactic(auto, unfolding(crate::specs::Texts::help_help))]
 fn help_help() -> &'static [u8]
     ensures { result.now ≡ text.help_help }
 {
     b"help [COMMAND]
-    Writes what each command does, or what COMMAND does: audit, session, digest or
-    help. --help alone does as help, and --version writes the version of the program
-    and the kit that it is proved with.
+    Writes what each command does, or what COMMAND does: audit, session, digest,
+    plain, contents or help. --help alone does as help, and --version writes the
+    version of the program and the kit that it is proved with.
     Example: desk help audit
 "
 }
@@ -105,6 +142,8 @@ fn command_help(command: DeskCommand) -> &'static [u8]
         DeskCommand::Audit => audit_help(),
         DeskCommand::Session => session_help(),
         DeskCommand::Digest => digest_help(),
+        DeskCommand::Plain => plain_help(),
+        DeskCommand::Contents => contents_help(),
         DeskCommand::Help => help_help(),
     }
 }
@@ -127,6 +166,8 @@ fn append_whole_help(out: &mut Vec<u8>) -> Result<(), NoMemory>
     out.extend_from_slice(audit_help())?;
     append_after_empty_line(session_help(), out)?;
     append_after_empty_line(digest_help(), out)?;
+    append_after_empty_line(plain_help(), out)?;
+    append_after_empty_line(contents_help(), out)?;
     append_after_empty_line(help_help(), out)
 }
 

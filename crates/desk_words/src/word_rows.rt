@@ -1,5 +1,6 @@
 //! Words that are well-formed, with what they ask for, and words that are not.
 use crate::commands::DeskCommand;
+use crate::dress_words::DayDress;
 use crate::requests::{DayLogs, DeskRequest, read_desk_words};
 use audit_base::faults::NoMemory;
 use audit_base::terms::{Form, Rule};
@@ -271,13 +272,117 @@ fn check_digests(alloc: Global, rows: &[DigestRow]) -> Result<(), RowFault> {
     Ok(())
 }
 
+/// How the day of a row is dressed: framed, or on lines with a text for SOH or none.
+enum RowDress {
+    Framed,
+    OnLines(Option<&'static str>),
+}
+
+impl RowDress {
+    /// Whether this is the dress of the row.
+    fn is(&self, dress: &DayDress) -> bool {
+        match (self, dress) {
+            (RowDress::Framed, DayDress::Framed) => true,
+            (RowDress::OnLines(None), DayDress::OnLines(None)) => true,
+            (RowDress::OnLines(Some(text)), DayDress::OnLines(Some(word))) => {
+                word.as_bytes() == text.as_bytes()
+            }
+            _ => false,
+        }
+    }
+}
+
+/// Lines that ask for the plain log of the day `d`, and how it is dressed.
+const PLAINS: [(&str, RowDress); 9] = [
+    ("plain d", RowDress::Framed),
+    ("plain d --lines", RowDress::OnLines(None)),
+    ("plain d --lines --soh |", RowDress::OnLines(Some("|"))),
+    ("plain d --soh ^A --lines", RowDress::OnLines(Some("^A"))),
+    (
+        "plain d --lines --soh <SOH>",
+        RowDress::OnLines(Some("<SOH>")),
+    ),
+    (
+        "plain d --lines --soh \\x01",
+        RowDress::OnLines(Some("\\x01")),
+    ),
+    ("plain d --lines --soh !~", RowDress::OnLines(Some("!~"))),
+    // The value of an option is the next word, whatever it is.
+    (
+        "plain d --lines --soh --soh",
+        RowDress::OnLines(Some("--soh")),
+    ),
+    (
+        "plain d --soh --soh --lines",
+        RowDress::OnLines(Some("--soh")),
+    ),
+];
+
+fn check_plains(alloc: Global, rows: &[(&str, RowDress)]) -> Result<(), RowFault> {
+    for (line, wanted) in rows {
+        let words = words_of(alloc, line)?;
+        let holds = match read_desk_words(alloc, &words) {
+            Ok(DeskRequest::Plain { day, dress }) => day.as_str() == "d" && wanted.is(&dress),
+            _ => false,
+        };
+        check_row(alloc, line, holds)?;
+    }
+    Ok(())
+}
+
+/// Lines that ask for the contents of two logs.
+const CONTENTS: [DayRow; 4] = [
+    DayRow {
+        line: "contents o t",
+        orders_form: Form::Csv,
+        trades_form: Form::Csv,
+        table: false,
+        share: None,
+    },
+    DayRow {
+        line: "contents o t --trades-form fix",
+        orders_form: Form::Csv,
+        trades_form: Form::Fix,
+        table: false,
+        share: None,
+    },
+    DayRow {
+        line: "contents o t --orders-form fix --trades-form csv",
+        orders_form: Form::Fix,
+        trades_form: Form::Csv,
+        table: false,
+        share: None,
+    },
+    DayRow {
+        line: "contents o t --trades-form fix --orders-form fix",
+        orders_form: Form::Fix,
+        trades_form: Form::Fix,
+        table: false,
+        share: None,
+    },
+];
+
+fn check_contents(alloc: Global, rows: &[DayRow]) -> Result<(), RowFault> {
+    for row in rows {
+        let words = words_of(alloc, row.line)?;
+        let holds = match read_desk_words(alloc, &words) {
+            Ok(DeskRequest::Contents { logs }) => row.has_logs(&logs),
+            _ => false,
+        };
+        check_row(alloc, row.line, holds)?;
+    }
+    Ok(())
+}
+
 /// Lines that ask for help, and of which command.
-const HELPS: [(&str, Option<DeskCommand>); 6] = [
+const HELPS: [(&str, Option<DeskCommand>); 8] = [
     ("help", None),
     ("--help", None),
     ("help audit", Some(DeskCommand::Audit)),
     ("help session", Some(DeskCommand::Session)),
     ("help digest", Some(DeskCommand::Digest)),
+    ("help plain", Some(DeskCommand::Plain)),
+    ("help contents", Some(DeskCommand::Contents)),
     ("help help", Some(DeskCommand::Help)),
 ];
 
@@ -302,8 +407,8 @@ const OTHER_WORDS: [&str; 18] = [
     "page uniform Z o t",
     "digests o t",
     "orders 7 4",
-    "plain o",
-    "contents o t",
+    "plains d",
+    "content o t",
     "expect uniform Z o",
     "help audit session",
     "help offences",
@@ -407,6 +512,46 @@ const DIGEST_WORDS: [&str; 10] = [
     "digest o ",
 ];
 
+/// Lines of `plain` whose path or options are wrong.
+const PLAIN_WORDS: [&str; 20] = [
+    "plain",
+    "plain ",
+    "plain -d",
+    "plain --lines",
+    "plain --lines d",
+    "plain d more",
+    "plain d --lines --lines",
+    "plain d --soh |",
+    "plain d --soh",
+    "plain d --lines --soh",
+    "plain d --soh --lines",
+    "plain d --soh --lines |",
+    "plain d --lines --soh | more",
+    "plain d --lines --soh | --soh |",
+    "plain d --lines --soh ",
+    "plain d --lines --soh <SOH>|",
+    "plain d --lines --soh é",
+    "plain d --lines --soh \u{1}",
+    "plain d --lines --soh \u{7f}",
+    "plain d --table",
+];
+
+/// Lines of `contents` whose paths or options are wrong.
+const CONTENTS_WORDS: [&str; 12] = [
+    "contents",
+    "contents o",
+    "contents o t more",
+    "contents -o t",
+    "contents o -t",
+    "contents  t",
+    "contents o ",
+    "contents o t --table",
+    "contents o t --share 1/2",
+    "contents o t --orders-form",
+    "contents o t --orders-form fix --orders-form fix",
+    "contents --orders-form fix o t",
+];
+
 fn check_usage(alloc: Global, lines: &[&str]) -> Result<(), RowFault> {
     for line in lines {
         let words = words_of(alloc, line)?;
@@ -434,6 +579,18 @@ fn days_of_phases(rt: HostRuntime) -> Result<(), Fail> {
 fn digests_of_two_logs(rt: HostRuntime) -> Result<(), Fail> {
     check_digests(rt.alloc(), &DIGESTS)?;
     Ok(check_usage(rt.alloc(), &DIGEST_WORDS)?)
+}
+
+#[test]
+fn plain_logs_of_days(rt: HostRuntime) -> Result<(), Fail> {
+    check_plains(rt.alloc(), &PLAINS)?;
+    Ok(check_usage(rt.alloc(), &PLAIN_WORDS)?)
+}
+
+#[test]
+fn contents_of_two_logs(rt: HostRuntime) -> Result<(), Fail> {
+    check_contents(rt.alloc(), &CONTENTS)?;
+    Ok(check_usage(rt.alloc(), &CONTENTS_WORDS)?)
 }
 
 #[test]

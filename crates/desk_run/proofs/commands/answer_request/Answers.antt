@@ -16,3 +16,6 @@ returns-in-Session-clause-decides g c =
 
 pub returns-in-Digest-clause-decides : goal.returns-in-Digest-clause-decides
 returns-in-Digest-clause-decides g c = rw c.in-Digest.is c.answer_digest.ensures.decides
+
+pub returns-in-Plain-clause-decides : goal.returns-in-Plain-clause-decides
+returns-in-Plain-clause-decides g c = rw c.in-Plain.is c.answer_plain.ensures.decides
