@@ -72,4 +72,5 @@ IsAnswerTo (Generate start count) logs status text =
 
 -- the command that a request asks for
 abbrev pub auditor_command_of : Request → Command
-auditor_command_of request = record { next = next_log request; is_answer = IsAnswerTo request }
+auditor_command_of request =
+    record { next = next_log request; is_answer = IsAnswerTo request; writes_early = false }

@@ -19,6 +19,7 @@ use Rattle.command_run.specs.Runs.{IsAnswerToReadLogs, ReadingDecides, ReadsThen
 use Rattle.log_verdict.specs.Collecting.{step_of}
 use Rattle.log_verdict.specs.LogVerdicts.{log_in, records_of_order_log, trades_of_trade_log, OfLogs}
 use Rattle.log_verdict.specs.Steps.{Reading, LogStep, IsRead, StepsLead, FaultsNeverFall, with_slot}
+use Rattle.command_run.proofs.EarlyLemmas.{line-alone}
 use Rattle.command_run.proofs.OneLogLemmas.{text-of}
 use Rattle.command_run.proofs.StepLemmas.{two-lead}
 
@@ -101,12 +102,12 @@ module _ (r : Reading) (later : FaultsNeverFall r) (orders trades : Source) (com
     last = step_of r log (source_of orders trades log).name.now;
     reads = reaches log is.in_turn;
     cause = is.fault;
-    text_is = refl;
+    text_is = line-alone r command command.writes_early _ _ _;
   }
   both_stop (stop.TooLong log) is = record {
     last = step_of r log (source_of orders trades log).name.now;
     reads = reaches log is.in_turn;
     cause = is.long;
-    text_is = refl;
+    text_is = line-alone r command command.writes_early _ _ _;
   }
   both_stop stop.Memory is = tt

@@ -15,6 +15,7 @@ use Rattle.command_run.specs.Commands.{Command, StartsAnyTwo}
 use Rattle.command_run.specs.Deciding.{DecidesAnswer, DecidesBytes, IsStatusOfLogs, ReadingStops}
 use Rattle.command_run.specs.InTurn.{ReadsInTurn, reading_of_both}
 use Rattle.command_run.specs.Runs.{ReadsThenStarts}
+use Rattle.command_run.proofs.EarlyLemmas.{line-alone}
 use Rattle.command_run.proofs.OneLogLemmas.{one-reaches, text-of}
 use Rattle.command_run.proofs.StepLemmas.{two-lead}
 
@@ -22,9 +23,9 @@ use Rattle.command_run.proofs.StepLemmas.{two-lead}
 pub stops-first : (r : Reading) (command : Command) (orders trades : List ℕ) (the_stop : Stop) → TouchesOnly r Orders → StartsAnyTwo command orders trades → IsLogStop r Orders orders the_stop
     → ReadingStops r command the_stop
 stops-first r command orders trades (stop.ReadFault log) only starts is =
-    rw is.0 (record { last = step_of r Orders orders; reads = one-reaches r command Orders orders only starts.first; cause = is.1; text_is = refl })
+    rw is.0 (record { last = step_of r Orders orders; reads = one-reaches r command Orders orders only starts.first; cause = is.1; text_is = line-alone r command command.writes_early _ _ _ })
 stops-first r command orders trades (stop.TooLong log) only starts is =
-    rw is.0 (record { last = step_of r Orders orders; reads = one-reaches r command Orders orders only starts.first; cause = is.1; text_is = refl })
+    rw is.0 (record { last = step_of r Orders orders; reads = one-reaches r command Orders orders only starts.first; cause = is.1; text_is = line-alone r command command.writes_early _ _ _ })
 stops-first r command orders trades stop.Memory only starts is = tt
 
 ends-within : (r : Reading) → (r.after Orders).taken ≤ r.limit → (r.after Trades).taken ≤ r.limit → EndsWithin r
@@ -121,7 +122,7 @@ module _ (first second : Reading) (on : ReadsInTurn first second) where
           answer = is.holds;
         })
     decides-second (Err (stop.ReadFault log)) answers is =
-        rw is.0 (record { last = step_of whole Trades trades; reads = reaches-second; cause = fault-after trades is.1; text_is = refl })
+        rw is.0 (record { last = step_of whole Trades trades; reads = reaches-second; cause = fault-after trades is.1; text_is = line-alone whole command command.writes_early _ _ _ })
     decides-second (Err (stop.TooLong log)) answers is =
-        rw is.0 (record { last = step_of whole Trades trades; reads = reaches-second; cause = long-after trades is.1; text_is = refl })
+        rw is.0 (record { last = step_of whole Trades trades; reads = reaches-second; cause = long-after trades is.1; text_is = line-alone whole command command.writes_early _ _ _ })
     decides-second (Err stop.Memory) answers is = tt

@@ -1,3 +1,4 @@
+mod EarlyLemmas
 mod StepLemmas
 mod RunLemmas
 mod RoomLemmas
@@ -8,3 +9,4 @@ mod BothLogsLemmas
 mod InTurnLemmas
 mod AgreeLemmas
 mod NoMemoryLemmas
+mod RestLemmas

@@ -15,6 +15,7 @@ use Rattle.command_run.specs.Commands.{Command, StartsOne}
 use Rattle.command_run.specs.Deciding.{DecidesAnswer, DecidesBytes, IsStatusOfLogs}
 use Rattle.command_run.specs.Laws.{IsAnswerToNone}
 use Rattle.command_run.specs.Runs.{IsAnswerToReadLogs, ReadingDecides, ReadsThenStarts}
+use Rattle.command_run.proofs.EarlyLemmas.{line-alone}
 
 module _ (r : Reading) (command : Command) where
   pub text-of : (s : Status) (text : List ℕ) → IsStatusOfLogs s → IsAnswerToReadLogs r command s text → ReadingDecides r command s text
@@ -62,8 +63,8 @@ module _ (r : Reading) (command : Command) where
           all = starts.last is.bytes;
           answer = is.holds;
         })
-    decides-one (Err (stop.ReadFault which)) starts answers is = rw is.0 (record { last = one_step; reads = one-reaches starts.first; cause = is.1; text_is = refl })
-    decides-one (Err (stop.TooLong which)) starts answers is = rw is.0 (record { last = one_step; reads = one-reaches starts.first; cause = is.1; text_is = refl })
+    decides-one (Err (stop.ReadFault which)) starts answers is = rw is.0 (record { last = one_step; reads = one-reaches starts.first; cause = is.1; text_is = line-alone r command command.writes_early _ one_step _ })
+    decides-one (Err (stop.TooLong which)) starts answers is = rw is.0 (record { last = one_step; reads = one-reaches starts.first; cause = is.1; text_is = line-alone r command command.writes_early _ one_step _ })
     decides-one (Err stop.Memory) starts answers is = tt
 
   -- a command that needs no log answers without one

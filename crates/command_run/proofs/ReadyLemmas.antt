@@ -1,6 +1,8 @@
 -- Where the shelf holds the logs and nothing fails, the answer is written, or memory ran out.
-use Rattle.std.proofs.Common.{◌≡◌, subst, refl, inl, inr, ⊎_elim, ℕ, ◌+◌, ◌<◌, ◌≤◌, true, List, [], length, Option, Some, None, arith}
-use Rattle.std.specs.Prelude.{IsSomeAnd}
+use Rattle.std.proofs.Common.{◌≡◌, ◌∙◌, sym, ap, subst, refl, inl, inr, ⊎_elim, ℕ, ◌+◌, ◌<◌, ◌≤◌, Bool, true, false, List, [], ◌∷◌, ◌++◌, length, drop, Option, Some, None, arith}
+use Rattle.std.specs.Prelude.{IfSome, IsSomeAnd}
+use Rattle.std.specs.Io.{StartsWith}
+use Rattle.std.proofs.lemmas.List.{take-append-drop}
 use Rattle.audit_base.specs.declared.terms.Which.{Which}
 use Rattle.audit_report.specs.declared.statuses.Status.{Status}
 use Rattle.audit_report.specs.declared.statuses.Status.TheVariants as status
@@ -8,10 +10,11 @@ use Rattle.log_source.specs.Sinks.{SinkState, SinkStays}
 use Rattle.log_source.specs.Sources.{RoseOrIsFull}
 use Rattle.command_run.specs.InMemory.{HasRoomForAnswer}
 use Rattle.command_run.specs.Commands.{Command}
-use Rattle.command_run.specs.Runs.{AllIsThere, AnswersCommand, HoldsLog, HoldsNeededLogs, IsAnswerToReadLogs, IsDecidedText, ReadingDecides, ReadsThenStarts, StopsTooLong, StopsUnreadable, WritesAnswer, WritesPrefix}
+use Rattle.command_run.specs.Early.{BeginsAnswer, IsEarlyAt}
+use Rattle.command_run.specs.Runs.{AllIsThere, AnswersCommand, HoldsLog, HoldsNeededLogs, IsAnswerToReadLogs, IsEarlyText, IsTextBegun, ReadingDecides, ReadsThenStarts, RunsOutBefore, StopsTooLong, StopsUnreadable, WritesAnswer, WritesBeforeMemory, WritesPrefix}
 use Rattle.log_verdict.specs.Steps.{Reading, LogStep}
 use Rattle.command_run.proofs.RoomLemmas.{never_cut}
-use Rattle.command_run.proofs.StepLemmas.{held-after, held-next, held-all, rose-in}
+use Rattle.command_run.proofs.StepLemmas.{held-after, held-first, held-next, held-none, held-some, held-all, rose-in}
 
 -- a held log isn't missing
 held_there : (log : Option (List ℕ)) (bytes : List ℕ) → log ≡ Some bytes → log ≡ None → ⊥
@@ -28,6 +31,23 @@ pub held_answer : (r : Reading) (command : Command) (logs : List (List ℕ)) (th
 held_answer r command logs the_status text tells held is =
     subst (λ (x : List (List ℕ)). command.is_answer x the_status text)
     (held-all r command [] is.steps is.logs logs tells is.read is.all held) is.answer
+
+-- what is held of the next log goes on from the front that was read
+module _ (r : Reading) (command : Command) (tells : r.tells ≡ true) where
+  goes-on : (bytes front : List ℕ) → StartsWith bytes front → bytes ≡ front ++ drop (length front) bytes
+  goes-on bytes front is =
+      sym (take-append-drop (length front) bytes) ∙ ap (λ (x : List ℕ). x ++ drop (length front) bytes) is
+
+  known-front : (log : Option (List ℕ)) (bytes front : List ℕ) → log ≡ Some bytes → IfSome log (λ b. StartsWith b front) → StartsWith bytes front
+  known-front log bytes front there is = rw there at is
+
+  begins_rest : (logs rest : List (List ℕ)) (last : LogStep) (text : List ℕ) → command.next logs ≡ Some (last.log, last.name) → HoldsNeededLogs r command logs rest
+      → IsEarlyAt r command logs last text → BeginsAnswer command (logs ++ rest) text
+  begins_rest logs [] last text next holds is = absurd (held-some r command logs (last.log, last.name) next holds)
+  begins_rest logs (bytes ∷ later) last text next holds is =
+      let there : r.log_of last.log last.name ≡ Some bytes = held-first r command logs bytes (last.log, last.name) next holds.0 in
+      let starts = known-front (r.log_of last.log last.name) bytes is.front there (is.read.known tells) in
+      subst (λ (x : List ℕ). BeginsAnswer command (logs ++ x ∷ later) text) (sym (goes-on bytes is.front starts)) (is.begins (drop (length is.front) bytes) later)
 
 -- it is known what the shelf holds, it holds these logs, and none of its faults rose
 module _ (r : Reading) (command : Command) (logs : List (List ℕ)) (tells : r.tells ≡ true) (held : HoldsNeededLogs r command [] logs) (quiet : (log : Which) → ¬ RoseOrIsFull (r.before log).faults (r.after log).faults) where
@@ -51,13 +71,26 @@ module _ (r : Reading) (command : Command) (logs : List (List ℕ)) (tells : r.t
   pub of_held : (the_status : Status) (text : List ℕ) → IsAnswerToReadLogs r command the_status text → command.is_answer logs the_status text
   of_held the_status text is = held_answer r command logs the_status text tells held is
 
+  -- what may be written before all is read begins the answer to the logs that are held
+  pub begins_held : (text : List ℕ) → IsEarlyText r command text → BeginsAnswer command logs text
+  begins_held text (inl is) =
+      let left = held-after r command [] is.reads.steps is.reads.logs logs tells is.reads.read held (is.last.log, is.last.name) is.reads.next in
+      subst (λ (x : List (List ℕ)). BeginsAnswer command x text) (sym left.2)
+      (begins_rest r command tells is.reads.logs left.0 is.last text is.reads.next left.1 is.early)
+  begins_held text (inr is) = subst (λ (x : List (List ℕ)). BeginsAnswer command x text) (sym (held-none r command logs is.needs_none held)) is.begins
+
   module _ (old new : SinkState) where
+    memory_before : (early : Bool) → WritesBeforeMemory early r command old new → RunsOutBefore early command logs old new status.Memory
+    memory_before false is = record { status_is = refl; nothing = is }
+    memory_before true (inl same) = record { status_is = refl; front = inl same }
+    memory_before true (inr is) = record { status_is = refl; front = inr (record { text = is.text; is = begins_held is.text is.is; wrote = is.wrote }) }
+
     -- the answer was written, unless the sink failed
-    pub answer_unless : (result : Status) → ((result ≡ status.WriteFault) → WritesPrefix (IsDecidedText r command) old new → ⊥) → AnswersCommand r command old new result → WritesAnswer command logs old new result
+    pub answer_unless : (result : Status) → ((result ≡ status.WriteFault) → WritesPrefix (IsTextBegun command.writes_early r command) old new → ⊥) → AnswersCommand r command old new result → WritesAnswer command logs old new result
     answer_unless status.Accepted sound is = inl (record { text = is.text; is = of_held status.Accepted is.text is.is; wrote = is.wrote })
     answer_unless status.Rejected sound is = inl (record { text = is.text; is = of_held status.Rejected is.text is.is; wrote = is.wrote })
     answer_unless status.Malformed sound is = inl (record { text = is.text; is = of_held status.Malformed is.text is.is; wrote = is.wrote })
-    answer_unless status.Memory sound is = inr (record { status_is = refl; nothing = is })
+    answer_unless status.Memory sound is = inr (memory_before command.writes_early is)
     answer_unless status.Usage sound is = absurd is
     answer_unless status.ReadFault sound is = absurd (no_fault is.text is.is)
     answer_unless status.TooLong sound is = absurd (no_length is.text is.is)
@@ -80,8 +113,13 @@ module _ (r : Reading) (command : Command) (logs : List (List ℕ)) (tells : r.t
   fits written room ready status.WriteFault text is = absurd is
   fits written room ready status.Memory text is = absurd is
 
+  begun_fits : (written room : ℕ) (ready : HasRoomForAnswer r command logs written room) (early : Bool) → command.writes_early ≡ early → (text : List ℕ) → IsTextBegun early r command text → written + length text ≤ room
+  begun_fits written room ready false e text is = fits written room ready is.status text is.decides
+  begun_fits written room ready true e text (inl is) = fits written room ready is.status text is.decides
+  begun_fits written room ready true e text (inr is) = ready.early_room e text (begins_held r command logs tells ready.held quiet text is)
+
   pub answer_in_room : (old new : SinkState) (before : List ℕ) (room : ℕ) (result : Status) → old.wrote ≡ Some before → old.sure ≡ room → SinkStays old new → HasRoomForAnswer r command logs (length before) room
       → AnswersCommand r command old new result → WritesAnswer command logs old new result
   answer_in_room old new before room result wrote sure stays ready is =
       answer_unless r command logs tells ready.held quiet old new result
-      (λ e part. never_cut (IsDecidedText r command) old new before room wrote sure stays (λ text some. fits (length before) room ready some.status text some.decides) part) is
+      (λ e part. never_cut (IsTextBegun command.writes_early r command) old new before room wrote sure stays (begun_fits (length before) room ready command.writes_early refl) part) is

@@ -7,7 +7,7 @@ use Rattle.audit_report.specs.declared.statuses.Status.TheVariants as status
 use Rattle.log_source.specs.Sinks.{SinkState, SinkStays}
 use Rattle.command_run.specs.Corollaries.{HasRoomForText}
 use Rattle.command_run.specs.Commands.{Command}
-use Rattle.command_run.specs.Runs.{AnswersWithCause, IsDecidedText, IsLine, WritesPrefix}
+use Rattle.command_run.specs.Runs.{AnswersWithCause, IsLine, IsTextBegun, WritesPrefix}
 use Rattle.log_verdict.specs.Steps.{Reading}
 
 -- a sink that takes as many bytes for sure doesn't fail at a proper prefix
@@ -32,7 +32,7 @@ module _ {A : Type 0} (command_of : A → Command) (usage : List ℕ) where
   pub never_full : (asked : Option A) (r : Reading) (old new : SinkState) (before : List ℕ) (room : ℕ) (result : Status) → old.wrote ≡ Some before → old.sure ≡ room → SinkStays old new
       → HasRoomForText command_of usage asked r (length before) room → AnswersWithCause command_of usage asked r old new result → result ≡ status.WriteFault → ⊥
   never_full None r old new before room status.WriteFault wrote sure stays fits runs e = never_cut (IsLine usage) old new before room wrote sure stays fits runs.0
-  never_full (Some request) r old new before room status.WriteFault wrote sure stays fits runs e = never_cut (IsDecidedText r (command_of request)) old new before room wrote sure stays fits runs
+  never_full (Some request) r old new before room status.WriteFault wrote sure stays fits runs e = never_cut (IsTextBegun (command_of request).writes_early r (command_of request)) old new before room wrote sure stays fits runs
   never_full asked r old new before room status.Accepted wrote sure stays fits runs e = cc
   never_full asked r old new before room status.Rejected wrote sure stays fits runs e = cc
   never_full asked r old new before room status.Usage wrote sure stays fits runs e = cc

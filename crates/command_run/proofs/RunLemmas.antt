@@ -13,11 +13,12 @@ use Rattle.command_run.specs.Commands.{Command}
 use Rattle.command_run.specs.Runs.{AnswersCommand, AnswersTooLong, ReadingDecides}
 use Rattle.command_run.specs.Writing.{AnswersStop, AnswersText}
 use Rattle.log_verdict.specs.Steps.{Reading}
+use Rattle.command_run.proofs.EarlyLemmas.{begun-decided, nothing-before}
 
 module _ (r : Reading) (command : Command) (old new : SinkState) where
   -- a text that was written, whole or in part, is what the call answers and writes
   pub answers_text : (the_status : Status) (text : List ℕ) (result : Status) → ReadingDecides r command the_status text → AnswersText old new the_status text result → AnswersCommand r command old new result
-  answers_text the_status text result is (inr part) = rw part.status_is (record { text = text; is = record { status = the_status; decides = is }; wrote = part.wrote; cause = part.cause })
+  answers_text the_status text result is (inr part) = rw part.status_is (record { text = text; is = begun-decided r command command.writes_early text (record { status = the_status; decides = is }); wrote = part.wrote; cause = part.cause })
   answers_text status.Accepted text result is (inl all) = rw all.status_is (record { text = text; is = is; wrote = all.wrote })
   answers_text status.Rejected text result is (inl all) = rw all.status_is (record { text = text; is = is; wrote = all.wrote })
   answers_text status.Malformed text result is (inl all) = rw all.status_is (record { text = text; is = is; wrote = all.wrote })
@@ -30,7 +31,7 @@ module _ (r : Reading) (command : Command) (old new : SinkState) where
   pub answers_stop : (the_stop : Stop) (result : Status) → ReadingStops r command the_stop → AnswersStop old new the_stop result → AnswersCommand r command old new result
   answers_stop (stop.ReadFault log) result is writes = answers_text status.ReadFault (read_fault_line log) result is writes
   answers_stop (stop.TooLong log) result is writes = answers_text status.TooLong (too_long_line log) result is writes
-  answers_stop stop.Memory result is writes = rw writes.status_is writes.nothing
+  answers_stop stop.Memory result is writes = rw writes.status_is (nothing-before r command command.writes_early old new writes.nothing)
 
 -- an answer leaves both slots within the longest log
 pub length_of_answer : (r : Reading) (answer : Answer) (result : Status) → StaysWithin r (Ok answer) → AnswersTooLong r result

@@ -29,7 +29,8 @@ two-lead r orders trades later = (record { at = refl; later = later Orders }, (r
     ends Orders = refl
     ends Trades = refl
 
-rose-earlier : (a b c : ℕ) → a ≤ b → RoseOrIsFull b c → RoseOrIsFull a c
+-- faults that rose later rose since before
+pub rose-earlier : (a b c : ℕ) → a ≤ b → RoseOrIsFull b c → RoseOrIsFull a c
 rose-earlier a b c le (inl lt) = inl (omega arith)
 rose-earlier a b c le (inr top) = inr top
 
@@ -63,18 +64,20 @@ held-read r command read step bytes held tells reads holds =
     same-bytes (r.log_of step.log step.name) bytes held (reads.read.known tells)
     (subst (λ (p : Which × List ℕ). r.log_of p.0 p.1 ≡ Some held) same holds.holds.there)
 
--- after logs that were read the shelf holds those that the command needs still
+-- after logs that were read the shelf holds those that the command needs still, which are the
+-- rest of all
 pub held-after : (r : Reading) (command : Command) (read : List (List ℕ)) (steps : List LogStep) (logs held : List (List ℕ)) → r.tells ≡ true
     → ReadsOneByOne r command read steps logs → HoldsNeededLogs r command read held → (next : Which × List ℕ) → command.next logs ≡ Some next
-    → (rest : List (List ℕ)) × HoldsNeededLogs r command logs rest
+    → (rest : List (List ℕ)) × HoldsNeededLogs r command logs rest × (read ++ held ≡ logs ++ rest)
 held-after r command read [] logs held tells reads holds next is =
-    (held, subst (λ (x : List (List ℕ)). HoldsNeededLogs r command x held) (sym reads) holds)
+    (held, subst (λ (x : List (List ℕ)). HoldsNeededLogs r command x held) (sym reads) holds, ap (λ (x : List (List ℕ)). x ++ held) (sym reads))
 held-after r command read (step ∷ steps) logs [] tells reads holds next is =
     absurd (some-none (command.next read) (step.log, step.name) holds reads.1.next)
 held-after r command read (step ∷ steps) logs (bytes ∷ held) tells reads holds next is =
     let same : reads.0 ≡ bytes = held-read r command read step reads.0 bytes tells reads.1 holds.0 in
-    held-after r command (read ++ reads.0 ∷ []) steps logs held tells reads.2
-    (subst (λ (x : List ℕ). HoldsNeededLogs r command (read ++ x ∷ []) held) (sym same) holds.1) next is
+    let left = held-after r command (read ++ reads.0 ∷ []) steps logs held tells reads.2
+    (subst (λ (x : List ℕ). HoldsNeededLogs r command (read ++ x ∷ []) held) (sym same) holds.1) next is in
+    (left.0, left.1, sym (append_assoc read (bytes ∷ []) held) ∙ ap (λ (x : List ℕ). (read ++ x ∷ []) ++ held) (sym same) ∙ left.2)
 
 -- the next log is held
 pub held-next : (r : Reading) (command : Command) (logs rest : List (List ℕ)) (next : Which × List ℕ) → command.next logs ≡ Some next → HoldsNeededLogs r command logs rest
@@ -83,6 +86,21 @@ held-next r command logs [] next is holds = absurd (some-none (command.next logs
 held-next r command logs (bytes ∷ rest) next is holds =
     let same = same-next (command.next logs) (holds.0.log, holds.0.name) next holds.0.next is in
     (bytes, subst (λ (p : Which × List ℕ). HoldsLog r p.0 p.1 bytes) same holds.0.holds)
+
+-- what is held under the name of the next log is the first of the rest
+pub held-first : (r : Reading) (command : Command) (logs : List (List ℕ)) (bytes : List ℕ) (next : Which × List ℕ) → command.next logs ≡ Some next → HoldsNext r command logs bytes
+    → r.log_of next.0 next.1 ≡ Some bytes
+held-first r command logs bytes next is holds =
+    subst (λ (p : Which × List ℕ). r.log_of p.0 p.1 ≡ Some bytes) (same-next (command.next logs) (holds.log, holds.name) next holds.next is) holds.holds.there
+
+-- a command that needs no log is held none
+pub held-none : (r : Reading) (command : Command) (held : List (List ℕ)) → command.next [] ≡ None → HoldsNeededLogs r command [] held → held ≡ []
+held-none r command [] none holds = refl
+held-none r command (bytes ∷ held) none holds = absurd (some-none (command.next []) (holds.0.log, holds.0.name) none holds.0.next)
+
+-- a command that needs a log is held one
+pub held-some : (r : Reading) (command : Command) (logs : List (List ℕ)) (next : Which × List ℕ) → command.next logs ≡ Some next → HoldsNeededLogs r command logs [] → ⊥
+held-some r command logs next is holds = some-none (command.next logs) next holds is
 
 -- the logs that were read are those that the shelf holds
 pub held-all : (r : Reading) (command : Command) (read : List (List ℕ)) (steps : List LogStep) (logs held : List (List ℕ)) → r.tells ≡ true

@@ -1,5 +1,5 @@
 -- What a command is: which logs it reads, one after another, and what it answers to them.
-use Rattle.std.specs.Prelude.{◌≡◌, ℕ, List, [], ◌∷◌, Option, None, Some, is_ok, slice_index_or}
+use Rattle.std.specs.Prelude.{◌≡◌, ℕ, Bool, List, [], ◌∷◌, Option, None, Some, is_ok, slice_index_or}
 use Rattle.audit_base.specs.declared.terms.Form.{Form}
 use Rattle.audit_base.specs.declared.terms.Which.{Which}
 use Rattle.audit_base.specs.declared.terms.Which.TheVariants.{Orders, Trades}
@@ -9,11 +9,13 @@ use Rattle.log_verdict.specs.declared.sources.Source.{Source}
 use Rattle.log_verdict.specs.LogVerdicts.{records_of_order_log}
 
 -- What a command does: the log that it starts after those that it has read, whose bytes these
--- are, its slot and its name, or nothing where it needs no more; and which status and which text
--- it answers to all of them.
+-- are, its slot and its name, or nothing where it needs no more; which status and which text
+-- it answers to all of them; and whether it writes that text while it reads, or makes the whole
+-- of it first.
 pub record Command : Type 1 where
   pub next : List (List ℕ) → Option (Which × List ℕ)
   pub is_answer : List (List ℕ) → Status → List ℕ → Type 0
+  pub writes_early : Bool
 
 -- the next log of a command that needs one: it starts that first, and no other
 abbrev pub next_of_one_log : Which → List ℕ → List (List ℕ) → Option (Which × List ℕ)

@@ -1,5 +1,5 @@
 -- What a command decides: its answer, or why there is none.
-use Rattle.std.specs.Prelude.{◌≡◌, ℕ, List, Result, Err, MatchResult}
+use Rattle.std.specs.Prelude.{◌≡◌, ◌++◌, ℕ, List, Result, Err, MatchResult}
 use Rattle.audit_base.specs.declared.terms.Which.{Which}
 use Rattle.audit_report.specs.declared.statuses.Status.{Status}
 use Rattle.audit_report.specs.declared.statuses.Status.TheVariants as status
@@ -16,7 +16,7 @@ use Rattle.log_verdict.specs.LogVerdicts.{Log, log_in}
 use Rattle.log_verdict.specs.Steps.{Reading}
 use Rattle.command_run.specs.declared.answers.Answer.{Answer}
 use Rattle.command_run.specs.Commands.{Command}
-use Rattle.command_run.specs.Runs.{ReadingDecides}
+use Rattle.command_run.specs.Runs.{IsEarlyText, ReadingDecides}
 use Rattle.command_run.specs.VerdictAnswers.{IsVerdictAnswer}
 
 -- the status and the text of this answer are of this kind
@@ -36,6 +36,23 @@ ReadingStops r command stop.Memory = Unit {0}
 abbrev pub DecidesAnswer : Reading → Command → Result Answer Stop → Type 0
 DecidesAnswer r command result =
     MatchResult result (IsAnswerOfKind (ReadingDecides r command)) (ReadingStops r command)
+
+-- reading stopped for this cause after this text was written: what it decides is that text and the
+-- line that says so; where memory ran out, the text alone was written before all was read
+abbrev pub RestStops : Reading → Command → List ℕ → Stop → Type 0
+RestStops r command early (stop.ReadFault log) =
+    ReadingDecides r command status.ReadFault (early ++ read_fault_line log)
+RestStops r command early (stop.TooLong log) =
+    ReadingDecides r command status.TooLong (early ++ too_long_line log)
+RestStops r command early stop.Memory = IsEarlyText r command early
+
+-- this text was written while logs were read: what the reading decides is it and the text of the
+-- answer behind it, or there is no answer for a cause
+abbrev pub DecidesRest : Reading → Command → List ℕ → Result Answer Stop → Type 0
+DecidesRest r command early result =
+    MatchResult result
+    (λ answer. ReadingDecides r command answer.status (early ++ answer.text.items))
+    (RestStops r command early)
 
 -- what is under this name was read to its end, and this is the answer to its bytes; or there is
 -- none for a cause

@@ -1,6 +1,7 @@
 -- What a reader must believe, in the order in which it is read: what a command is, what a call
 -- that runs one answers and writes, and what a command answers by a verdict.
 pub mod Commands
+pub mod Early
 pub mod Runs
 pub mod VerdictAnswers
 pub mod InTurn

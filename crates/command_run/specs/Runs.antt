@@ -1,6 +1,6 @@
 -- What a call that runs a command answers and writes: whatever fails, by what it read; and where
 -- nothing fails, by what the shelf holds.
-use Rattle.std.specs.Prelude.{◌≡◌, ◌≤◌, ◌⊎◌, ℕ, true, List, [], ◌∷◌, ◌++◌, Option, None, Some, IsSome, length}
+use Rattle.std.specs.Prelude.{◌≡◌, ◌≤◌, ◌⊎◌, ℕ, Bool, true, false, List, [], ◌∷◌, ◌++◌, Option, None, Some, IsSome, length}
 use Rattle.std.specs.Io.KnownBytes.{Appends}
 use Rattle.audit_base.specs.declared.terms.Which.{Which}
 use Rattle.audit_report.specs.declared.statuses.Status.{Status}
@@ -9,6 +9,7 @@ use Rattle.audit_report.specs.Lines.{read_fault_line, too_long_line}
 use Rattle.log_source.specs.Sinks.{SinkState, AppendsPart, HasFailureCause}
 use Rattle.log_source.specs.Sources.{RoseOrIsFull}
 use Rattle.command_run.specs.Commands.{Command}
+use Rattle.command_run.specs.Early.{BeginsAnswer, IsEarlyAt, IsTextOfStop}
 use Rattle.log_verdict.specs.Steps.{Reading, LogStep, IsRead, IsReadFault, IsTooLong, StepsLead, BeginsWithin, EndsWithin}
 
 -- The shelf holds a log with these bytes under this name, and it is no longer than a log may be.
@@ -69,11 +70,25 @@ pub record RunsOutOfMemory (old new : SinkState) (status : Status) : Type 0 wher
   pub status_is : status ≡ Memory
   pub nothing : new ≡ old
 
+-- Memory ran out, and nothing was done to the sink, or a front of the command's answer to these
+-- logs was written.
+pub record RunsOutOnTheWay (command : Command) (logs : List (List ℕ)) (old new : SinkState)
+    (status : Status) : Type 0 where
+  pub status_is : status ≡ Memory
+  pub front : (new ≡ old) ⊎ WritesWhole (BeginsAnswer command logs) old new
+
+-- memory ran out before the answer to these logs was written, by whether the command writes while
+-- it reads
+abbrev pub RunsOutBefore : Bool → Command → List (List ℕ) → SinkState → SinkState → Status → Type 0
+RunsOutBefore false command logs old new status = RunsOutOfMemory old new status
+RunsOutBefore true command logs old new status = RunsOutOnTheWay command logs old new status
+
 -- exactly the text of the command's answer to these logs was written, and its status is answered;
 -- or memory ran out
 abbrev pub WritesAnswer : Command → List (List ℕ) → SinkState → SinkState → Status → Type 0
 WritesAnswer command logs old new status =
-    WritesWhole (command.is_answer logs status) old new ⊎ RunsOutOfMemory old new status
+    WritesWhole (command.is_answer logs status) old new
+    ⊎ RunsOutBefore command.writes_early command logs old new status
 
 -- on well-formed words, whatever logs the shelf holds: where all is there, the answer to them of
 -- the command that the words ask for is written and answered
@@ -125,14 +140,16 @@ pub record StopsUnreadable (r : Reading) (command : Command) (text : List ℕ) :
   pub last : LogStep
   pub reads : ReadsThenStarts r command last
   pub cause : IsReadFault r last
-  pub text_is : text ≡ read_fault_line last.log
+  pub text_is : IsTextOfStop command.writes_early r command reads.logs last
+      (read_fault_line last.log) text
 
 -- Reading stopped at a log that is too long, and the line says which.
 pub record StopsTooLong (r : Reading) (command : Command) (text : List ℕ) : Type 0 where
   pub last : LogStep
   pub reads : ReadsThenStarts r command last
   pub cause : IsTooLong r last
-  pub text_is : text ≡ too_long_line last.log
+  pub text_is : IsTextOfStop command.writes_early r command reads.logs last
+      (too_long_line last.log) text
 
 -- what a reading decides, by status: the answer to all the logs,
 -- or the line of the log at which it stopped
@@ -151,6 +168,35 @@ pub record IsDecidedText (r : Reading) (command : Command) (text : List ℕ) : T
   pub status : Status
   pub decides : ReadingDecides r command status text
 
+-- Of the logs that the command needs, those before the last one that was started were read, and of
+-- that at least a front, after which the text may have been written.
+pub record IsEarlyOfLogs (r : Reading) (command : Command) (text : List ℕ) : Type 0 where
+  pub last : LogStep
+  pub reads : ReadsThenStarts r command last
+  pub early : IsEarlyAt r command reads.logs last text
+
+-- The command needs no log, none was started, and its answer begins with the text.
+pub record IsEarlyOfNone (r : Reading) (command : Command) (text : List ℕ) : Type 0 where
+  pub alone : (log : Which) → r.after log ≡ r.before log
+  pub needs_none : command.next [] ≡ None
+  pub begins : BeginsAnswer command [] text
+
+-- the text may have been written before all was read
+abbrev pub IsEarlyText : Reading → Command → List ℕ → Type 0
+IsEarlyText r command text = IsEarlyOfLogs r command text ⊎ IsEarlyOfNone r command text
+
+-- the texts that a sink may have failed to take, by whether the command writes while it reads
+abbrev pub IsTextBegun : Bool → Reading → Command → List ℕ → Type 0
+IsTextBegun false r command text = IsDecidedText r command text
+IsTextBegun true r command text = IsDecidedText r command text ⊎ IsEarlyText r command text
+
+-- what was done to the sink where memory ran out, by whether the command writes while it reads:
+-- nothing, or a text was written, whole, before all was read
+abbrev pub WritesBeforeMemory : Bool → Reading → Command → SinkState → SinkState → Type 0
+WritesBeforeMemory false r command old new = new ≡ old
+WritesBeforeMemory true r command old new =
+    (new ≡ old) ⊎ WritesWhole (IsEarlyText r command) old new
+
 -- on well-formed words: each status of the command that they ask for, with its cause and with
 -- what was written
 abbrev pub AnswersCommand : Reading → Command → SinkState → SinkState → Status → Type 0
@@ -165,8 +211,9 @@ AnswersCommand r command old new ReadFault =
 AnswersCommand r command old new TooLong =
     WritesWhole (ReadingDecides r command TooLong) old new
 AnswersCommand r command old new WriteFault =
-    WritesPrefix (IsDecidedText r command) old new
-AnswersCommand r command old new Memory = new ≡ old
+    WritesPrefix (IsTextBegun command.writes_early r command) old new
+AnswersCommand r command old new Memory =
+    WritesBeforeMemory command.writes_early r command old new
 AnswersCommand r command old new Usage = ⊥
 
 -- the text is this line

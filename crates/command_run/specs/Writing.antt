@@ -4,7 +4,7 @@ use Rattle.std.specs.Io.KnownBytes.{Appends}
 use Rattle.audit_report.specs.declared.statuses.Status.{Status}
 use Rattle.audit_report.specs.declared.statuses.Status.TheVariants as status
 use Rattle.audit_report.specs.Lines.{read_fault_line, too_long_line}
-use Rattle.log_source.specs.Sinks.{SinkState, AppendsPart, HasFailureCause}
+use Rattle.log_source.specs.Sinks.{SinkState, SinkStays, AppendsPart, HasFailureCause}
 use Rattle.log_verdict.specs.declared.stops.Stop.{Stop}
 use Rattle.log_verdict.specs.declared.stops.Stop.TheVariants as stop
 use Rattle.command_run.specs.Runs.{RunsOutOfMemory}
@@ -26,6 +26,11 @@ pub record AnswersWriteFault (old new : SinkState) (text : List ℕ)
 abbrev pub AnswersText : SinkState → SinkState → Status → List ℕ → Status → Type 0
 AnswersText old new the_status text result =
     AnswersWritten old new the_status text result ⊎ AnswersWriteFault old new text result
+
+-- The text was written, whole, and no fault of the sink is forgotten.
+pub record HasWritten (before now : SinkState) (text : List ℕ) : Type 0 where
+  pub stays : SinkStays before now
+  pub wrote : Appends before.wrote now.wrote text
 
 -- what is answered where reading stopped: the line that says where, or that memory ran out
 abbrev pub AnswersStop : SinkState → SinkState → Stop → Status → Type 0

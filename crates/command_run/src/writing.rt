@@ -1,8 +1,9 @@
 //! Writing the one text of a call.
-ghost use Rattle.command_run.specs.Deciding.{DecidesAnswer};
+ghost use Rattle.std.specs.Prelude.{◌≡◌, ℕ, List, true};
+ghost use Rattle.command_run.specs.Deciding.{DecidesAnswer, DecidesRest};
 ghost use Rattle.command_run.specs.Runs.{AnswersCommand, AnswersTooLong, RefusesWords};
-ghost use Rattle.command_run.specs.Writing.{AnswersStop, AnswersText};
-ghost use Rattle.log_source.specs.Sinks.{SinkStays};
+ghost use Rattle.command_run.specs.Writing.{AnswersStop, AnswersText, HasWritten};
+ghost use Rattle.log_source.specs.Sinks.{SinkState, SinkStays};
 ghost use Rattle.log_verdict.specs.BothLogs.{StaysWithin};
 ghost use Rattle.log_verdict.specs.Steps.{Reading};
 
@@ -40,10 +41,17 @@ fn write_stop<K: Sink>(out: &mut K, stop: Stop) -> Status
 /// Writes the text of an answer, or the line of a stop, and answers the status. Whatever command
 /// of the program and whatever reading decided that, the status has its cause in them; and where
 /// a log that was read is too long, the status says so, unless the sink failed.
+///
+/// A command that writes while it reads has written a front of its text by then. What is decided
+/// is the rest of it, and the status is that of the whole.
 pub fn write_answer<P: Program, K: Sink>(out: &mut K, decided: Result<Answer, Stop>) -> Status
     ensures answers { (request : P.Request) (r : Reading)
         → DecidesAnswer r (P.command request) decided
         → AnswersCommand r (P.command request) (K.state out.old) (K.state out.new) result }
+    ensures rest { (request : P.Request) (r : Reading) (before : SinkState) (early : List ℕ)
+        → (P.command request).writes_early ≡ true → HasWritten before (K.state out.old) early
+        → DecidesRest r (P.command request) early decided
+        → AnswersCommand r (P.command request) before (K.state out.new) result }
     ensures too_long { (r : Reading) → StaysWithin r decided → AnswersTooLong r result }
     ensures stays { SinkStays (K.state out.old) (K.state out.new) }
 {

@@ -1,5 +1,5 @@
 -- What a day is answered by, on the logs that the shelf holds, is what the headline says was written.
-use Rattle.std.proofs.Common.{◌≡◌, ◌⊎◌, ◌∙◌, subst, refl, inl, inr, ⊎_elim, ℕ, List, [], ◌∷◌, Option, Result, Ok, Err}
+use Rattle.std.proofs.Common.{◌≡◌, ◌⊎◌, ◌∙◌, subst, refl, inl, inr, ⊎_elim, ℕ, Bool, true, false, List, [], ◌∷◌, Option, Result, Ok, Err}
 use Rattle.std.specs.Prelude.{MatchResult}
 use Rattle.std.specs.Io.KnownBytes.{Appends}
 use Rattle.audit_base.specs.declared.faults.BadPlace.{BadPlace}
@@ -11,7 +11,7 @@ use Rattle.audit_base.specs.Words.{rule_word}
 use Rattle.audit_report.specs.declared.statuses.Status.{Status}
 use Rattle.audit_report.specs.declared.verdicts.Verdict.TheVariants as verdict
 use Rattle.command_run.specs.Commands.{Command, log_read_at, next_of_both_logs}
-use Rattle.command_run.specs.Runs.{AllIsThere, AnswersHeldLogs, HoldsLog, HoldsNeededLogs, HoldsNext, IsKnown, NothingFails, RunsOutOfMemory, WritesAnswer, WritesWhole}
+use Rattle.command_run.specs.Runs.{AllIsThere, AnswersHeldLogs, HoldsLog, HoldsNeededLogs, HoldsNext, IsKnown, NothingFails, RunsOutBefore, RunsOutOfMemory, WritesAnswer, WritesWhole}
 use Rattle.day_logs.specs.declared.answers.DayAnswer.{DayAnswer}
 use Rattle.day_logs.specs.declared.answers.DayAnswer.TheVariants as answer
 use Rattle.day_logs.specs.DayAnswers.{AreVerdictsOfDay, DayMeaning, IsAnswerToRecords}
@@ -37,6 +37,14 @@ same_symbols : (judged : JudgedSymbols) (counts : DayCounts) (lines judged_by : 
 same_symbols judged counts lines judged_by old new status counts_are lines_are =
     subst (λ (c : DayCounts). WroteSymbols judged.counts judged_by judged.lines.items old new status → WroteSymbols c judged_by lines old new status) counts_are
     (subst (λ (l : List ℕ). WroteSymbols judged.counts judged_by judged.lines.items old new status → WroteSymbols judged.counts judged_by l old new status) lines_are (λ w. w))
+
+-- a command that makes its whole answer first wrote nothing where memory ran out
+memory-whole : (early : Bool) (command : Command) (logs : List (List ℕ)) (old new : SinkState) (status : Status) → early ≡ false → RunsOutBefore early command logs old new status → RunsOutOfMemory old new status
+memory-whole false command logs old new status e is = is
+memory-whole true command logs old new status e is = absurd (other e)
+  where
+    other : true ≡ false → ⊥
+    other e = cc
 
 apart : (x : Result (List TradeRecord) Finding) (trades : List TradeRecord) (finding : Finding) → x ≡ Ok trades → x ≡ Err finding → ⊥
 apart x trades finding a b = cc
@@ -78,6 +86,7 @@ module _ (meaning : DayMeaning) (judged_by : List ℕ) (old new : SinkState) (st
 
   module _ (r : Reading) (command : Command) (orders trades : Log) (orders_name trades_name : List ℕ)
       (holds_orders : HoldsLog r Orders orders_name orders.bytes) (holds_trades : HoldsLog r Trades trades_name trades.bytes) (known : IsKnown r old) (nothing_fails : NothingFails r old new)
+      (whole : command.writes_early ≡ false)
       (nexts : (bytes : List (List ℕ)) → command.next bytes ≡ next_of_both_logs orders_name trades_name orders.form bytes)
       (reports : (bytes : List (List ℕ)) (text : List ℕ) → command.is_answer bytes status text
       → IsDayAnswer meaning judged_by (log_in orders.form (log_read_at bytes 0)) (log_in trades.form (log_read_at bytes 1)) status text)
@@ -91,12 +100,12 @@ module _ (meaning : DayMeaning) (judged_by : List ℕ) (old new : SinkState) (st
         let first : HoldsNext r command [] orders.bytes = record { log = Orders; name = orders_name; next = nexts []; holds = holds_orders } in
         let second : HoldsNext r command (orders.bytes ∷ []) trades.bytes = record { log = Trades; name = trades_name; next = nexts (orders.bytes ∷ []) ∙ (rw e refl); holds = holds_trades } in
         let held : HoldsNeededLogs r command [] (orders.bytes ∷ trades.bytes ∷ []) = (first, (second, nexts (orders.bytes ∷ trades.bytes ∷ []))) in
-        ⊎_elim (λ written. inl (written_day orders trades (as_day (orders.bytes ∷ trades.bytes ∷ []) written))) (λ memory. inr memory)
+        ⊎_elim (λ written. inl (written_day orders trades (as_day (orders.bytes ∷ trades.bytes ∷ []) written))) (λ memory. inr (memory-whole command.writes_early command _ old new status whole memory))
         (answers (orders.bytes ∷ trades.bytes ∷ []) (record { known = known; held = held; nothing_fails = nothing_fails }))
     by_orders (Err bad) e =
         let first : HoldsNext r command [] orders.bytes = record { log = Orders; name = orders_name; next = nexts []; holds = holds_orders } in
         let held : HoldsNeededLogs r command [] (orders.bytes ∷ []) = (first, nexts (orders.bytes ∷ []) ∙ (rw e refl)) in
-        ⊎_elim (λ written. inl (whatever_trades orders trades (log_in trades.form []) bad e (written_day orders (log_in trades.form []) (as_day (orders.bytes ∷ []) written)))) (λ memory. inr memory)
+        ⊎_elim (λ written. inl (whatever_trades orders trades (log_in trades.form []) bad e (written_day orders (log_in trades.form []) (as_day (orders.bytes ∷ []) written)))) (λ memory. inr (memory-whole command.writes_early command _ old new status whole memory))
         (answers (orders.bytes ∷ []) (record { known = known; held = held; nothing_fails = nothing_fails }))
 
     pub wrote_day : WroteDay of_records orders trades old new status ⊎ RunsOutOfMemory old new status
@@ -116,7 +125,7 @@ answers_day asked r old new status answers = record { of_rule = of_rule; of_phas
           wrote = same_symbols judged (counts_of is.verdicts) (day_lines_of (symbols_in q.share (symbols_of_day entries day_trades)) is.verdicts) (rule_word rule) old new status is.counts_are is.lines_are written;
         })
         r (desk_command_of (Audit rule (logs_named orders trades to_judge.orders_name to_judge.trades_name) table share)) orders trades to_judge.orders_name to_judge.trades_name
-        to_judge.holds_orders to_judge.holds_trades known nothing_fails (λ bytes. refl) (λ bytes text is. is)
+        to_judge.holds_orders to_judge.holds_trades known nothing_fails refl (λ bytes. refl) (λ bytes text is. is)
         (subst (λ (x : Option DeskRequest). AnswersHeldLogs desk_command_of x r old new status) to_judge.words answers)
 
     of_phases : AnswersDayOfPhases asked r old new status
@@ -129,5 +138,5 @@ answers_day asked r old new status answers = record { of_rule = of_rule; of_phas
               is.counts_are is.lines_are written;
         })
         r (desk_command_of (Session phases (logs_named orders trades to_judge.orders_name to_judge.trades_name) table share)) orders trades to_judge.orders_name to_judge.trades_name
-        to_judge.holds_orders to_judge.holds_trades known nothing_fails (λ bytes. refl) (λ bytes text is. is)
+        to_judge.holds_orders to_judge.holds_trades known nothing_fails refl (λ bytes. refl) (λ bytes text is. is)
         (subst (λ (x : Option DeskRequest). AnswersHeldLogs desk_command_of x r old new status) to_judge.words answers)

@@ -2,3 +2,4 @@ mod ContentsLemmas
 mod DayLemmas
 mod DigestLemmas
 mod HeadlineLemmas
+mod PlainLemmas

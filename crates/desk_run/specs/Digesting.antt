@@ -14,7 +14,7 @@ use Rattle.log_verdict.specs.BothLogs.{IsLogStop}
 use Rattle.log_verdict.specs.Collecting.{IsReadAs}
 use Rattle.log_verdict.specs.Steps.{Reading}
 
--- why there is no digest of a log, by why it was not taken whole
+-- why there is no answer to a log, by why it was not taken whole
 abbrev pub stop_of_take : Which → TakeFault → Stop
 stop_of_take log take.Fault = stop.ReadFault log
 stop_of_take log take.TooLong = stop.TooLong log

@@ -3,6 +3,7 @@
 pub mod TopCall
 pub mod Requests
 pub mod Contents
+pub mod PlainAnswers
 -- What private functions pass on to one another.
 pub mod Deciding
 pub mod Digesting

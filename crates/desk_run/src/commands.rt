@@ -13,6 +13,7 @@ ghost use Rattle.log_verdict.specs.Steps.{FaultsNeverFall, KeepsShelfLogs};
 use super::contents::answer_contents;
 use super::days::{answer_audit, answer_session};
 use super::digests::answer_digest;
+use super::plain::answer_plain;
 use super::program::Desk;
 use super::sources::{day_source, share_asked};
 use audit_base::faults::NoMemory;
@@ -97,6 +98,7 @@ pub(crate) fn answer_request<F: Shelf>(
             )
         }
         DeskRequest::Digest { orders, trades } => answer_digest(alloc, shelf, orders, trades),
+        DeskRequest::Plain { day, dress } => answer_plain(alloc, shelf, day, dress),
         DeskRequest::Contents { logs } => {
             let orders = day_source(&logs.orders, logs.orders_form, seed);
             let trades = day_source(&logs.trades, logs.trades_form, seed);

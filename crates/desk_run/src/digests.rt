@@ -23,8 +23,8 @@ use log_source::take::TakeFault;
 use log_verdict::stops::Stop;
 use std::alloc::Global;
 
-/// Why there is no digest of a log that was not read to its end.
-fn stop_of_take(log: Which, fault: TakeFault) -> Stop
+/// Why there is no answer to a log that was not read to its end.
+pub(crate) fn stop_of_take(log: Which, fault: TakeFault) -> Stop
     ensures { result ≡ stop_of_take log fault }
 {
     match fault {

@@ -17,6 +17,9 @@ returns-in-Session-clause-decides g c =
 pub returns-in-Digest-clause-decides : goal.returns-in-Digest-clause-decides
 returns-in-Digest-clause-decides g c = rw c.in-Digest.is c.answer_digest.ensures.decides
 
+pub returns-in-Plain-clause-decides : goal.returns-in-Plain-clause-decides
+returns-in-Plain-clause-decides g c = rw c.in-Plain.is c.answer_plain.ensures.decides
+
 pub returns-in-Contents-clause-decides : goal.returns-in-Contents-clause-decides
 returns-in-Contents-clause-decides g c =
     let decides = rw (c.day_source-orders-in-Contents.ensures.name, c.day_source-orders-in-Contents.ensures.form, c.day_source-trades-in-Contents.ensures.name, c.day_source-trades-in-Contents.ensures.form) at c.answer_contents.ensures.decides in

@@ -1,0 +1,51 @@
+-- What `plain` answers to a day: its messages, each as a line of a FIX log, and where one is bad a
+-- line that says so.
+use Rattle.std.specs.Prelude.{ℕ, List, [], ◌∷◌, ◌++◌, Option, None, Some}
+use Rattle.audit_base.specs.declared.faults.BadPlace.{BadPlace}
+use Rattle.audit_base.specs.declared.terms.Which.TheVariants.{Orders}
+use Rattle.audit_base.specs.Sizes.{soh}
+use Rattle.audit_report.specs.declared.statuses.Status.{Status}
+use Rattle.audit_report.specs.declared.statuses.Status.TheVariants as status
+use Rattle.audit_report.specs.Lines.{malformed_line}
+use Rattle.command_run.specs.VerdictAnswers.{IsAnswerWith}
+use Rattle.desk_words.specs.declared.dress_words.DayDress.{DayDress}
+use Rattle.desk_words.specs.declared.dress_words.DayDress.TheVariants.{Framed, OnLines}
+use Rattle.dressed_logs.specs.declared.faults.BadMessage.{BadMessage}
+use Rattle.dressed_logs.specs.Framed.{IsFramedReading}
+use Rattle.dressed_logs.specs.Lines.{IsLineReading}
+use Rattle.fix_messages.specs.Logs.{frame_reason}
+use Rattle.plain_logs.specs.PlainTexts.{IsPlainText}
+
+-- what stands for SOH: the text that is given, or SOH itself
+abbrev pub text_for_soh : Option (List ℕ) → List ℕ
+text_for_soh None = soh ∷ []
+text_for_soh (Some text) = text
+
+-- what is read of a day in this dress
+abbrev pub day_reading : DayDress → List ℕ → List (List ℕ) → Option BadMessage → Type 0
+day_reading Framed day = IsFramedReading day
+day_reading (OnLines soh_word) day = IsLineReading (text_for_soh soh_word) day
+
+-- the place of a bad message, as a report tells it
+abbrev pub bad_place_of : BadMessage → BadPlace
+bad_place_of bad =
+    record { place = bad.place; offset = bad.offset; reason = frame_reason bad.fault }
+
+-- 0, or where a message is bad 3
+abbrev pub plain_status : Option BadMessage → Status
+plain_status None = status.Accepted
+plain_status (Some bad) = status.Malformed
+
+-- where a message is bad, the line that says which, and why
+abbrev pub bad_line : Option BadMessage → List ℕ
+bad_line None = []
+bad_line (Some bad) = malformed_line Orders (bad_place_of bad)
+
+-- The answer is the plain text of the bodies that are read, and behind it the line of the first bad
+-- message, if there is one.
+pub record IsPlainAnswer (reads : List (List ℕ) → Option BadMessage → Type 0) (status : Status)
+    (text : List ℕ) : Type 0 where
+  pub plain : List ℕ
+  pub bad : Option BadMessage
+  pub is : IsPlainText reads plain bad
+  pub answer : IsAnswerWith (plain_status bad) (plain ++ bad_line bad) status text

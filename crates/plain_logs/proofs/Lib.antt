@@ -1,0 +1,3 @@
+mod ListLemmas
+mod FitLemmas
+mod TextLemmas

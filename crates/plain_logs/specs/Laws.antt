@@ -1,0 +1,43 @@
+-- The laws of plain days, in one sentence each.
+use Rattle.std.specs.Prelude.{◌≡◌, ℕ, All, IsTrue, List, map, None, Option}
+use Rattle.dressed_logs.specs.declared.faults.BadMessage.{BadMessage}
+use Rattle.dressed_logs.specs.Framed.{IsFramedReading}
+use Rattle.dressed_logs.specs.Laws.{FitsMessage}
+use Rattle.dressed_logs.specs.Lines.{IsLineReading}
+use Rattle.fix_framing.specs.Frames.{body_of}
+use Rattle.fix_framing.specs.Framing.{IsFramed}
+use Rattle.plain_logs.specs.PlainTexts.{IsPlainText, plain_text}
+
+-- each body that is read of a framed day fits a message
+abbrev pub FramedBodiesFit : Type 0
+FramedBodiesFit = (day : List ℕ) (bodies : List (List ℕ)) (bad : Option BadMessage)
+    → IsFramedReading day bodies bad → All FitsMessage bodies
+
+-- each body that is read of a day on lines fits a message
+abbrev pub LineBodiesFit : Type 0
+LineBodiesFit = (soh_text day : List ℕ) (bodies : List (List ℕ)) (bad : Option BadMessage)
+    → IsLineReading soh_text day bodies bad → All FitsMessage bodies
+
+-- The plain text of a day, in either dress, is read again as the bodies that were read of the day,
+-- and no message is bad.
+pub record PlainIsRead : Type 0 where
+  pub framed : (day : List ℕ) (bodies : List (List ℕ)) (bad : Option BadMessage)
+      → IsFramedReading day bodies bad → IsFramedReading (plain_text bodies) bodies None
+  pub on_lines : (soh_text day : List ℕ) (bodies : List (List ℕ)) (bad : Option BadMessage)
+      → IsLineReading soh_text day bodies bad → IsFramedReading (plain_text bodies) bodies None
+
+-- The plain text of a plain text, in either dress, is the same text, and no message is bad.
+pub record PlainOfPlain : Type 0 where
+  pub framed : (day text again : List ℕ) (bad other : Option BadMessage)
+      → IsPlainText (IsFramedReading day) text bad → IsPlainText (IsFramedReading text) again other
+      → (again ≡ text) × (other ≡ None)
+  pub on_lines : (soh_text day text again : List ℕ) (bad other : Option BadMessage)
+      → IsPlainText (IsLineReading soh_text day) text bad
+      → IsPlainText (IsFramedReading text) again other → (again ≡ text) × (other ≡ None)
+
+-- the plain text of a FIX log of FIX 4.4 is that of the bodies of its messages, and no message is
+-- bad
+abbrev pub PlainOfFixLogs : Type 0
+PlainOfFixLogs = (log text : List ℕ) (frames : List (List ℕ)) (bad : Option BadMessage)
+    → IsFramed log frames → IsPlainText (IsFramedReading log) text bad
+    → (text ≡ plain_text (map body_of frames)) × (bad ≡ None)

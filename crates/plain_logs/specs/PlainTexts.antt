@@ -1,0 +1,21 @@
+-- The plain text of a day: each message that is read of it, as a line of a FIX log.
+use Rattle.std.specs.Prelude.{◌≡◌, ℕ, All, List, Option}
+use Rattle.std.specs.List.{flat_map}
+use Rattle.dressed_logs.specs.declared.faults.BadMessage.{BadMessage}
+use Rattle.dressed_logs.specs.Laws.{FitsMessage, written_line}
+
+-- the messages of FIX 4.4 with these bodies, one on a line
+abbrev pub plain_text : List (List ℕ) → List ℕ
+plain_text bodies = flat_map written_line bodies
+
+-- the text is the plain text of these bodies, where each fits a message
+abbrev pub IsTextOf : List (List ℕ) → List ℕ → Type 0
+IsTextOf bodies text = All FitsMessage bodies → text ≡ plain_text bodies
+
+-- The text is the plain text of exactly the bodies that are read, in order, together with this
+-- first bad message, or with none.
+pub record IsPlainText (reads : List (List ℕ) → Option BadMessage → Type 0) (text : List ℕ)
+    (bad : Option BadMessage) : Type 0 where
+  pub bodies : List (List ℕ)
+  pub read : reads bodies bad
+  pub text_is : text ≡ plain_text bodies
