@@ -16,8 +16,6 @@ use Rattle.command_run.specs.Deciding.{DecidesAnswer, DecidesBytes, DecidesUnrea
 use Rattle.command_run.specs.InTurn.{ReadsInTurn, reading_of_both}
 use Rattle.command_run.specs.Laws.{BothLogsStop, ReadLogsDecide}
 use Rattle.command_run.specs.VerdictAnswers.{IsVerdictAnswer}
-use Rattle.csv_logs.specs.Logs.{csv_order_records}
-use Rattle.fix_messages.specs.Logs.{fix_order_records}
 use Rattle.fix_messages.specs.OrderTables.{order_of_message}
 use Rattle.log_contents.specs.Kinds.{kind_of_order, kinds_of_messages}
 use Rattle.log_contents.specs.Summaries.{LogItems}
@@ -56,8 +54,8 @@ fix_good (Ok entries) kinds items e = refl
 fix_good (Err bad) kinds items e = absurd (cc e)
 
 pub good_orders : (form : Form) (bytes : List ℕ) (items : LogItems) → order_log_items form bytes ≡ Ok items → IsOk (records_of_order_log form bytes)
-good_orders Csv bytes items e = csv_good (csv_order_records bytes) items e
-good_orders Fix bytes items e = fix_good (fix_order_records bytes) (kinds_of_messages order_of_message bytes) items e
+good_orders Csv bytes items e = csv_good (records_of_order_log Csv bytes) items e
+good_orders Fix bytes items e = fix_good (records_of_order_log Fix bytes) (kinds_of_messages order_of_message bytes) items e
 
 pub bad_orders : (form : Form) (bytes : List ℕ) (bad : BadPlace) → records_of_order_log form bytes ≡ Err bad → order_log_items form bytes ≡ Err bad
 bad_orders Csv bytes bad e = rw e refl

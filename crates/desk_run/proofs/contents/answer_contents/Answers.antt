@@ -18,14 +18,14 @@ pub returns-in-Ok-clause-later : goal.returns-in-Ok-clause-later
 returns-in-Ok-clause-later g c =
     let first = reading_by c.args.orders.now g.F.Shelf c.args.shelf.now c.summary_of_orders.new.shelf in
     let second = reading_by c.args.trades.now g.F.Shelf c.summary_of_orders.new.shelf c.answer_after_orders.new.shelf in
-    let on : ReadsInTurn first second = record { limit = sym c.requires.same; tells = c.in-Ok.ensures.logs.tells; logs = c.in-Ok.ensures.logs.logs; begins = λ log. refl; orders = c.in-Ok.ensures.only; trades = c.answer_after_orders.ensures.only } in
+    let on : ReadsInTurn first second = record { limit = sym c.requires.limit.same; tells = c.in-Ok.ensures.logs.tells; logs = c.in-Ok.ensures.logs.logs; begins = λ log. refl; orders = c.in-Ok.ensures.only; trades = c.answer_after_orders.ensures.only } in
     c.readings_in_turn_are_one.ensures.later first second on
 
 pub returns-in-Ok-clause-decides : goal.returns-in-Ok-clause-decides
 returns-in-Ok-clause-decides g c =
     let first = reading_by c.args.orders.now g.F.Shelf c.args.shelf.now c.summary_of_orders.new.shelf in
     let second = reading_by c.args.trades.now g.F.Shelf c.summary_of_orders.new.shelf c.answer_after_orders.new.shelf in
-    let on : ReadsInTurn first second = record { limit = sym c.requires.same; tells = c.in-Ok.ensures.logs.tells; logs = c.in-Ok.ensures.logs.logs; begins = λ log. refl; orders = c.in-Ok.ensures.only; trades = c.answer_after_orders.ensures.only } in
+    let on : ReadsInTurn first second = record { limit = sym c.requires.limit.same; tells = c.in-Ok.ensures.logs.tells; logs = c.in-Ok.ensures.logs.logs; begins = λ log. refl; orders = c.in-Ok.ensures.only; trades = c.answer_after_orders.ensures.only } in
     let request = request_of_contents c.args.orders.now c.args.trades.now in
     let is = c.in-Ok.ensures.read in
     trades_decide (desk_command_of request) c.args.orders.now c.args.trades.now (record { first = refl; second = λ bytes. refl }) (c.both_logs_decide.ensures.stops request) (c.read_logs_decide.ensures request)
@@ -37,7 +37,7 @@ pub returns-in-Ok-clause-within : goal.returns-in-Ok-clause-within
 returns-in-Ok-clause-within g c =
     let first = reading_by c.args.orders.now g.F.Shelf c.args.shelf.now c.summary_of_orders.new.shelf in
     let second = reading_by c.args.trades.now g.F.Shelf c.summary_of_orders.new.shelf c.answer_after_orders.new.shelf in
-    let on : ReadsInTurn first second = record { limit = sym c.requires.same; tells = c.in-Ok.ensures.logs.tells; logs = c.in-Ok.ensures.logs.logs; begins = λ log. refl; orders = c.in-Ok.ensures.only; trades = c.answer_after_orders.ensures.only } in
+    let on : ReadsInTurn first second = record { limit = sym c.requires.limit.same; tells = c.in-Ok.ensures.logs.tells; logs = c.in-Ok.ensures.logs.logs; begins = λ log. refl; orders = c.in-Ok.ensures.only; trades = c.answer_after_orders.ensures.only } in
     c.readings_in_turn_are_one.ensures.within first second c.answer_after_orders.result on (c.in-Ok.ensures.within (λ e. cc)) c.answer_after_orders.ensures.within
 
 pub returns-in-Err-clause-later : goal.returns-in-Err-clause-later
