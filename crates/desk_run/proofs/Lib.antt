@@ -1,3 +1,4 @@
+mod ContentsLemmas
 mod DayLemmas
 mod DigestLemmas
 mod HeadlineLemmas

@@ -2,6 +2,7 @@
 -- each command reads and answers.
 pub mod TopCall
 pub mod Requests
+pub mod Contents
 pub mod PlainAnswers
 -- What private functions pass on to one another.
 pub mod Deciding

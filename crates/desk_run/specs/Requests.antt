@@ -17,7 +17,8 @@ use Rattle.day_logs.specs.DayAnswerTexts.{day_answer_status, day_answer_text}
 use Rattle.day_sessions.specs.JudgedSessions.{AreSessionsOfDay}
 use Rattle.day_symbols.specs.Shares.{DayShare, whole_day}
 use Rattle.desk_words.specs.declared.requests.DeskRequest.{DeskRequest}
-use Rattle.desk_words.specs.declared.requests.DeskRequest.TheVariants.{Audit, Session, Digest, Plain, Help, Version}
+use Rattle.desk_words.specs.declared.requests.DeskRequest.TheVariants.{Audit, Session, Digest, Plain, Contents, Help, Version}
+use Rattle.desk_run.specs.Contents.{IsContentsAnswer}
 use Rattle.desk_words.specs.Texts.{help_text, version_text}
 use Rattle.log_digests.specs.DigestLines.{digest_text}
 use Rattle.log_digests.specs.Digests.{digest_of}
@@ -36,9 +37,9 @@ day_question rule table share =
     record { rule = rule; table = table; share = share_or_whole share }
 
 -- the log that a command starts after those that it has read, whose bytes these are: its slot and
--- its name; nothing where it needs no more. `audit` and `session` start both logs, the trade log
--- where the order log is good, `digest` both whatever is in them, `plain` the day as the order log,
--- `help` and `--version` none
+-- its name; nothing where it needs no more. `audit`, `session` and `contents` start both logs, the
+-- trade log where the order log is good, `digest` both whatever is in them, `plain` the day as the
+-- order log, `help` and `--version` none
 abbrev pub next_desk_log : DeskRequest → List (List ℕ) → Option (Which × List ℕ)
 next_desk_log (Audit rule logs table share) bytes =
     next_of_both_logs logs.orders logs.trades logs.orders_form bytes
@@ -46,6 +47,8 @@ next_desk_log (Session phases logs table share) bytes =
     next_of_both_logs logs.orders logs.trades logs.orders_form bytes
 next_desk_log (Digest orders trades) bytes = next_of_any_two_logs orders trades bytes
 next_desk_log (Plain day dress) bytes = next_of_one_log Orders day bytes
+next_desk_log (Contents logs) bytes =
+    next_of_both_logs logs.orders logs.trades logs.orders_form bytes
 next_desk_log (Help about) bytes = None
 next_desk_log Version bytes = None
 
@@ -59,8 +62,8 @@ pub record IsDayAnswer (meaning : DayMeaning) (judged_by : List ℕ) (orders tra
 
 -- what a command answers to the logs that it has read, its status and its text: to `audit` and
 -- `session` that of the day, of the symbols of the share that is asked for; to `digest` the
--- digests of both logs; to `plain` the messages of the day; to `help` and `--version` a text of
--- their own
+-- digests of both logs; to `plain` the messages of the day; to `contents` what is in both logs; to
+-- `help` and `--version` a text of their own
 abbrev pub IsDeskAnswer : DeskRequest → List (List ℕ) → Status → List ℕ → Type 0
 IsDeskAnswer (Audit rule logs table share) bytes status text =
     IsDayAnswer (AreVerdictsOfDay (day_question rule table share)) (rule_word rule)
@@ -75,6 +78,9 @@ IsDeskAnswer (Digest orders trades) bytes status text =
     (digest_text (digest_of (log_read_at bytes 0)) (digest_of (log_read_at bytes 1))) status text
 IsDeskAnswer (Plain day dress) bytes status text =
     IsPlainAnswer (day_reading dress (log_read_at bytes 0)) status text
+IsDeskAnswer (Contents logs) bytes status text =
+    IsContentsAnswer (log_in logs.orders_form (log_read_at bytes 0))
+    (log_in logs.trades_form (log_read_at bytes 1)) status text
 IsDeskAnswer (Help about) bytes status text = IsAnswerWith Accepted (help_text about) status text
 IsDeskAnswer Version bytes status text = IsAnswerWith Accepted version_text status text
 

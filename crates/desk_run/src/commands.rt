@@ -10,6 +10,7 @@ ghost use Rattle.desk_words.specs.Words.{MayBeAskedOfDesk};
 ghost use Rattle.log_verdict.specs.BothLogs.{StaysWithin};
 ghost use Rattle.log_verdict.specs.Steps.{FaultsNeverFall, KeepsShelfLogs};
 
+use super::contents::answer_contents;
 use super::days::{answer_audit, answer_session};
 use super::digests::answer_digest;
 use super::plain::answer_plain;
@@ -98,6 +99,11 @@ pub(crate) fn answer_request<F: Shelf>(
         }
         DeskRequest::Digest { orders, trades } => answer_digest(alloc, shelf, orders, trades),
         DeskRequest::Plain { day, dress } => answer_plain(alloc, shelf, day, dress),
+        DeskRequest::Contents { logs } => {
+            let orders = day_source(&logs.orders, logs.orders_form, seed);
+            let trades = day_source(&logs.trades, logs.trades_form, seed);
+            answer_contents(alloc, shelf, &orders, &trades)
+        }
         DeskRequest::Help(about) => Ok(answer_help(alloc, *about)?),
         DeskRequest::Version => Ok(answer_version(alloc)?),
     }

@@ -15,9 +15,17 @@ N,B,s1,20240102-09:00:00,Z,S,100,9,
 
 const ONE_TRADE: [&str; 2] = [TRADES, "T1,20240102-09:00:01,Z,A,b1,B,s1,100,9.5\n"];
 
+/// What is in both logs.
+const ONE_TRADE_CONTENTS: &str = "orders,N,2
+trades,T,1
+symbols,1
+times,orders,20240102-09:00:00,20240102-09:00:00
+times,trades,20240102-09:00:01,20240102-09:00:01
+";
+
 /// A day of a rule, one of phases, and one whose order log is out of its grammar, so that the
-/// trade log is not started; and digests, for which it is.
-const SHELF_ROWS: [ShelfRow; 4] = [
+/// trade log is not started; digests, for which it is; and what is in two logs.
+const SHELF_ROWS: [ShelfRow; 5] = [
     ShelfRow {
         row: Row {
             name: "a day of a rule",
@@ -68,10 +76,22 @@ sha256,trades,f544c800b95c6335be7ac53ba9a24b09ae0ef08fd8c1b0fc6fb07d6071dfbdfa
         order_calls: 3,
         calls: 9,
     },
+    ShelfRow {
+        row: Row {
+            name: "what is in two logs",
+            words: "contents orders trades",
+            orders: &ONE_TRADE_ORDERS,
+            trades: &ONE_TRADE,
+            status: 0,
+            report: ONE_TRADE_CONTENTS,
+        },
+        order_calls: 7,
+        calls: 13,
+    },
 ];
 
 /// A text of each status but that of a log that is too long.
-const SINK_ROWS: [Row; 6] = [
+const SINK_ROWS: [Row; 7] = [
     Row {
         name: "a day of no symbol",
         words: "audit matching orders trades",
@@ -100,7 +120,7 @@ Z,order,3,buy,A,b1,10,10,11
         trades: &[TRADES],
         status: 2,
         report: "usage: audit RULE ORDERS TRADES | session PHASES ORDERS TRADES \
-                 | digest ORDERS TRADES | help [COMMAND]\n",
+                 | digest ORDERS TRADES | plain DAY | contents ORDERS TRADES | help [COMMAND]\n",
     },
     Row {
         name: "digests of two logs",
@@ -111,6 +131,14 @@ Z,order,3,buy,A,b1,10,10,11
         report: "sha256,orders,ba7816bf8f01cfea414140de5dae2223b00361a396177a9cb410ff61f20015ad
 sha256,trades,e3b0c44298fc1c149afbf4c8996fb92427ae41e4649b934ca495991b7852b855
 ",
+    },
+    Row {
+        name: "what is in two logs",
+        words: "contents orders trades",
+        orders: &ONE_TRADE_ORDERS,
+        trades: &ONE_TRADE,
+        status: 0,
+        report: ONE_TRADE_CONTENTS,
     },
     Row {
         name: "a log that is not there",

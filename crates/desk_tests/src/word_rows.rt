@@ -6,7 +6,7 @@ use log_source::endless_shelf::EndlessShelf;
 use std::alloc::Global;
 use std::test::Fail;
 
-const WORDS: [&str; 28] = [
+const WORDS: [&str; 32] = [
     "",
     "audit",
     "audit matching",
@@ -29,6 +29,10 @@ const WORDS: [&str; 28] = [
     "digest orders",
     "digest orders trades --table",
     "digest -orders trades",
+    "plain",
+    "plain day --soh |",
+    "contents orders",
+    "contents orders trades --table",
     "help help help",
     "help usage",
     "--help audit",
@@ -61,6 +65,8 @@ fn check_helps(alloc: Global) -> Result<(), RowFault> {
     check_help(alloc, "help audit", Some(DeskCommand::Audit))?;
     check_help(alloc, "help session", Some(DeskCommand::Session))?;
     check_help(alloc, "help digest", Some(DeskCommand::Digest))?;
+    check_help(alloc, "help plain", Some(DeskCommand::Plain))?;
+    check_help(alloc, "help contents", Some(DeskCommand::Contents))?;
     check_help(alloc, "help help", Some(DeskCommand::Help))
 }
 

@@ -19,7 +19,7 @@ pub count-own : (kind : List ℕ) (kinds : List (List ℕ)) → count_of_kind ki
 count-own kind kinds = let own = is-same kind kind refl in count-more kind kinds kind ∙ ap (λ (b : Bool). count_of_kind kind kinds + cond b 1 0) own
 
 -- another one
-differs : (a b : List ℕ) → a ≢ b → same_name a b ≡ false
+pub differs : (a b : List ℕ) → a ≢ b → same_name a b ≡ false
 differs a b other = elim (same_name a b) as (λ s. same_name a b ≡ s → same_name a b ≡ false) [
   | true ↦ λ is. absurd (other (same-is a b is))
   | false ↦ λ is. is

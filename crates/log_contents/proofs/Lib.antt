@@ -6,4 +6,5 @@ pub mod MessageFeedLemmas
 pub mod MessageLemmas
 pub mod SpanLemmas
 pub mod SumLemmas
+pub mod TextLemmas
 pub mod ValueLemmas

@@ -5,3 +5,5 @@ pub mod Facts
 pub mod Kinds
 pub mod Laws
 pub mod MessageFeeds
+pub mod Summaries
+pub mod Texts

@@ -6,12 +6,14 @@
 //! (`csv_contents`): each record has a kind. `contents` has what is known of a log, message by
 //! message: `record_facts` what its records say (`time_spans`), `kind_counts` how often each kind
 //! is there. `message_kinds` says of a message why it is passed over, by the values of its fields
-//! (`message_values`). `laws` says that nothing is left out or counted twice. In `specs/`, `Kinds`
-//! has the kind of a message and of a record, `Counts` and `Facts` what is counted and kept, and
-//! `MessageFeeds` what a feed stands for.
+//! (`message_values`). `summaries` has what is told of a log, whatever its records are, and
+//! `contents_text` the text of two logs. `laws` says that nothing is left out or counted twice. In
+//! `specs/`, `Kinds` has the kind of a message and of a record, `Counts` and `Facts` what is counted
+//! and kept, `Texts` what is written, and `MessageFeeds` what a feed stands for.
 #![tactic(auto)]
 
 pub mod contents;
+pub mod contents_text;
 pub mod csv_contents;
 pub mod kind_counts;
 pub mod laws;
@@ -19,4 +21,5 @@ pub mod message_feed;
 mod message_kinds;
 mod message_values;
 pub mod record_facts;
+pub mod summaries;
 pub mod time_spans;

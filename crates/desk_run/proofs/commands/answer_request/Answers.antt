@@ -1,4 +1,4 @@
-use Rattle.desk_words.specs.declared.requests.DeskRequest.TheVariants.{Audit, Session}
+use Rattle.desk_words.specs.declared.requests.DeskRequest.TheVariants.{Audit, Contents, Session}
 use Rattle.desk_run.proofs.DayLemmas.{decides_within}
 use Rattle.desk_run.proofs.commands.answer_request.Goals as goal
 
@@ -19,3 +19,9 @@ returns-in-Digest-clause-decides g c = rw c.in-Digest.is c.answer_digest.ensures
 
 pub returns-in-Plain-clause-decides : goal.returns-in-Plain-clause-decides
 returns-in-Plain-clause-decides g c = rw c.in-Plain.is c.answer_plain.ensures.decides
+
+pub returns-in-Contents-clause-decides : goal.returns-in-Contents-clause-decides
+returns-in-Contents-clause-decides g c =
+    let decides = rw (c.day_source-orders-in-Contents.ensures.name, c.day_source-orders-in-Contents.ensures.form, c.day_source-trades-in-Contents.ensures.name, c.day_source-trades-in-Contents.ensures.form) at c.answer_contents.ensures.decides in
+    rw c.in-Contents.is (decides_within g.F.Shelf c.args.shelf.now c.answer_contents.new.shelf c.day_source-orders-in-Contents.result c.day_source-orders-in-Contents.ensures.limit
+    (Contents c.in-Contents.logs) c.answer_contents.result decides)
