@@ -1,3 +1,5 @@
--- What a reader must believe: what the digest of a log is, and how it is written.
+-- What a reader must believe: what the digest of a log is, what a shelf that takes digests has
+-- taken, and how digests are written.
 pub mod Digests
+pub mod DigestShelves
 pub mod DigestLines

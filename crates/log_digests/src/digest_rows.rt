@@ -1,7 +1,9 @@
 //! Digests that FIPS 180-4 gives, of logs that come in pieces; and logs that have none.
 ghost use Rattle.std.specs.Prelude.{◌≤◌};
 
+use crate::digest_shelf::DigestShelf;
 use crate::digests::digest_log;
+use crate::digits::read_digest;
 use crate::feeds::{DigestFeed, Digesting};
 use crate::lines::digest_text;
 use audit_base::faults::NoMemory;
@@ -15,6 +17,9 @@ use std::test::Fail;
 
 /// A message of FIPS 180-4 that takes two blocks.
 const TWO_BLOCKS: &str = "abcdbcdecdefdefgefghfghighijhijkijkljklmklmnlmnomnopnopq";
+
+/// The digits of the digest of `abc`.
+const MESSAGE_DIGITS: &[u8] = b"ba7816bf8f01cfea414140de5dae2223b00361a396177a9cb410ff61f20015ad";
 
 const EMPTY_TEXT: &[u8] =
     b"sha256,orders,e3b0c44298fc1c149afbf4c8996fb92427ae41e4649b934ca495991b7852b855\n\
@@ -67,6 +72,31 @@ fn a_digest_beside_what_another_feed_keeps(rt: HostRuntime) -> Result<(), Fail> 
     let expected = text_of(rt.alloc(), &mut shelf_of(rt.alloc(), "abc", "abc", 2)?)?;
     let text = digest_text(rt.alloc(), &digest, &other.digest())?;
     assert!(rt; text == expected);
+    Ok(())
+}
+
+// The trade log is read twice: its digest is that of the last time.
+#[test]
+fn digests_of_logs_that_are_read_by_something_else(rt: HostRuntime) -> Result<(), Fail> {
+    let orders = Vec::from_slice(rt.alloc(), b"abc")?;
+    let trades = Vec::from_slice(rt.alloc(), TWO_BLOCKS.as_bytes())?;
+    let mut shelf = DigestShelf::over(QuietShelf::new(orders, trades, 2), "o", "t");
+    for which in [Which::Orders, Which::Trades, Which::Trades] {
+        digest_log(&mut shelf, which, "any", 100)?;
+    }
+    let (orders, trades) = (shelf.digest(Which::Orders), shelf.digest(Which::Trades));
+    let text = digest_text(rt.alloc(), &orders, &trades)?;
+    assert!(rt; text.as_slice() == MESSAGE_TEXT);
+    Ok(())
+}
+
+#[test]
+fn digits_are_read_in_lower_case_alone(rt: HostRuntime) -> Result<(), Fail> {
+    let mut feed = DigestFeed::new();
+    feed.feed(b"abc")?;
+    assert!(rt; read_digest(MESSAGE_DIGITS) == Some(feed.digest()));
+    assert!(rt; read_digest(b"ba7816bf8f01cfea").is_none());
+    assert!(rt; read_digest(&[b'A'; 64]).is_none());
     Ok(())
 }
 

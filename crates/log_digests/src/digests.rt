@@ -28,6 +28,8 @@ impl Model for LogDigest {
 }
 
 impl LogDigest {
+    ghost use Rattle.hex.specs.Hex.{encode_lower};
+
     /// The digest that has these bytes.
     pub(crate) fn of(bytes: [u8; 32]) -> LogDigest
         ensures { result ≡ bytes }
@@ -40,6 +42,17 @@ impl LogDigest {
         ensures { result.now ≡ self.now }
     {
         &self.bytes
+    }
+
+    /// Its digits, 64 in lower case: those that `sha256sum` writes. Takes no memory.
+    pub fn digits(&self) -> [u8; 64]
+        ensures { result ≡ encode_lower self.now }
+    {
+        let mut digits = [0u8; 64];
+        let Ok(()) = hex::encode_to_slice(&self.bytes, &mut digits) else {
+            unreachable!()
+        };
+        digits
     }
 }
 

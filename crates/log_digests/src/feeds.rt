@@ -1,5 +1,5 @@
 //! Feeds that keep the hash of what they are handed.
-ghost use Rattle.std.specs.Prelude.{◌≡◌, ℕ, List, []};
+ghost use Rattle.std.specs.Prelude.{◌≡◌, ◌++◌, ℕ, List, []};
 ghost use Rattle.log_digests.specs.Digests.{digest_of};
 
 use crate::digests::LogDigest;
@@ -23,6 +23,25 @@ impl DigestFeed {
         }
     }
 
+    /// Hands it the next bytes, however many they are.
+    pub(crate) fn take(&mut self, piece: &[u8])
+        ensures { (bytes : List ℕ) → ⟦<DigestFeed as Feed>⟧.stands_for self.old bytes
+            → ⟦<DigestFeed as Feed>⟧.stands_for self.new (bytes ++ piece.now) }
+    {
+        self.hasher.update(piece);
+    }
+
+    /// The digest of all that it was handed so far.
+    pub(crate) fn digest_so_far(&self) -> LogDigest
+        ensures { (bytes : List ℕ) → ⟦<DigestFeed as Feed>⟧.stands_for self.now bytes
+            → result ≡ digest_of bytes }
+    {
+        let Ok(hasher) = self.hasher.clone() else {
+            unreachable!()
+        };
+        LogDigest::of(hasher.finalize())
+    }
+
     /// The digest of all that it was handed.
     pub fn digest(self) -> LogDigest
         ensures { (bytes : List ℕ) → ⟦<DigestFeed as Feed>⟧.stands_for self bytes
@@ -38,7 +57,7 @@ impl Feed for DigestFeed {
     ghost stands_for = { λ feed bytes. Holds256 feed.hasher bytes };
 
     fn feed(&mut self, piece: &[u8]) -> Result<(), NoMemory> {
-        self.hasher.update(piece);
+        self.take(piece);
         Ok(())
     }
 }

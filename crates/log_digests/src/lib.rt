@@ -2,12 +2,15 @@
 //!
 //! `digests::digest_log` reads a log of a shelf to its end and gives its digest, whatever bytes
 //! it has. It takes no memory for them: `feeds` has the feed that keeps the hash of what it is
-//! handed, and one that keeps it beside another feed, so that a log is digested in the same pass
-//! in which it is read. `lines` writes digests.
+//! handed, and one that keeps it beside another feed. `digest_shelf` has the shelf that takes the
+//! digests of both logs in the pass in which something else reads them. `digits` and `lines`
+//! write digests.
 #![tactic(auto)]
 
 #[cfg(test)]
 mod digest_rows;
+pub mod digest_shelf;
 pub mod digests;
+pub mod digits;
 pub mod feeds;
 pub mod lines;
