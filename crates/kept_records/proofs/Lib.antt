@@ -1,0 +1,2 @@
+-- Lemmas about what is kept.
+pub mod KeptLemmas

@@ -1,0 +1,2 @@
+-- What a reader must believe: which records are kept.
+pub mod KeptOrders
