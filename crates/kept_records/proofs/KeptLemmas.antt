@@ -9,20 +9,11 @@ use Rattle.audit_base.specs.Histories.{symbol_of, time_of}
 use Rattle.audit_base.specs.declared.records.OrderRecord.{OrderRecord}
 use Rattle.audit_base.specs.declared.records.OrderRecord.TheVariants as entry_of
 use Rattle.kept_records.specs.declared.orders.KeptOrder.{KeptOrder}
-use Rattle.kept_records.specs.KeptOrders.{part_of, name_at, record_of, with_names, kept_order, names_of, key_of_entry, target_text, terms_of, HasNames, IsInside, AreInside, entries_of}
+use Rattle.kept_records.specs.NameRows.{part_of, name_at}
+use Rattle.kept_records.proofs.NameRowLemmas.{name-kept, part-between, is-name}
+use Rattle.kept_records.specs.KeptOrders.{record_of, with_names, kept_order, names_of, key_of_entry, target_text, terms_of, HasNames, IsInside, AreInside, entries_of}
 
 -- Bytes behind the others change nothing.
-
-part-kept : (bytes more : List ℕ) (start size : ℕ) → start + size ≤ length bytes → part_of (bytes ++ more) start size ≡ part_of bytes start size
-part-kept bytes more start size inside =
-    ap (take size) (drop-append-le start bytes more (omega (arith, inside)))
-    ∙ take-append-le size (drop start bytes) more (omega (arith, inside, length-drop start bytes))
-
-abbrev as_name : List ℕ → List ℕ
-as_name text = if is_name text then text else 63 ∷ []
-
-name-kept : (bytes more : List ℕ) (start size : ℕ) → start + size ≤ length bytes → name_at (bytes ++ more) start size ≡ name_at bytes start size
-name-kept bytes more start size inside = ap as_name (part-kept bytes more start size inside)
 
 pub record-kept : (symbol bytes more : List ℕ) (kept : KeptOrder) → IsInside bytes kept → record_of symbol (bytes ++ more) kept ≡ record_of symbol bytes kept
 record-kept symbol bytes more kept inside =
@@ -43,20 +34,6 @@ inside-kept bytes more orders inside =
     All-weaker (IsInside bytes) (IsInside (bytes ++ more)) (λ own in_bytes. omega (arith, in_bytes, length-append bytes more)) orders inside
 
 -- The names of one more.
-
--- a text between others is found by where it begins and how long it is
-part-between : (before text rest : List ℕ) (start : ℕ) → start ≡ length before → part_of (before ++ (text ++ rest)) start (length text) ≡ text
-part-between before text rest start is =
-    ap (λ (n : ℕ). take (length text) (drop n (before ++ (text ++ rest)))) is
-    ∙ ap (take (length text)) (drop-append_seam before (text ++ rest))
-    ∙ take-append-le (length text) text rest (omega arith)
-    ∙ take_all (length text) text (omega arith)
-
-is-name : (text found : List ℕ) → found ≡ text → IsTrue (is_name text) → as_name found ≡ text
-is-name text found same named = ap as_name same ∙ known (is_name text) refl named
-  where
-    known : (b : Bool) → is_name text ≡ b → IsTrue (is_name text) → as_name text ≡ text
-    known b is named = search
 
 first-name : (bytes firm id target : List ℕ) → IsTrue (is_name firm) → name_at (bytes ++ (firm ++ (id ++ target))) (length bytes) (length firm) ≡ firm
 first-name bytes firm id target named = is-name firm _ (part-between bytes firm (id ++ target) (length bytes) refl) named

@@ -6,6 +6,7 @@ use Rattle.audit_base.specs.Names.{is_name}
 use Rattle.audit_base.specs.declared.names.Key.{Key}
 use Rattle.audit_base.specs.declared.records.OrderRecord.{OrderRecord}
 use Rattle.audit_base.specs.declared.records.OrderRecord.TheVariants as entry_of
+use Rattle.kept_records.specs.NameRows.{name_at}
 use Rattle.kept_records.specs.declared.orders.KeptOrder.{KeptOrder}
 use Rattle.kept_records.specs.declared.orders.KeptTerms.{KeptTerms}
 use Rattle.kept_records.specs.declared.orders.KeptKind.{KeptKind}
@@ -15,15 +16,7 @@ use Rattle.audit_base.specs.declared.terms.Life.TheVariants.{Rests}
 use Rattle.audit_base.specs.declared.terms.Side.{Side}
 use Rattle.audit_base.specs.declared.terms.Side.TheVariants.{Sell}
 
--- the bytes from a start on, as many as there are to be
-abbrev pub part_of : List ℕ → ℕ → ℕ → List ℕ
-part_of bytes start size = take size (drop start bytes)
-
--- a part of the bytes as a name; where it is none, `?`
-abbrev pub name_at : List ℕ → ℕ → ℕ → List ℕ
-name_at bytes start size =
-    if is_name (part_of bytes start size) then part_of bytes start size else 63 ∷ []
-
+-- these terms of a record
 abbrev pub kept_terms : KeptKind → Side → ℕ → ℕ → Life → KeptTerms
 kept_terms k s q p l = record { quantity = q; price = p; kind = k; side = s; life = l }
 
@@ -96,11 +89,6 @@ kept_order entry start place = record {
   id_size = length (key_of_entry entry).id;
   target_size = length (target_text entry);
 }
-
--- the bytes have others behind them
-pub record HasMoreBytes (old new : List ℕ) : Type 0 where
-  pub more : List ℕ
-  pub is : new ≡ old ++ more
 
 -- the names of a kept record lie among the bytes
 abbrev pub IsInside : List ℕ → KeptOrder → Type 0

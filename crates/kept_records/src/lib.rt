@@ -5,4 +5,6 @@
 //! one after another, and all else in 56 bytes a record.
 #![tactic(auto)]
 
+mod name_rows;
 pub mod orders;
+pub mod trades;

@@ -1,10 +1,12 @@
 //! The order records of one symbol, kept small.
-ghost use Rattle.std.specs.Prelude.{◌≡◌, ◌<◌, ◌≤◌, ◌∷◌, ◌++◌, [], IfOk, OnOk, length, slice_get, Some};
+ghost use Rattle.std.specs.Prelude.{◌≡◌, ◌<◌, ◌≤◌, ◌∷◌, ◌++◌, [], OnOk, length, slice_get, Some};
 ghost use Rattle.audit_base.specs.Histories.{symbol_of};
 ghost use Rattle.kept_records.specs.KeptOrders as spec;
+ghost use Rattle.kept_records.specs.NameRows.{HasMoreBytes};
 
+use crate::name_rows::{kept_start, name_at};
 use audit_base::faults::NoMemory;
-use audit_base::names::{Key, Name, is_name, name_of};
+use audit_base::names::{Key, Name};
 use audit_base::numbers::{Price, Quantity, market_price};
 use audit_base::records::OrderRecord;
 use audit_base::stamps::Stamp;
@@ -42,27 +44,6 @@ pub(crate) struct KeptOrder {
     firm_size: u8,
     id_size: u8,
     target_size: u8,
-}
-
-/// A part of the bytes; where they end before it, what there is of it.
-fn part(bytes: &[u8], start: usize, size: usize) -> &[u8]
-    ensures { result.now ≡ spec.part_of bytes.now start size }
-{
-    let start = start.min(bytes.len());
-    let size = size.min(bytes.len() - start);
-    &bytes[start..start + size]
-}
-
-/// A part of the bytes as a name; where it is none, `?`.
-fn name_at(bytes: &[u8], start: usize, size: usize) -> Name
-    ensures { result ≡ spec.name_at bytes.now start size }
-{
-    let text = part(bytes, start, size);
-    if is_name(text) {
-        name_of(text)
-    } else {
-        name_of(b"?")
-    }
 }
 
 /// The quantity of what has none.
@@ -211,17 +192,6 @@ fn have_names(entry: &OrderRecord)
     }
 }
 
-/// Where the names of a record begin, as it is kept. `NoMemory` where 32 bits do not hold it, which
-/// only a symbol with more than 2^32 bytes of names can bring about.
-fn kept_start(start: usize) -> Result<u32, NoMemory>
-    ensures { IfOk result (λ kept. kept ≡ start) }
-{
-    match u32::try_from(start) {
-        Ok(kept) => Ok(kept),
-        Err(_) => Err(NoMemory),
-    }
-}
-
 /// What is kept of a record at its place, whose names begin here.
 fn kept_order(entry: &OrderRecord, start: u32, place: u32) -> KeptOrder
     ensures { result ≡ spec.kept_order entry.now start place }
@@ -241,7 +211,7 @@ fn kept_order(entry: &OrderRecord, start: u32, place: u32) -> KeptOrder
 /// Puts the names of a record after the bytes.
 fn put_names(bytes: &mut Vec<u8>, entry: &OrderRecord) -> Result<(), NoMemory>
     ensures adds { OnOk result (bytes.new.items ≡ bytes.old.items ++ spec.names_of entry.now) }
-    ensures longer { spec.HasMoreBytes bytes.old.items bytes.new.items }
+    ensures longer { HasMoreBytes bytes.old.items bytes.new.items }
 {
     let key = key_of(entry);
     bytes.extend_from_slice(key.firm.bytes())?;
