@@ -1,17 +1,16 @@
 -- Where the names of kept records lie.
-use Rattle.std.proofs.Common.{◌≡◌, ◌≤◌, ◌+◌, ◌∙◌, ℕ, Bool, true, List, [], ◌∷◌, ◌++◌, All, IsTrue, length, take, drop, refl, sym, ap, subst, arith}
-use Rattle.std.specs.Prelude.{map, if◌then◌else◌}
-use Rattle.std.proofs.lemmas.List.{length-append, length-drop, take-append-le, drop-append-le, take_all, append_assoc, map-append}
+use Rattle.std.proofs.Common.{◌≡◌, ◌+◌, ◌∙◌, ℕ, List, [], ◌∷◌, ◌++◌, IsTrue, length, take, refl, sym, ap, arith}
+use Rattle.std.proofs.lemmas.List.{length-append, take_all, append_assoc, map-append}
 use Rattle.std.proofs.Math.Seq.{drop-append_seam}
 use Rattle.std.proofs.lemmas.List.Elements.{All-weaker, All-head, All-tail, All-push}
 use Rattle.audit_base.specs.Names.{is_name}
-use Rattle.audit_base.specs.Histories.{symbol_of, time_of}
+use Rattle.audit_base.specs.Histories.{symbol_of}
 use Rattle.audit_base.specs.declared.records.OrderRecord.{OrderRecord}
 use Rattle.audit_base.specs.declared.records.OrderRecord.TheVariants as entry_of
 use Rattle.kept_records.specs.declared.orders.KeptOrder.{KeptOrder}
 use Rattle.kept_records.specs.NameRows.{part_of, name_at}
 use Rattle.kept_records.proofs.NameRowLemmas.{name-kept, part-between, is-name}
-use Rattle.kept_records.specs.KeptOrders.{record_of, with_names, kept_order, names_of, key_of_entry, target_text, terms_of, HasNames, IsInside, AreInside, entries_of}
+use Rattle.kept_records.specs.KeptOrders.{record_of, with_names, kept_order, names_of, key_of_entry, target_text, HasNames, IsInside, AreInside, entries_of}
 
 -- Bytes behind the others change nothing.
 

@@ -1,7 +1,7 @@
 -- Where names in a row lie.
-use Rattle.std.proofs.Common.{◌≡◌, ◌≤◌, ◌+◌, ◌∙◌, ℕ, Bool, true, List, [], ◌∷◌, ◌++◌, IsTrue, length, take, drop, refl, sym, ap, arith}
+use Rattle.std.proofs.Common.{◌≡◌, ◌≤◌, ◌+◌, ◌∙◌, ℕ, Bool, List, [], ◌∷◌, ◌++◌, IsTrue, length, take, drop, refl, ap, arith}
 use Rattle.std.specs.Prelude.{if◌then◌else◌}
-use Rattle.std.proofs.lemmas.List.{length-drop, take-append-le, drop-append-le, take_all, append_assoc, length-append}
+use Rattle.std.proofs.lemmas.List.{length-drop, take-append-le, drop-append-le, take_all}
 use Rattle.std.proofs.Math.Seq.{drop-append_seam}
 use Rattle.audit_base.specs.Names.{is_name}
 use Rattle.kept_records.specs.NameRows.{part_of, name_at}

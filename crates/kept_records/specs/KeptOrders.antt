@@ -1,6 +1,6 @@
 -- The order records of one symbol, by what is kept of them.
-use Rattle.std.specs.Prelude.{◌≡◌, ◌≤◌, ◌+◌, IsTrue, ℕ, List, ◌∷◌, [], ◌++◌, All, length, take, drop, map, if◌then◌else◌}
-use Rattle.audit_base.specs.Histories.{symbol_of, time_of}
+use Rattle.std.specs.Prelude.{◌≤◌, ◌+◌, IsTrue, ℕ, List, ◌∷◌, [], ◌++◌, All, length, map}
+use Rattle.audit_base.specs.Histories.{time_of}
 use Rattle.audit_base.specs.Moments.{Moment}
 use Rattle.audit_base.specs.Names.{is_name}
 use Rattle.audit_base.specs.declared.names.Key.{Key}

@@ -1,5 +1,5 @@
 -- The trade records of one symbol, by what is kept of them.
-use Rattle.std.specs.Prelude.{◌≡◌, ◌≤◌, ◌+◌, IsTrue, ℕ, List, ◌∷◌, [], ◌++◌, All, length, map}
+use Rattle.std.specs.Prelude.{◌≤◌, ◌+◌, IsTrue, ℕ, List, ◌∷◌, [], ◌++◌, All, length, map}
 use Rattle.audit_base.specs.Names.{is_name}
 use Rattle.audit_base.specs.declared.records.TradeRecord.{TradeRecord}
 use Rattle.kept_records.specs.NameRows.{name_at}
