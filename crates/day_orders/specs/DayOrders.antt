@@ -1,23 +1,26 @@
 -- What is known of the order log of a day after some of its records.
 use Rattle.std.specs.Prelude.{◌≡◌, ◌<◌, ◌^◌, ℕ, List, [], length, map}
 use Rattle.audit_base.specs.declared.records.OrderRecord.{OrderRecord}
-use Rattle.audit_base.specs.Histories.{symbol_of}
+use Rattle.audit_base.specs.Histories.{history, symbol_of}
 use Rattle.day_symbols.specs.Kept.{AreForEach}
 use Rattle.day_symbols.specs.Shares.{DayShare, symbols_in}
 use Rattle.day_symbols.specs.Symbols.{distinct_names}
 use Rattle.day_orders.specs.declared.day_orders.DayOrders.{DayOrders}
 use Rattle.day_orders.specs.declared.day_orders.EndedOrders.{EndedOrders}
-use Rattle.instruction_history.specs.declared.symbol_history.SymbolHistory.{SymbolHistory}
-use Rattle.instruction_history.specs.SymbolHistory.{IsSymbolHistory}
+use Rattle.kept_records.specs.KeptOrders.{KeptEntries}
 
 -- the symbols of order records, in the order in which each appears first
 abbrev pub order_symbols : List OrderRecord → List (List ℕ)
 order_symbols entries = distinct_names (map symbol_of entries)
 
--- of each of these symbols there is the history after these records
-abbrev pub AreHistories : List (List ℕ) → List SymbolHistory → List OrderRecord → Type 0
-AreHistories symbols histories entries =
-    AreForEach (λ symbol kept. IsSymbolHistory symbol kept entries) symbols histories
+-- the symbol is kept with its history among these records: its own, with their places in the log
+abbrev pub HasHistory : List OrderRecord → List ℕ → KeptEntries → Type 0
+HasHistory entries symbol kept =
+    kept ≡ record { symbol = symbol; entries = history symbol entries }
+
+-- each of these symbols is kept with its history among these records
+abbrev pub HaveHistories : List (List ℕ) → List KeptEntries → List OrderRecord → Type 0
+HaveHistories symbols kept entries = AreForEach (HasHistory entries) symbols kept
 
 -- the day has been handed exactly these records of the order log: it has their symbols, and the
 -- history of each symbol of the share
@@ -26,8 +29,8 @@ pub record IsDayOrders {D : Type 0} (share : DayShare) (day : DayOrders D)
   pub shared : day.share ≡ share
   pub count : day.count ≡ length entries
   pub symbols_are : day.symbols ≡ order_symbols entries
-  pub histories_are : AreHistories
-      (symbols_in share (order_symbols entries)) day.histories.items entries
+  pub histories_are : HaveHistories
+      (symbols_in share (order_symbols entries)) day.kept.items entries
 
 -- a fact of whatever records the day has been handed
 abbrev pub ForEntries : {D : Type 0} → DayShare → DayOrders D → (List OrderRecord → Type 0) → Type 0
@@ -37,15 +40,15 @@ ForEntries share day P = (entries : List OrderRecord) → IsDayOrders share day 
 pub record HasOrders (share : DayShare) (ended : EndedOrders)
     (entries : List OrderRecord) : Type 0 where
   pub symbols_are : ended.symbols ≡ order_symbols entries
-  pub histories_are : AreHistories
-      (symbols_in share (order_symbols entries)) ended.histories.items entries
+  pub histories_are : HaveHistories
+      (symbols_in share (order_symbols entries)) ended.kept.items entries
   pub fits_indices : length entries < 2 ^ 32
 
--- the history of whatever symbol, before any record
-abbrev pub IsEmptyHistory : SymbolHistory → Type 0
-IsEmptyHistory kept = (symbol : List ℕ) → IsSymbolHistory symbol kept []
+-- the symbol is kept without any record
+abbrev pub IsEmptyOf : List ℕ → KeptEntries → Type 0
+IsEmptyOf symbol kept = kept ≡ record { symbol = symbol; entries = [] }
 
--- only the histories have changed
+-- only the records that are kept have changed
 pub record KeepsAllButHistories {D : Type 0} (old new : DayOrders D) : Type 0 where
   pub shared : new.share ≡ old.share
   pub count : new.count ≡ old.count

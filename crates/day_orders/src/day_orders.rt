@@ -1,4 +1,4 @@
-//! The histories of the symbols of a day, record by record.
+//! The order records of the symbols of a day, record by record.
 //!
 //! Of the whole day `wants` is true without a look-up, so a record costs one. Of a share K/N with N
 //! above 1 a kept record costs two, and one outside it one.
@@ -7,13 +7,14 @@ ghost use Rattle.log_source.specs.Collectors.{HasPlace};
 ghost use Rattle.log_source.specs.Handing.{HandsOnMore};
 ghost use Rattle.day_symbols.specs.Kept.{HasRoomAt};
 ghost use Rattle.day_symbols.specs.Shares.{DayShare, whole_day};
-ghost use Rattle.day_orders.specs.DayOrders.{ForEntries, HasOrders, IsDayOrders, IsEmptyHistory, KeepsAllButHistories};
+ghost use Rattle.day_orders.specs.DayOrders.{ForEntries, HasOrders, IsDayOrders, IsEmptyOf, KeepsAllButHistories};
 
 use audit_base::faults::NoMemory;
+use audit_base::names::Name;
 use audit_base::records::{LogRecord, OrderRecord};
 use day_symbols::shares::Share;
 use day_symbols::symbols::Symbols;
-use instruction_history::symbol_history::SymbolHistory;
+use kept_records::orders::KeptOrders;
 use log_source::collector::Collector;
 use seeded_hash::seed::HashSeed;
 use std::alloc::Global;
@@ -31,18 +32,17 @@ impl AuditedShare for Brand {
     ghost share = { whole_day };
 }
 
-/// What is known of the order log of a day after some of its records: its symbols, and the history
+/// What is known of the order log of a day after some of its records: its symbols, and the records
 /// of each that is in the share.
 #[derive(Drop)]
 pub struct DayOrders<D> {
     alloc: Global,
-    seed: HashSeed,
     share: Share,
     /// How many records of the log there were, of all symbols.
     count: u32,
     symbols: Symbols,
     /// Those of the symbols of the share, in their order.
-    histories: Vec<SymbolHistory>,
+    kept: Vec<KeptOrders>,
     of: PhantomData<D>,
 }
 
@@ -51,35 +51,33 @@ pub struct DayOrders<D> {
 pub struct EndedOrders {
     pub symbols: Symbols,
     /// Those of the symbols of the share, in their order.
-    pub histories: Vec<SymbolHistory>,
+    pub kept: Vec<KeptOrders>,
 }
 
 impl<D: AuditedShare> DayOrders<D> {
-    /// No records. Symbols and keys are found by hashes of this seed. Takes no memory.
+    /// No records. Symbols are found by hashes of this seed. Takes no memory.
     pub fn new(alloc: Global, seed: HashSeed, share: Share) -> DayOrders<D>
         requires { share ≡ D.share }
         ensures { IsDayOrders D.share result [] }
     {
         DayOrders {
             alloc,
-            seed,
             share,
             count: 0,
             symbols: Symbols::new(alloc, seed),
-            histories: Vec::new(alloc),
+            kept: Vec::new(alloc),
             of: PhantomData,
         }
     }
 
-    /// A history at this index, where the histories end there.
-    fn make_room(&mut self, share_index: usize) -> Result<(), NoMemory>
-        ensures room { let room = HasRoomAt IsEmptyHistory share_index in
-            OnOk result (room self.old.histories.items self.new.histories.items) }
+    /// No records of the symbol at this index, where the list ends there.
+    fn make_room(&mut self, share_index: usize, symbol: Name) -> Result<(), NoMemory>
+        ensures room { let room = HasRoomAt (IsEmptyOf symbol) share_index in
+            OnOk result (room self.old.kept.items self.new.kept.items) }
         ensures only { KeepsAllButHistories self.old self.new }
     {
-        if share_index == self.histories.len() {
-            let history = SymbolHistory::new(self.alloc, self.seed);
-            self.histories.push(history)?;
+        if share_index == self.kept.len() {
+            self.kept.push(KeptOrders::new(self.alloc, symbol))?;
         }
         Ok(())
     }
@@ -91,25 +89,22 @@ impl<D: AuditedShare> DayOrders<D> {
             OnOk result (HandsOnMore (has_taken self.old) (has_taken self.new) (entry.now ∷ [])) }
     {
         self.count += 1;
-        let index = self.symbols.meet(&entry.symbol())?;
+        let symbol = entry.symbol();
+        let index = self.symbols.meet(&symbol)?;
         if !self.share.has(index) {
             return Ok(());
         }
         let share_index = self.share.index_in_share(index);
-        self.make_room(share_index)?;
-        self.histories[share_index].take(entry, self.count)
+        self.make_room(share_index, symbol)?;
+        self.kept[share_index].push(entry, self.count)
     }
 
-    /// The symbols of the log and the histories of those in the share. Takes no memory.
+    /// The symbols of the log and the records of those in the share. Takes no memory.
     pub fn end(self) -> EndedOrders
         ensures { ForEntries D.share self (HasOrders D.share result) }
     {
-        let DayOrders {
-            symbols,
-            histories,
-            ..
-        } = self;
-        EndedOrders { symbols, histories }
+        let DayOrders { symbols, kept, .. } = self;
+        EndedOrders { symbols, kept }
     }
 }
 

@@ -14,12 +14,13 @@ use Rattle.day_sessions.specs.JudgedSessions.{AreSessions, session_counts, AreJu
 use Rattle.day_sessions.specs.SymbolSessions.{IsSymbolSession}
 use Rattle.day_symbols.specs.Shares.{DayShare, symbols_in}
 use Rattle.day_trades.specs.declared.day_trades.EndedTrades.{EndedTrades}
+use Rattle.day_trades.specs.declared.symbol_records.SymbolRecords.{SymbolRecords}
 use Rattle.day_trades.specs.declared.symbol_trades.SymbolTrades.{SymbolTrades}
-use Rattle.day_trades.specs.DayTrades.{HasTradesOf}
-use Rattle.day_trades.specs.SymbolTrades.{HasFewOfSymbol, IsSymbolTrades}
+use Rattle.day_trades.specs.SymbolRecords.{GivesSymbolTrades, HasFewSymbolRecords}
+use Rattle.day_trades.specs.SymbolTrades.{HasFewOfSymbol}
 use Rattle.day_verdicts.specs.declared.day_verdicts.JudgedSymbols.{JudgedSymbols}
 use Rattle.day_verdicts.specs.DayVerdicts.{HasRoomForOne}
-use Rattle.day_verdicts.proofs.VerdictSteps.{for-each-more, shared_symbols, IsNext}
+use Rattle.day_verdicts.proofs.VerdictSteps.{for-each-more, next-gives, next-records, shared_symbols, IsNext}
 use Rattle.record_verdict.specs.declared.scopes.Admission.TheVariants as admission
 use Rattle.session_audit.specs.declared.phases.Phase.{Phase}
 
@@ -58,31 +59,36 @@ counts-more sessions v = λ i. record {
   rejected = rejected-more sessions v i;
 }
 
--- what is known of it
-pub next-known : (share : DayShare) (ended : EndedTrades) (n : ℕ) (symbol_trades : SymbolTrades) (symbol : List ℕ) → IsNext share ended n symbol_trades symbol → (entries : List OrderRecord) (trades : List TradeRecord)
-    → HasTradesOf share admission.All entries ended trades → IsSymbolTrades admission.All entries trades symbol symbol_trades
-next-known share ended n symbol_trades symbol next entries trades has =
-    has.symbols_trades_are.each n symbol symbol_trades (ap (λ (s : List (List ℕ)). slice_get (symbols_in share s) n) (sym has.symbols_are) ∙ next.symbol_there) next.symbol_trades_there
+-- the next symbol has few records
+pub next-few-records : (share : DayShare) (ended : EndedTrades) (n : ℕ) (own : SymbolRecords) (symbol : List ℕ) → IsNext share ended n own symbol → DayTradesFitPlaces share admission.All ended → HasFewSymbolRecords own
+next-few-records share ended n own symbol next few = record {
+  symbol = symbol;
+  entries = few.entries;
+  trades = few.trades;
+  has = next-records share admission.All ended n own symbol next few.entries few.trades few.has;
+  fits_indices = few.has.fits_indices;
+}
 
-pub next-few : (share : DayShare) (ended : EndedTrades) (n : ℕ) (symbol_trades : SymbolTrades) (symbol : List ℕ) → IsNext share ended n symbol_trades symbol → DayTradesFitPlaces share admission.All ended → HasFewOfSymbol ended.count symbol_trades
-next-few share ended n symbol_trades symbol next few = record {
+pub next-few : (share : DayShare) (ended : EndedTrades) (n : ℕ) (own : SymbolRecords) (symbol : List ℕ) (symbol_trades : SymbolTrades) → IsNext share ended n own symbol → GivesSymbolTrades ended.admission own symbol_trades → DayTradesFitPlaces share admission.All ended
+    → HasFewOfSymbol ended.count symbol_trades
+next-few share ended n own symbol symbol_trades next gives few = record {
   admission = admission.All;
   entries = few.entries;
   trades = few.trades;
   symbol = symbol;
-  is = next-known share ended n symbol_trades symbol next few.entries few.trades few.has;
+  is = next-gives share admission.All ended n own symbol symbol_trades next gives few.entries few.trades few.has;
   counted = few.has.count;
   fits_places = few.fits_places;
 }
 
 -- one symbol more was judged
-pub sessions-next : (phases : List Phase) (table : Bool) (share : DayShare) (ended : EndedTrades) (n : ℕ) (symbol_trades : SymbolTrades) (symbol : List ℕ) (old new : JudgedSymbols)
-    → IsNext share ended n symbol_trades symbol → AddsSessionOfSymbol symbol phases table ended.count symbol_trades old new → AreJudgedSessionsUpTo phases table share ended n old → AreJudgedSessionsUpTo phases table share ended (n + 1) new
-sessions-next phases table share ended n symbol_trades symbol old new next one is = λ entries trades has.
+pub sessions-next : (phases : List Phase) (table : Bool) (share : DayShare) (ended : EndedTrades) (n : ℕ) (own : SymbolRecords) (symbol : List ℕ) (symbol_trades : SymbolTrades) (old new : JudgedSymbols)
+    → IsNext share ended n own symbol → GivesSymbolTrades ended.admission own symbol_trades → AddsSessionOfSymbol symbol phases table ended.count symbol_trades old new → AreJudgedSessionsUpTo phases table share ended n old → AreJudgedSessionsUpTo phases table share ended (n + 1) new
+sessions-next phases table share ended n own symbol symbol_trades old new next gives one is = λ entries trades has.
     let symbols : List (List ℕ) = shared_symbols share entries trades in
     let got : slice_get symbols n ≡ Some symbol = ap (λ (s : List (List ℕ)). slice_get (symbols_in share s) n) (sym has.symbols_are) ∙ next.symbol_there in
     let before = is entries trades has in
-    let judged : IsSymbolSession phases table entries trades symbol one.one = one.is entries trades (next-known share ended n symbol_trades symbol next entries trades has) has.count in
+    let judged : IsSymbolSession phases table entries trades symbol one.one = one.is entries trades (next-gives share admission.All ended n own symbol symbol_trades next gives entries trades has) has.count in
     let more : take (n + 1) symbols ≡ take n symbols ++ symbol ∷ [] = take_more symbols n [] (slice_get_within symbols n symbol got) ∙ ap (λ (s : List ℕ). take n symbols ++ s ∷ []) (get_or_from_slice_get symbols n symbol [] got) in
     record {
       sessions = before.sessions ++ one.one ∷ [];
@@ -95,12 +101,12 @@ sessions-next phases table share ended n symbol_trades symbol old new next one i
     }
 
 -- there is room to count one symbol more
-pub room-for-session : (phases : List Phase) (table : Bool) (share : DayShare) (ended : EndedTrades) (n : ℕ) (judged : JudgedSymbols) → n < length ended.symbols_trades.items → length ended.symbols_trades.items < 2 ^ 64 → DayTradesFitPlaces share admission.All ended → AreJudgedSessionsUpTo phases table share ended n judged
+pub room-for-session : (phases : List Phase) (table : Bool) (share : DayShare) (ended : EndedTrades) (n : ℕ) (judged : JudgedSymbols) → n < length ended.kept.items → length ended.kept.items < 2 ^ 64 → DayTradesFitPlaces share admission.All ended → AreJudgedSessionsUpTo phases table share ended n judged
     → HasRoomForOne judged.counts
 room-for-session phases table share ended n judged lt few_parts few is =
     let before = is few.entries few.trades few.has in
     let symbols : List (List ℕ) = shared_symbols share few.entries few.trades in
-    let count : length (take n symbols) ≡ n = length-take-le n symbols (omega (arith, lt, few.has.symbols_trades_are.same_length)) in
+    let count : length (take n symbols) ≡ n = length-take-le n symbols (omega (arith, lt, few.has.records_are.same_length)) in
     let symbols_are : judged.counts.symbols ≡ length before.sessions = ap (λ (counts : DayCounts). counts.symbols) before.counts_are in
     let accepted_are : judged.counts.accepted ≡ count_by (λ (w : Session). w.conforms) before.sessions = ap (λ (counts : DayCounts). counts.accepted) before.counts_are in
     let rejected_are : judged.counts.rejected ≡ count_by (λ (w : Session). not w.conforms) before.sessions = ap (λ (counts : DayCounts). counts.rejected) before.counts_are in
@@ -111,10 +117,10 @@ room-for-session phases table share ended n judged lt few_parts few is =
     }
 
 -- all symbols were judged
-pub sessions-all : (phases : List Phase) (table : Bool) (share : DayShare) (ended : EndedTrades) (n : ℕ) (before rest : List SymbolTrades) (judged : JudgedSymbols) → before ++ rest ≡ ended.symbols_trades.items → length rest ≡ 0 → n ≡ length before
+pub sessions-all : (phases : List Phase) (table : Bool) (share : DayShare) (ended : EndedTrades) (n : ℕ) (before rest : List SymbolRecords) (judged : JudgedSymbols) → before ++ rest ≡ ended.kept.items → length rest ≡ 0 → n ≡ length before
     → AreJudgedSessionsUpTo phases table share ended n judged → AreJudgedSessionsOfShare phases table share ended judged
 sessions-all phases table share ended n before rest judged parts none at is = λ entries trades has.
     let symbols : List (List ℕ) = shared_symbols share entries trades in
-    let size : length before + length rest ≡ length ended.symbols_trades.items = sym (length-append before rest) ∙ ap length parts in
-    let whole : take n symbols ≡ symbols = take_all n symbols (omega (arith, size, none, at, has.symbols_trades_are.same_length)) in
+    let size : length before + length rest ≡ length ended.kept.items = sym (length-append before rest) ∙ ap length parts in
+    let whole : take n symbols ≡ symbols = take_all n symbols (omega (arith, size, none, at, has.records_are.same_length)) in
     subst (λ (ss : List (List ℕ)). AreJudgedSessions phases table entries trades ss judged) whole (is entries trades has)

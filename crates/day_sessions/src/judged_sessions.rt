@@ -78,8 +78,9 @@ fn judge_symbol(
 }
 
 /// The sessions of the symbols of a share, in their order: how many there are, and their lines,
-/// each with its symbol before it. `table` asks for the tables of symbols that conform. The memory
-/// of a symbol is freed before the next is judged.
+/// each with its symbol before it. `table` asks for the tables of symbols that conform. The orders
+/// and deals of a symbol are made when it is judged, and its memory is freed before the next is
+/// judged.
 pub fn judge_sessions(
     alloc: Global,
     phases: &[Phase],
@@ -93,15 +94,18 @@ pub fn judge_sessions(
 {
     let EndedTrades {
         symbols,
-        symbols_trades,
+        kept,
         count,
+        seed,
+        admission,
     } = ended;
     let mut judged = no_sessions(alloc);
     let mut place: usize = 0;
-    for symbol_trades in symbols_trades {
+    for symbol_records in kept {
         let Some(symbol) = share.symbol_at(&symbols, place) else {
             unreachable!();
         };
+        let symbol_trades = symbol_records.resolve(alloc, seed, admission)?;
         judge_symbol(
             alloc,
             &mut judged,

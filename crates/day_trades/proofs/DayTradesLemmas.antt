@@ -1,5 +1,5 @@
--- What is known of the symbols of a day with one trade more.
-use Rattle.std.proofs.Common.{◌≡◌, ◌<◌, ◌+◌, ◌^◌, inl, inr, ℕ, true, false, Some, List, [], ◌∷◌, ◌++◌, All, length, length-append, append-nil, refl, sym, ap, subst, ◌∙◌, arith}
+-- The records of a day with one trade more.
+use Rattle.std.proofs.Common.{◌≡◌, ◌<◌, ◌+◌, inl, inr, ℕ, Bool, true, false, Some, List, [], ◌∷◌, ◌++◌, All, length, length-append, append-nil, refl, sym, ap, subst, ◌∙◌, arith}
 use Rattle.std.specs.Prelude.{map, slice_get}
 use Rattle.std.proofs.Math.ListN.{set}
 use Rattle.std.proofs.lemmas.Bool.{cases_lt}
@@ -10,6 +10,7 @@ use Rattle.audit_base.specs.declared.records.OrderRecord.{OrderRecord}
 use Rattle.audit_base.specs.declared.records.TradeRecord.{TradeRecord}
 use Rattle.audit_base.specs.Histories.{symbol_of}
 use Rattle.audit_base.specs.Orders.{same_name}
+use Rattle.audit_base.specs.Trades.{trades_of_symbol}
 use Rattle.day_symbols.specs.Kept.{HasRoomAt}
 use Rattle.day_symbols.specs.Shares.{DayShare, is_in_share, index_in_share, symbols_in}
 use Rattle.day_symbols.specs.Symbols.{distinct_names, symbols_of_day, symbols_of_logs}
@@ -17,14 +18,14 @@ use Rattle.day_symbols.proofs.KeptLemmas.{AreAtPlaces, OthersStay}
 use Rattle.day_symbols.proofs.MetLemmas.{inside-step, outside-step, room-met, room-within}
 use Rattle.day_symbols.proofs.PlaceLemmas.{got-left, got-last}
 use Rattle.day_symbols.proofs.SymbolLemmas.{is-same}
-use Rattle.day_orders.specs.DayOrders.{AreHistories, order_symbols}
-use Rattle.instruction_history.specs.declared.symbol_history.SymbolHistory.{SymbolHistory}
-use Rattle.instruction_history.specs.SymbolHistory.{ForRecords}
-use Rattle.record_verdict.specs.declared.scopes.Admission.{Admission}
-use Rattle.day_trades.specs.declared.symbol_trades.SymbolTrades.{SymbolTrades}
-use Rattle.day_trades.specs.SymbolTrades.{IsSymbolTrades, TakesTradeOf}
-use Rattle.day_trades.specs.DayTrades.{AreBegun, AreFewRecords, AreSymbolTrades, IsUnseen}
-use Rattle.day_trades.proofs.SymbolTradesLemmas.{other-known, others-known}
+use Rattle.day_orders.specs.DayOrders.{HasHistory, HaveHistories, order_symbols}
+use Rattle.day_orders.proofs.DayOrderLemmas.{empty-history}
+use Rattle.kept_records.specs.KeptOrders.{KeptEntries}
+use Rattle.kept_records.specs.KeptTrades.{KeptDeals, with_trade}
+use Rattle.kept_records.proofs.NumberedLemmas.{left-more, left-same, none-left}
+use Rattle.day_trades.specs.declared.symbol_records.SymbolRecords.{SymbolRecords}
+use Rattle.day_trades.specs.DayTrades.{AreBegun, HaveSymbolRecords}
+use Rattle.day_trades.specs.SymbolRecords.{HasSymbolRecords, HasSymbolTrades, IsBegun, IsUnseen, KeepsTrade}
 
 -- what holds of each of two lists holds of each of either
 all-left : {X : Type 0} (P : X → Type 0) (xs ys : List X) → All P (xs ++ ys) → All P xs
@@ -36,67 +37,65 @@ all-right P (x ∷ xs) ys all = all-right P xs ys (All-tail P x (xs ++ ys) all)
 
 -- Before any trade.
 
--- this is known of whatever symbol this is the history of, before any trade
-abbrev pub Begins : Admission → SymbolHistory → SymbolTrades → Type 0
-Begins admission history symbol_trades = ForRecords history (λ symbol entries. IsSymbolTrades admission entries [] symbol symbol_trades)
-
-pub begun-more : (admission : Admission) (histories : List SymbolHistory) (symbols_trades : List SymbolTrades) (history : SymbolHistory) (symbol_trades : SymbolTrades) → AreBegun admission histories symbols_trades → Begins admission history symbol_trades
-    → AreBegun admission (histories ++ history ∷ []) (symbols_trades ++ symbol_trades ∷ [])
-begun-more admission histories symbols_trades history symbol_trades are begins = record {
-  same_length = omega (arith, length-append histories (history ∷ []), length-append symbols_trades (symbol_trades ∷ []), are.same_length);
+pub begun-more : (orders : List KeptEntries) (kept : List SymbolRecords) (own : KeptEntries) (one : SymbolRecords) → AreBegun orders kept → IsBegun own one → AreBegun (orders ++ own ∷ []) (kept ++ one ∷ [])
+begun-more orders kept own one are begun = record {
+  same_length = omega (arith, length-append orders (own ∷ []), length-append kept (one ∷ []), are.same_length);
   each = each;
 }
   where
-    each : (i : ℕ) (h : SymbolHistory) (p : SymbolTrades) → slice_get (histories ++ history ∷ []) i ≡ Some h → slice_get (symbols_trades ++ symbol_trades ∷ []) i ≡ Some p → Begins admission h p
-    each i h p got-h got-p = elim (cases_lt i (length histories)) as (λ _. Begins admission h p) [
+    each : (i : ℕ) (o : KeptEntries) (k : SymbolRecords) → slice_get (orders ++ own ∷ []) i ≡ Some o → slice_get (kept ++ one ∷ []) i ≡ Some k → IsBegun o k
+    each i o k got-o got-k = elim (cases_lt i (length orders)) as (λ _. IsBegun o k) [
       | inl less ↦
-          let less-p : i < length symbols_trades = omega (arith, less, are.same_length) in
-          are.each i h p (sym (got-left histories (history ∷ []) i less) ∙ got-h) (sym (got-left symbols_trades (symbol_trades ∷ []) i less-p) ∙ got-p)
+          let less-k : i < length kept = omega (arith, less, are.same_length) in
+          are.each i o k (sym (got-left orders (own ∷ []) i less) ∙ got-o) (sym (got-left kept (one ∷ []) i less-k) ∙ got-k)
       | inr le ↦
-          let within : i < length (histories ++ history ∷ []) = slice_get_within (histories ++ history ∷ []) i h got-h in
-          let last : length histories ≡ i = omega (arith, le, within, length-append histories (history ∷ [])) in
-          let last-p : length symbols_trades ≡ i = are.same_length ∙ last in
-          let h-is : history ≡ h = same_Some history h (sym (got-last histories history) ∙ ap (slice_get (histories ++ history ∷ [])) last ∙ got-h) in
-          let p-is : symbol_trades ≡ p = same_Some symbol_trades p (sym (got-last symbols_trades symbol_trades) ∙ ap (slice_get (symbols_trades ++ symbol_trades ∷ [])) last-p ∙ got-p) in
-          subst (λ (x : SymbolHistory). Begins admission x p) h-is (subst (λ (x : SymbolTrades). Begins admission history x) p-is begins)
+          let within : i < length (orders ++ own ∷ []) = slice_get_within (orders ++ own ∷ []) i o got-o in
+          let last : length orders ≡ i = omega (arith, le, within, length-append orders (own ∷ [])) in
+          let last-k : length kept ≡ i = are.same_length ∙ last in
+          let o-is : own ≡ o = same_Some own o (sym (got-last orders own) ∙ ap (slice_get (orders ++ own ∷ [])) last ∙ got-o) in
+          let k-is : one ≡ k = same_Some one k (sym (got-last kept one) ∙ ap (slice_get (kept ++ one ∷ [])) last-k ∙ got-k) in
+          subst (λ (x : KeptEntries). IsBegun x k) o-is (subst (λ (x : SymbolRecords). IsBegun own x) k-is begun)
     ]
 
--- each history of a day is one after few records
-pub all-few : (share : DayShare) (histories : List SymbolHistory) (entries : List OrderRecord) → AreHistories (symbols_in share (order_symbols entries)) histories entries → length entries < 2 ^ 32 → AreFewRecords histories
-all-few share histories entries are few = λ k d lt.
-    let symbols : List (List ℕ) = symbols_in share (order_symbols entries) in
-    let within : k < length symbols = omega (arith, lt, are.same_length) in
-    record {
-      symbol = _;
-      entries = entries;
-      is = are.each k _ _ (slice_get-get_or symbols k [] within) (slice_get-get_or histories k d lt);
-      fits_indices = few;
-    }
+-- the symbol with these trades
+abbrev kept_with : List ℕ → List (ℕ × TradeRecord) → KeptDeals
+kept_with symbol trades = record { symbol = symbol; trades = trades }
+
+-- of a log without trades nothing is kept of a symbol
+none-kept : (symbol : List ℕ) (kept : KeptDeals) → kept ≡ kept_with symbol [] → HasSymbolTrades [] symbol kept
+unfolding trades_of_symbol
+none-kept symbol kept is = is
+
+begun-one : (entries : List OrderRecord) (symbol : List ℕ) (own : KeptEntries) (one : SymbolRecords) → HasHistory entries symbol own → IsBegun own one → HasSymbolRecords entries [] symbol one
+begun-one entries symbol own one has begun = record {
+  orders_are = begun.orders_are ∙ has;
+  trades_are = none-kept symbol one.trades (begun.no_trades ∙ ap (λ (o : KeptEntries). kept_with o.symbol []) has);
+}
 
 -- the symbols of a day without trades
 pub no-trades : (entries : List OrderRecord) → symbols_of_day entries [] ≡ order_symbols entries
 no-trades entries = ap distinct_names (append-nil (map symbol_of entries))
 
-pub begun-all : (share : DayShare) (admission : Admission) (histories : List SymbolHistory) (entries : List OrderRecord) (symbols_trades : List SymbolTrades) → AreHistories (symbols_in share (order_symbols entries)) histories entries → AreBegun admission histories symbols_trades
-    → AreSymbolTrades admission entries [] (symbols_in share (symbols_of_day entries [])) symbols_trades
-begun-all share admission histories entries symbols_trades are begun =
-    subst (λ (symbols : List (List ℕ)). AreSymbolTrades admission entries [] (symbols_in share symbols) symbols_trades) (sym (no-trades entries)) record {
+pub begun-all : (share : DayShare) (orders : List KeptEntries) (entries : List OrderRecord) (kept : List SymbolRecords) → HaveHistories (symbols_in share (order_symbols entries)) orders entries → AreBegun orders kept
+    → HaveSymbolRecords entries [] (symbols_in share (symbols_of_day entries [])) kept
+begun-all share orders entries kept are begun =
+    subst (λ (symbols : List (List ℕ)). HaveSymbolRecords entries [] (symbols_in share symbols) kept) (sym (no-trades entries)) record {
       same_length = begun.same_length ∙ are.same_length;
-      each = λ i symbol symbol_trades got-s got-p.
-          let lt : i < length histories = omega (arith, slice_get_within symbols_trades i symbol_trades got-p, begun.same_length) in
-          let there = history-at histories i lt in
-          begun.each i there.0 symbol_trades there.1 got-p symbol entries (are.each i symbol there.0 got-s there.1);
+      each = λ i symbol one got-s got-k.
+          let lt : i < length orders = omega (arith, slice_get_within kept i one got-k, begun.same_length) in
+          let there = orders-at orders i lt in
+          begun-one entries symbol there.0 one (are.each i symbol there.0 got-s there.1) (begun.each i there.0 one there.1 got-k);
     }
   where
-    history-at : (xs : List SymbolHistory) (i : ℕ) → i < length xs → (h : SymbolHistory) × (slice_get xs i ≡ Some h)
-    history-at [] i lt = absurd (omega (arith, lt))
-    history-at (x ∷ xs) i lt = (_, slice_get-get_or (x ∷ xs) i x lt)
+    orders-at : (xs : List KeptEntries) (i : ℕ) → i < length xs → (own : KeptEntries) × (slice_get xs i ≡ Some own)
+    orders-at [] i lt = absurd (omega (arith, lt))
+    orders-at (x ∷ xs) i lt = (_, slice_get-get_or (x ∷ xs) i x lt)
 
 -- One trade more.
 
--- what is known of a symbol after these trades
-abbrev pub known_after : Admission → List OrderRecord → List TradeRecord → List ℕ → SymbolTrades → Type 0
-known_after admission entries trades symbol symbol_trades = IsSymbolTrades admission entries trades symbol symbol_trades
+-- a trade of the symbol
+abbrev trade_of : List ℕ → ℕ × TradeRecord → Bool
+trade_of symbol e = same_name e.1.symbol symbol
 
 -- the symbol of a trade
 abbrev pub traded_symbol : TradeRecord → List ℕ
@@ -111,58 +110,90 @@ written-more entries trades x =
 pub traded-more : (entries : List OrderRecord) (trades : List TradeRecord) (x : TradeRecord) → symbols_of_day entries (trades ++ x ∷ []) ≡ distinct_names (symbols_of_logs entries trades ++ x.symbol ∷ [])
 traded-more entries trades x = ap distinct_names (written-more entries trades x)
 
-others-stay : (admission : Admission) (entries : List OrderRecord) (trades : List TradeRecord) (x : TradeRecord) → OthersStay x.symbol (known_after admission entries trades) (known_after admission entries (trades ++ x ∷ []))
-others-stay admission entries trades x symbol one other is = other-known admission entries trades symbol one x other is
+-- of another symbol the trades stay
+trades-stay : (trades : List TradeRecord) (x : TradeRecord) (symbol : List ℕ) → same_name x.symbol symbol ≡ false → trades_of_symbol symbol (trades ++ x ∷ []) ≡ trades_of_symbol symbol trades
+unfolding trades_of_symbol
+trades-stay trades x symbol other = left-same (trade_of symbol) trades x other
+
+others-stay : (entries : List OrderRecord) (trades : List TradeRecord) (x : TradeRecord) → OthersStay x.symbol (HasSymbolRecords entries trades) (HasSymbolRecords entries (trades ++ x ∷ []))
+others-stay entries trades x symbol one other is = record {
+  orders_are = is.orders_are;
+  trades_are = is.trades_are ∙ ap (kept_with symbol) (sym (trades-stay trades x symbol other));
+}
+
+-- of its own symbol there is one trade more
+own-trades : (trades : List TradeRecord) (x : TradeRecord) (place : ℕ) → place ≡ length trades + 1 → trades_of_symbol x.symbol trades ++ (place, x) ∷ [] ≡ trades_of_symbol x.symbol (trades ++ x ∷ [])
+unfolding trades_of_symbol
+own-trades trades x place at =
+    ap (λ (n : ℕ). trades_of_symbol x.symbol trades ++ (n, x) ∷ []) at ∙ sym (left-more (trade_of x.symbol) trades x (is-same x.symbol x.symbol refl))
+
+own-more : (entries : List OrderRecord) (trades : List TradeRecord) (x : TradeRecord) (was now : SymbolRecords) (place : ℕ) → place ≡ length trades + 1 → KeepsTrade was now place x
+    → HasSymbolRecords entries trades x.symbol was → HasSymbolRecords entries (trades ++ x ∷ []) x.symbol now
+own-more entries trades x was now place at takes is = record {
+  orders_are = takes.orders_are ∙ is.orders_are;
+  trades_are = takes.trades_are ∙ ap (λ (kept : KeptDeals). with_trade kept place x) is.trades_are ∙ ap (kept_with x.symbol) (own-trades trades x place at);
+}
+
+-- a symbol that no record has is kept with its records where it is kept without any
+none-traded : (symbol : List ℕ) (trades : List TradeRecord) → All (λ (name : List ℕ). same_name name symbol ≡ false) (map traded_symbol trades) → trades_of_symbol symbol trades ≡ []
+unfolding trades_of_symbol
+none-traded symbol trades others = none-left traded_symbol symbol 1 trades others
+
+unseen-kept : (entries : List OrderRecord) (trades : List TradeRecord) (own : List ℕ) (one : SymbolRecords) → All (λ (name : List ℕ). same_name name own ≡ false) (symbols_of_logs entries trades) → IsUnseen own one → HasSymbolRecords entries trades own one
+unseen-kept entries trades own one others unseen = record {
+  orders_are = empty-history own one.orders entries (all-left (λ (name : List ℕ). same_name name own ≡ false) (map symbol_of entries) (map traded_symbol trades) others) unseen.no_orders;
+  trades_are = unseen.no_trades ∙ ap (kept_with own) (sym (none-traded own trades (all-right (λ (name : List ℕ). same_name name own ≡ false) (map symbol_of entries) (map traded_symbol trades) others)));
+}
 
 -- a trade of a symbol outside the share
-pub outside-more : (share : DayShare) (admission : Admission) (symbols_trades : List SymbolTrades) (entries : List OrderRecord) (trades : List TradeRecord) (x : TradeRecord) (index : ℕ)
+pub outside-more : (share : DayShare) (kept : List SymbolRecords) (entries : List OrderRecord) (trades : List TradeRecord) (x : TradeRecord) (index : ℕ)
     → slice_get (distinct_names (symbols_of_logs entries trades ++ x.symbol ∷ [])) index ≡ Some x.symbol → is_in_share share index ≡ false
-    → AreSymbolTrades admission entries trades (symbols_in share (symbols_of_day entries trades)) symbols_trades
-    → AreSymbolTrades admission entries (trades ++ x ∷ []) (symbols_in share (symbols_of_day entries (trades ++ x ∷ []))) symbols_trades
-outside-more share admission symbols_trades entries trades x index got outside are =
-    subst (λ (symbols : List (List ℕ)). AreSymbolTrades admission entries (trades ++ x ∷ []) (symbols_in share symbols) symbols_trades) (sym (traded-more entries trades x))
-    (outside-step (known_after admission entries trades) (known_after admission entries (trades ++ x ∷ [])) share (symbols_of_logs entries trades) x.symbol symbols_trades index (others-stay admission entries trades x) got outside are)
+    → HaveSymbolRecords entries trades (symbols_in share (symbols_of_day entries trades)) kept
+    → HaveSymbolRecords entries (trades ++ x ∷ []) (symbols_in share (symbols_of_day entries (trades ++ x ∷ []))) kept
+outside-more share kept entries trades x index got outside are =
+    subst (λ (symbols : List (List ℕ)). HaveSymbolRecords entries (trades ++ x ∷ []) (symbols_in share symbols) kept) (sym (traded-more entries trades x))
+    (outside-step (HasSymbolRecords entries trades) (HasSymbolRecords entries (trades ++ x ∷ [])) share (symbols_of_logs entries trades) x.symbol kept index (others-stay entries trades x) got outside are)
 
--- the symbol of a trade was met, and what is known of it is at this index
-pub record IsTradeMet (share : DayShare) (admission : Admission) (entries : List OrderRecord) (trades : List TradeRecord) (x : TradeRecord) (room : List SymbolTrades) (index place : ℕ) : Type 0 where
+-- the symbol of a trade was met, and what is kept of it is at this index
+pub record IsTradeMet (share : DayShare) (entries : List OrderRecord) (trades : List TradeRecord) (x : TradeRecord) (room : List SymbolRecords) (index place : ℕ) : Type 0 where
   pub got : slice_get (distinct_names (symbols_of_logs entries trades ++ x.symbol ∷ [])) index ≡ Some x.symbol
   pub inside : is_in_share share index ≡ true
   pub at : place ≡ index_in_share share index
-  pub places : AreAtPlaces (known_after admission entries trades) share (distinct_names (symbols_of_logs entries trades ++ x.symbol ∷ [])) room
+  pub places : AreAtPlaces (HasSymbolRecords entries trades) share (distinct_names (symbols_of_logs entries trades ++ x.symbol ∷ [])) room
   pub within : place < length room
 
--- a symbol that no record has
-pub unseen-known : (admission : Admission) (entries : List OrderRecord) (trades : List TradeRecord) (own : List ℕ) (one : SymbolTrades) → All (λ (name : List ℕ). same_name name own ≡ false) (symbols_of_logs entries trades) → IsUnseen admission one → known_after admission entries trades own one
-unseen-known admission entries trades own one others unseen =
-    others-known admission entries [] trades own one (all-right (λ (name : List ℕ). same_name name own ≡ false) (map symbol_of entries) (map traded_symbol trades) others)
-    (unseen own entries (all-left (λ (name : List ℕ). same_name name own ≡ false) (map symbol_of entries) (map traded_symbol trades) others))
-
-pub met-inside : (share own_share : DayShare) (admission own_admission : Admission) (old room : List SymbolTrades) (entries : List OrderRecord) (trades : List TradeRecord) (x : TradeRecord) (symbols new : List (List ℕ)) (index place : ℕ)
-    → own_share ≡ share → own_admission ≡ admission → symbols ≡ symbols_of_day entries trades → ((names : List (List ℕ)) → symbols ≡ distinct_names names → new ≡ distinct_names (names ++ x.symbol ∷ []))
-    → slice_get new index ≡ Some x.symbol → is_in_share own_share index ≡ true → place ≡ index_in_share own_share index → HasRoomAt (IsUnseen own_admission) place old room
-    → AreSymbolTrades admission entries trades (symbols_in share (symbols_of_day entries trades)) old → IsTradeMet share admission entries trades x room index place
-met-inside share own_share admission own_admission old room entries trades x symbols new index place shared admits symbols_are meets there inside at makes are =
+pub met-inside : (share own_share : DayShare) (old room : List SymbolRecords) (entries : List OrderRecord) (trades : List TradeRecord) (x : TradeRecord) (symbols new : List (List ℕ)) (index place : ℕ)
+    → own_share ≡ share → symbols ≡ symbols_of_day entries trades → ((names : List (List ℕ)) → symbols ≡ distinct_names names → new ≡ distinct_names (names ++ x.symbol ∷ []))
+    → slice_get new index ≡ Some x.symbol → is_in_share own_share index ≡ true → place ≡ index_in_share own_share index → HasRoomAt (IsUnseen x.symbol) place old room
+    → HaveSymbolRecords entries trades (symbols_in share (symbols_of_day entries trades)) old → IsTradeMet share entries trades x room index place
+met-inside share own_share old room entries trades x symbols new index place shared symbols_are meets there inside at makes are =
     let met : new ≡ distinct_names (symbols_of_logs entries trades ++ x.symbol ∷ []) = meets (symbols_of_logs entries trades) symbols_are in
     let got : slice_get (distinct_names (symbols_of_logs entries trades ++ x.symbol ∷ [])) index ≡ Some x.symbol = ap (λ (s : List (List ℕ)). slice_get s index) (sym met) ∙ there in
     let inside_it : is_in_share share index ≡ true = ap (λ (s : DayShare). is_in_share s index) (sym shared) ∙ inside in
     let at_it : place ≡ index_in_share share index = at ∙ ap (λ (s : DayShare). index_in_share s index) shared in
-    let makes_it : HasRoomAt (IsUnseen admission) (index_in_share share index) old room =
-    subst (λ (k : ℕ). HasRoomAt (IsUnseen admission) k old room) at_it (subst (λ (a : Admission). HasRoomAt (IsUnseen a) place old room) admits makes) in
-    let places = room-met (known_after admission entries trades) (IsUnseen admission) share (symbols_of_logs entries trades) x.symbol old room index (λ others one unseen. unseen-known admission entries trades x.symbol one others unseen) got inside_it makes_it are in
+    let makes_it : HasRoomAt (IsUnseen x.symbol) (index_in_share share index) old room = subst (λ (k : ℕ). HasRoomAt (IsUnseen x.symbol) k old room) at_it makes in
+    let places = room-met (HasSymbolRecords entries trades) (IsUnseen x.symbol) share (symbols_of_logs entries trades) x.symbol old room index
+    (λ others one unseen. unseen-kept entries trades x.symbol one others unseen) got inside_it makes_it are in
     record {
       got = got;
       inside = inside_it;
       at = at_it;
       places = places;
-      within = subst (λ (k : ℕ). k < length room) (sym at_it) (room-within (known_after admission entries trades) share (distinct_names (symbols_of_logs entries trades ++ x.symbol ∷ [])) x.symbol room index got inside_it places);
+      within = subst (λ (k : ℕ). k < length room) (sym at_it) (room-within (HasSymbolRecords entries trades) share (distinct_names (symbols_of_logs entries trades ++ x.symbol ∷ [])) x.symbol room index got inside_it places);
     }
 
+-- what is kept there is of the symbol of the trade
+pub is-own : (share : DayShare) (entries : List OrderRecord) (trades : List TradeRecord) (x : TradeRecord) (room : List SymbolRecords) (index place : ℕ) (was : SymbolRecords)
+    → IsTradeMet share entries trades x room index place → slice_get room place ≡ Some was → x.symbol ≡ was.trades.symbol
+is-own share entries trades x room index place was met there =
+    sym (ap (λ (kept : KeptDeals). kept.symbol) (met.places.each index x.symbol was met.inside met.got (ap (slice_get room) (sym met.at) ∙ there)).trades_are)
+
 -- it has taken the trade
-pub has-taken : (share : DayShare) (admission : Admission) (entries : List OrderRecord) (trades : List TradeRecord) (x : TradeRecord) (room : List SymbolTrades) (index place number : ℕ) (was now : SymbolTrades)
-    → IsTradeMet share admission entries trades x room index place → slice_get room place ≡ Some was → number ≡ length trades + 1 → TakesTradeOf was now number x
-    → AreSymbolTrades admission entries (trades ++ x ∷ []) (symbols_in share (symbols_of_day entries (trades ++ x ∷ []))) (set room place now)
-has-taken share admission entries trades x room index place number was now met there at takes =
-    let done = inside-step (known_after admission entries trades) (known_after admission entries (trades ++ x ∷ [])) share (symbols_of_logs entries trades) x.symbol room index was now (others-stay admission entries trades x)
-    met.got met.inside (ap (slice_get room) (sym met.at) ∙ there) (λ is. takes admission entries trades x.symbol is (is-same x.symbol x.symbol refl) at) met.places in
-    subst (λ (k : ℕ). AreSymbolTrades admission entries (trades ++ x ∷ []) (symbols_in share (symbols_of_day entries (trades ++ x ∷ []))) (set room k now)) (sym met.at)
-    (subst (λ (symbols : List (List ℕ)). AreSymbolTrades admission entries (trades ++ x ∷ []) (symbols_in share symbols) (set room (index_in_share share index) now)) (sym (traded-more entries trades x)) done)
+pub has-taken : (share : DayShare) (entries : List OrderRecord) (trades : List TradeRecord) (x : TradeRecord) (room : List SymbolRecords) (index place number : ℕ) (was now : SymbolRecords)
+    → IsTradeMet share entries trades x room index place → slice_get room place ≡ Some was → number ≡ length trades + 1 → KeepsTrade was now number x
+    → HaveSymbolRecords entries (trades ++ x ∷ []) (symbols_in share (symbols_of_day entries (trades ++ x ∷ []))) (set room place now)
+has-taken share entries trades x room index place number was now met there at takes =
+    let done = inside-step (HasSymbolRecords entries trades) (HasSymbolRecords entries (trades ++ x ∷ [])) share (symbols_of_logs entries trades) x.symbol room index was now (others-stay entries trades x)
+    met.got met.inside (ap (slice_get room) (sym met.at) ∙ there) (λ is. own-more entries trades x was now number at takes is) met.places in
+    subst (λ (k : ℕ). HaveSymbolRecords entries (trades ++ x ∷ []) (symbols_in share (symbols_of_day entries (trades ++ x ∷ []))) (set room k now)) (sym met.at)
+    (subst (λ (symbols : List (List ℕ)). HaveSymbolRecords entries (trades ++ x ∷ []) (symbols_in share symbols) (set room (index_in_share share index) now)) (sym (traded-more entries trades x)) done)

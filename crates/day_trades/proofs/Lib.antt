@@ -1,2 +1,3 @@
 pub mod SymbolTradesLemmas
+pub mod ReplayLemmas
 pub mod DayTradesLemmas

@@ -1,9 +1,7 @@
--- What is known of one symbol of a day, with one trade more, and what it gives in the end.
-use Rattle.std.proofs.Common.{◌≡◌, ◌≤◌, ℕ, Bool, false, Option, Some, None, Ok, List, [], ◌∷◌, ◌++◌, All, length, append-nil, refl, sym, ap, subst, ◌∙◌, arith}
-use Rattle.std.specs.Prelude.{map}
+-- What is known of one symbol of a day, and what it gives in the end.
+use Rattle.std.proofs.Common.{◌≡◌, ◌≤◌, ℕ, Bool, Option, Some, None, Ok, List, length, refl, sym, ap, ◌∙◌, arith}
 use Rattle.std.specs.List.{enumerate_from}
-use Rattle.std.proofs.lemmas.List.{append_assoc, length-map}
-use Rattle.std.proofs.lemmas.List.Elements.{All-head, All-tail}
+use Rattle.std.proofs.lemmas.List.{length-map}
 use Rattle.std.proofs.lemmas.List.FromFn.{length-enumerate_from}
 use Rattle.std.proofs.lemmas.List.Sums.{count_by-le-length, length-filter}
 use Rattle.audit_base.specs.declared.findings.Finding.{Finding}
@@ -14,36 +12,11 @@ use Rattle.audit_base.specs.Histories.{order_list}
 use Rattle.audit_base.specs.Orders.{same_name}
 use Rattle.audit_base.specs.Trades.{deal_of_trade, deals_of_symbol, trades_of_symbol, trades_finding}
 use Rattle.matching_core.specs.declared.deals_draft.ResolvedTrades.{ResolvedTrades}
-use Rattle.matching_core.proofs.SymbolDealsLemmas.{other-trade}
 use Rattle.record_verdict.specs.declared.scopes.Admission.{Admission}
 use Rattle.record_verdict.specs.BeforeRule.{finding_or_sound, IsBeforeRule}
 use Rattle.record_verdict.specs.Scopes.{unadmitted_order_finding}
 use Rattle.day_trades.specs.declared.symbol_trades.SoundSymbol.{SoundSymbol}
-use Rattle.day_trades.specs.declared.symbol_trades.SymbolTrades.{SymbolTrades}
-use Rattle.day_trades.specs.declared.symbol_trades.SymbolTrades.TheVariants as kept
-use Rattle.day_trades.specs.SymbolTrades.{IsSoundSymbol, IsSymbolTrades, scope_by}
-
--- a trade of another symbol changes nothing
-pub other-known : (admission : Admission) (entries : List OrderRecord) (trades : List TradeRecord) (symbol : List ℕ) (symbol_trades : SymbolTrades) (x : TradeRecord) → same_name x.symbol symbol ≡ false
-    → IsSymbolTrades admission entries trades symbol symbol_trades → IsSymbolTrades admission entries (trades ++ x ∷ []) symbol symbol_trades
-other-known admission entries trades symbol (kept.Found finding) x other is = is
-other-known admission entries trades symbol (kept.Sound sound_symbol) x other is = record {
-  well_formed = is.well_formed;
-  orders_are = is.orders_are;
-  admitted = is.admitted;
-  deals_are = other-trade sound_symbol.history symbol sound_symbol.deals trades x other is.deals_are;
-}
-
--- nor do trades of other symbols
-pub others-known : (admission : Admission) (entries : List OrderRecord) (before trades : List TradeRecord) (symbol : List ℕ) (symbol_trades : SymbolTrades)
-    → All (λ (name : List ℕ). same_name name symbol ≡ false) (map (λ (trade : TradeRecord). trade.symbol) trades)
-    → IsSymbolTrades admission entries before symbol symbol_trades → IsSymbolTrades admission entries (before ++ trades) symbol symbol_trades
-others-known admission entries before [] symbol symbol_trades others is = subst (λ (xs : List TradeRecord). IsSymbolTrades admission entries xs symbol symbol_trades) (sym (append-nil before)) is
-others-known admission entries before (x ∷ xs) symbol symbol_trades others is =
-    let more : IsSymbolTrades admission entries (before ++ x ∷ []) symbol symbol_trades =
-    other-known admission entries before symbol symbol_trades x (All-head (λ (name : List ℕ). same_name name symbol ≡ false) x.symbol (map (λ (trade : TradeRecord). trade.symbol) xs) others) is in
-    subst (λ (ts : List TradeRecord). IsSymbolTrades admission entries ts symbol symbol_trades) (append_assoc before (x ∷ []) xs)
-    (others-known admission entries (before ++ x ∷ []) xs symbol symbol_trades (All-tail (λ (name : List ℕ). same_name name symbol ≡ false) x.symbol (map (λ (trade : TradeRecord). trade.symbol) xs) others) more)
+use Rattle.day_trades.specs.SymbolTrades.{IsSoundSymbol, scope_by}
 
 -- what the trades of a symbol give whose orders have no finding
 pub gives-sound : (admission : Admission) (entries : List OrderRecord) (trades : List TradeRecord) (symbol : List ℕ) (sound_symbol : SoundSymbol) (resolved : ResolvedTrades)

@@ -1,4 +1,4 @@
-//! What is known of the symbols of a day, trade by trade.
+//! The records of the symbols of a day, trade by trade.
 //!
 //! Which order records there may be is a predicate (`may_have`), since a caller knows what the
 //! order log gave and not the list.
@@ -9,18 +9,19 @@ ghost use Rattle.log_source.specs.Handing.{HandsOnMore};
 ghost use Rattle.day_orders.specs.DayOrders.{HasOrders};
 ghost use Rattle.day_symbols.specs.Kept.{HasRoomAt};
 ghost use Rattle.day_symbols.specs.Shares.{DayShare, whole_day};
-ghost use Rattle.instruction_history.specs.declared.symbol_history.SymbolHistory.{SymbolHistory as AHistory};
 ghost use Rattle.record_verdict.specs.declared.scopes.Admission.{Admission as AnAdmission};
 ghost use Rattle.record_verdict.specs.declared.scopes.Admission.TheVariants.{All as AdmitsAll};
-ghost use Rattle.day_trades.specs.DayTrades.{AreBegun, AreFewRecords, EndsDay, IsDayTrades, IsUnseen, KeepsAllButSymbolTrades};
+ghost use Rattle.day_trades.specs.DayTrades.{AreBegun, EndsDay, IsDayTrades, KeepsAllButSymbolRecords};
+ghost use Rattle.day_trades.specs.SymbolRecords.{IsUnseen};
 
-use crate::symbol_trades::SymbolTrades;
+use crate::symbol_records::SymbolRecords;
 use audit_base::faults::NoMemory;
+use audit_base::names::Name;
 use audit_base::records::TradeRecord;
 use day_orders::day_orders::EndedOrders;
 use day_symbols::shares::Share;
 use day_symbols::symbols::Symbols;
-use instruction_history::symbol_history::SymbolHistory;
+use kept_records::orders::KeptOrders;
 use log_source::collector::Collector;
 use record_verdict::scopes::Admission;
 use seeded_hash::seed::HashSeed;
@@ -48,7 +49,7 @@ impl AuditedDay for Brand {
 }
 
 /// What is known of a day after its order log and some records of its trade log: its symbols, and
-/// of each that is in the share what its orders and trades give so far.
+/// the records of each that is in the share.
 #[derive(Drop)]
 pub struct DayTrades<M> {
     alloc: Global,
@@ -59,7 +60,7 @@ pub struct DayTrades<M> {
     count: u32,
     symbols: Symbols,
     /// Those of the symbols of the share, in their order.
-    symbols_trades: Vec<SymbolTrades>,
+    kept: Vec<SymbolRecords>,
     of: PhantomData<M>,
 }
 
@@ -68,27 +69,23 @@ pub struct DayTrades<M> {
 pub struct EndedTrades {
     pub symbols: Symbols,
     /// Those of the symbols of the share, in their order.
-    pub symbols_trades: Vec<SymbolTrades>,
+    pub kept: Vec<SymbolRecords>,
     /// How many records the trade log has, of all symbols.
     pub count: u32,
+    /// The seed of the hashes by which keys and ids are found, when a symbol is judged.
+    pub seed: HashSeed,
+    pub admission: Admission,
 }
 
-/// What is known of each symbol before any trade, by its history.
-fn begin(
-    alloc: Global,
-    seed: HashSeed,
-    admission: Admission,
-    histories: Vec<SymbolHistory>,
-) -> Result<Vec<SymbolTrades>, NoMemory>
-    requires { AreFewRecords histories.items }
-    ensures { IfOk result
-        (λ symbols_trades. AreBegun admission histories.items symbols_trades.items) }
+/// The records of each symbol before any trade.
+fn begin(alloc: Global, orders: Vec<KeptOrders>) -> Result<Vec<SymbolRecords>, NoMemory>
+    ensures { IfOk result (λ kept. AreBegun orders.items kept.items) }
 {
-    let mut symbols_trades = Vec::with_capacity(alloc, histories.len())?;
-    for history in histories {
-        symbols_trades.push(SymbolTrades::of(alloc, seed, admission, history))?;
+    let mut kept = Vec::with_capacity(alloc, orders.len())?;
+    for symbol_orders in orders {
+        kept.push(SymbolRecords::of(alloc, symbol_orders))?;
     }
-    Ok(symbols_trades)
+    Ok(kept)
 }
 
 impl<M: AuditedDay> DayTrades<M> {
@@ -108,8 +105,8 @@ impl<M: AuditedDay> DayTrades<M> {
         requires some { (entries : List AnEntry) × M.may_have entries }
         ensures { IfOk result (λ day. IsDayTrades M.share M.admission M.may_have day []) }
     {
-        let EndedOrders { symbols, histories } = orders;
-        let symbols_trades = begin(alloc, seed, admission, histories)?;
+        let EndedOrders { symbols, kept } = orders;
+        let kept = begin(alloc, kept)?;
         Ok(DayTrades {
             alloc,
             seed,
@@ -117,21 +114,19 @@ impl<M: AuditedDay> DayTrades<M> {
             admission,
             count: 0,
             symbols,
-            symbols_trades,
+            kept,
             of: PhantomData,
         })
     }
 
-    /// What is known of a symbol without orders, at this index, where the list ends there.
-    fn make_room(&mut self, share_index: usize) -> Result<(), NoMemory>
-        ensures room { let room = HasRoomAt (IsUnseen self.old.admission) share_index in
-            OnOk result (room self.old.symbols_trades.items self.new.symbols_trades.items) }
-        ensures only { KeepsAllButSymbolTrades self.old self.new }
+    /// No records of the symbol at this index, where the list ends there.
+    fn make_room(&mut self, share_index: usize, symbol: Name) -> Result<(), NoMemory>
+        ensures room { let room = HasRoomAt (IsUnseen symbol) share_index in
+            OnOk result (room self.old.kept.items self.new.kept.items) }
+        ensures only { KeepsAllButSymbolRecords self.old self.new }
     {
-        if share_index == self.symbols_trades.len() {
-            let history = SymbolHistory::new(self.alloc, self.seed);
-            let symbol_trades = SymbolTrades::of(self.alloc, self.seed, self.admission, history);
-            self.symbols_trades.push(symbol_trades)?;
+        if share_index == self.kept.len() {
+            self.kept.push(SymbolRecords::none(self.alloc, symbol))?;
         }
         Ok(())
     }
@@ -148,24 +143,28 @@ impl<M: AuditedDay> DayTrades<M> {
             return Ok(());
         }
         let share_index = self.share.index_in_share(index);
-        self.make_room(share_index)?;
-        self.symbols_trades[share_index].take(trade, self.count)
+        self.make_room(share_index, trade.symbol)?;
+        self.kept[share_index].take(trade, self.count)
     }
 
-    /// The symbols of the day and what is known of those in the share. Takes no memory.
+    /// The symbols of the day and the records of those in the share. Takes no memory.
     pub fn end(self) -> EndedTrades
         ensures { EndsDay M.share M.admission M.may_have self result }
     {
         let DayTrades {
-            symbols,
-            symbols_trades,
+            seed,
+            admission,
             count,
+            symbols,
+            kept,
             ..
         } = self;
         EndedTrades {
             symbols,
-            symbols_trades,
+            kept,
             count,
+            seed,
+            admission,
         }
     }
 }

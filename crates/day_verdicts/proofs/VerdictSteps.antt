@@ -17,11 +17,14 @@ use Rattle.day_symbols.specs.Shares.{DayShare, symbols_in}
 use Rattle.day_symbols.specs.Symbols.{symbols_of_day}
 use Rattle.day_symbols.proofs.PlaceLemmas.{got-left, got-last}
 use Rattle.day_trades.specs.declared.day_trades.EndedTrades.{EndedTrades}
+use Rattle.day_trades.specs.declared.symbol_records.SymbolRecords.{SymbolRecords}
 use Rattle.day_trades.specs.declared.symbol_trades.SymbolTrades.{SymbolTrades}
 use Rattle.day_trades.specs.DayTrades.{HasTradesOf}
+use Rattle.day_trades.specs.SymbolRecords.{GivesSymbolTrades, HasFewSymbolRecords, HasSymbolRecords}
 use Rattle.day_trades.specs.SymbolTrades.{HasFewOfSymbol, IsSymbolTrades}
 use Rattle.day_verdicts.specs.declared.day_verdicts.JudgedSymbols.{JudgedSymbols}
 use Rattle.day_verdicts.specs.DayVerdicts.{AreVerdicts, counts_of, RuleTradesFitPlaces, HasRoomForOne, is_acceptance, IsJudgedDay, IsJudgedUpTo, IsJudgedShare, AddsVerdictOnSymbol, day_lines_of, with_verdict}
+use Rattle.record_verdict.specs.declared.scopes.Admission.{Admission}
 use Rattle.record_verdict.specs.RecordVerdicts.{IsRecordVerdict, question}
 use Rattle.record_verdict.specs.Scopes.{admission_of}
 
@@ -91,42 +94,58 @@ abbrev pub shared_symbols : DayShare → List OrderRecord → List TradeRecord �
 shared_symbols share entries trades = symbols_in share (symbols_of_day entries trades)
 
 -- where the next symbol is
-pub record IsNext (share : DayShare) (ended : EndedTrades) (n : ℕ) (symbol_trades : SymbolTrades) (symbol : List ℕ) : Type 0 where
-  pub symbol_trades_there : slice_get ended.symbols_trades.items n ≡ Some symbol_trades
+pub record IsNext (share : DayShare) (ended : EndedTrades) (n : ℕ) (own : SymbolRecords) (symbol : List ℕ) : Type 0 where
+  pub records_there : slice_get ended.kept.items n ≡ Some own
   pub symbol_there : slice_get (symbols_in share ended.symbols) n ≡ Some symbol
 
-pub next-at : (share : DayShare) (ended : EndedTrades) (n : ℕ) (symbol_trades : SymbolTrades) (symbol : List ℕ) (before rest : List SymbolTrades) → before ++ symbol_trades ∷ rest ≡ ended.symbols_trades.items → n ≡ length before
-    → slice_get (symbols_in share ended.symbols) n ≡ Some symbol → IsNext share ended n symbol_trades symbol
-next-at share ended n symbol_trades symbol before rest symbols_trades at got = record {
-  symbol_trades_there = ap (slice_get ended.symbols_trades.items) at ∙ ap (λ (xs : List SymbolTrades). slice_get xs (length before)) (sym symbols_trades) ∙ behind-at before symbol_trades rest;
+pub next-at : (share : DayShare) (ended : EndedTrades) (n : ℕ) (own : SymbolRecords) (symbol : List ℕ) (before rest : List SymbolRecords) → before ++ own ∷ rest ≡ ended.kept.items → n ≡ length before
+    → slice_get (symbols_in share ended.symbols) n ≡ Some symbol → IsNext share ended n own symbol
+next-at share ended n own symbol before rest all at got = record {
+  records_there = ap (slice_get ended.kept.items) at ∙ ap (λ (xs : List SymbolRecords). slice_get xs (length before)) (sym all) ∙ behind-at before own rest;
   symbol_there = got;
 }
 
--- what is known of it
-pub next-known : (rule : Rule) (share : DayShare) (ended : EndedTrades) (n : ℕ) (symbol_trades : SymbolTrades) (symbol : List ℕ) → IsNext share ended n symbol_trades symbol → (entries : List OrderRecord) (trades : List TradeRecord)
-    → HasTradesOf share (admission_of rule) entries ended trades → IsSymbolTrades (admission_of rule) entries trades symbol symbol_trades
-next-known rule share ended n symbol_trades symbol next entries trades has =
-    has.symbols_trades_are.each n symbol symbol_trades (ap (λ (s : List (List ℕ)). slice_get (symbols_in share s) n) (sym has.symbols_are) ∙ next.symbol_there) next.symbol_trades_there
+-- the records of it
+pub next-records : (share : DayShare) (admission : Admission) (ended : EndedTrades) (n : ℕ) (own : SymbolRecords) (symbol : List ℕ) → IsNext share ended n own symbol → (entries : List OrderRecord) (trades : List TradeRecord)
+    → HasTradesOf share admission entries ended trades → HasSymbolRecords entries trades symbol own
+next-records share admission ended n own symbol next entries trades has =
+    has.records_are.each n symbol own (ap (λ (s : List (List ℕ)). slice_get (symbols_in share s) n) (sym has.symbols_are) ∙ next.symbol_there) next.records_there
 
-pub next-few : (rule : Rule) (share : DayShare) (ended : EndedTrades) (n : ℕ) (symbol_trades : SymbolTrades) (symbol : List ℕ) → IsNext share ended n symbol_trades symbol → RuleTradesFitPlaces rule share ended → HasFewOfSymbol ended.count symbol_trades
-next-few rule share ended n symbol_trades symbol next few = record {
+-- what they give
+pub next-gives : (share : DayShare) (admission : Admission) (ended : EndedTrades) (n : ℕ) (own : SymbolRecords) (symbol : List ℕ) (symbol_trades : SymbolTrades) → IsNext share ended n own symbol → GivesSymbolTrades ended.admission own symbol_trades
+    → (entries : List OrderRecord) (trades : List TradeRecord) → HasTradesOf share admission entries ended trades → IsSymbolTrades admission entries trades symbol symbol_trades
+next-gives share admission ended n own symbol symbol_trades next gives entries trades has =
+    subst (λ (a : Admission). IsSymbolTrades a entries trades symbol symbol_trades) has.admits (gives entries trades symbol (next-records share admission ended n own symbol next entries trades has))
+
+pub next-few-records : (rule : Rule) (share : DayShare) (ended : EndedTrades) (n : ℕ) (own : SymbolRecords) (symbol : List ℕ) → IsNext share ended n own symbol → RuleTradesFitPlaces rule share ended → HasFewSymbolRecords own
+next-few-records rule share ended n own symbol next few = record {
+  symbol = symbol;
+  entries = few.entries;
+  trades = few.trades;
+  has = next-records share (admission_of rule) ended n own symbol next few.entries few.trades few.has;
+  fits_indices = few.has.fits_indices;
+}
+
+pub next-few : (rule : Rule) (share : DayShare) (ended : EndedTrades) (n : ℕ) (own : SymbolRecords) (symbol : List ℕ) (symbol_trades : SymbolTrades) → IsNext share ended n own symbol → GivesSymbolTrades ended.admission own symbol_trades → RuleTradesFitPlaces rule share ended
+    → HasFewOfSymbol ended.count symbol_trades
+next-few rule share ended n own symbol symbol_trades next gives few = record {
   admission = admission_of rule;
   entries = few.entries;
   trades = few.trades;
   symbol = symbol;
-  is = next-known rule share ended n symbol_trades symbol next few.entries few.trades few.has;
+  is = next-gives share (admission_of rule) ended n own symbol symbol_trades next gives few.entries few.trades few.has;
   counted = few.has.count;
   fits_places = few.fits_places;
 }
 
 -- one symbol more was judged
-pub judged-next : (rule : Rule) (table : Bool) (share : DayShare) (ended : EndedTrades) (n : ℕ) (symbol_trades : SymbolTrades) (symbol : List ℕ) (old new : JudgedSymbols)
-    → IsNext share ended n symbol_trades symbol → AddsVerdictOnSymbol (question rule symbol table) ended.count symbol_trades old new → IsJudgedUpTo rule table share ended n old → IsJudgedUpTo rule table share ended (n + 1) new
-judged-next rule table share ended n symbol_trades symbol old new next one is = λ entries trades has.
+pub judged-next : (rule : Rule) (table : Bool) (share : DayShare) (ended : EndedTrades) (n : ℕ) (own : SymbolRecords) (symbol : List ℕ) (symbol_trades : SymbolTrades) (old new : JudgedSymbols)
+    → IsNext share ended n own symbol → GivesSymbolTrades ended.admission own symbol_trades → AddsVerdictOnSymbol (question rule symbol table) ended.count symbol_trades old new → IsJudgedUpTo rule table share ended n old → IsJudgedUpTo rule table share ended (n + 1) new
+judged-next rule table share ended n own symbol symbol_trades old new next gives one is = λ entries trades has.
     let symbols : List (List ℕ) = shared_symbols share entries trades in
     let got : slice_get symbols n ≡ Some symbol = ap (λ (s : List (List ℕ)). slice_get (symbols_in share s) n) (sym has.symbols_are) ∙ next.symbol_there in
     let before = is entries trades has in
-    let judged : IsRecordVerdict (question rule symbol table) entries (Ok trades) one.one = one.is entries trades (next-known rule share ended n symbol_trades symbol next entries trades has) has.count in
+    let judged : IsRecordVerdict (question rule symbol table) entries (Ok trades) one.one = one.is entries trades (next-gives share (admission_of rule) ended n own symbol symbol_trades next gives entries trades has) has.count in
     let more : take (n + 1) symbols ≡ take n symbols ++ symbol ∷ [] = take_more symbols n [] (slice_get_within symbols n symbol got) ∙ ap (λ (s : List ℕ). take n symbols ++ s ∷ []) (get_or_from_slice_get symbols n symbol [] got) in
     record {
       verdicts = before.verdicts ++ one.one ∷ [];
@@ -139,12 +158,12 @@ judged-next rule table share ended n symbol_trades symbol old new next one is = 
     }
 
 -- there is room to count one symbol more
-pub room-for : (rule : Rule) (table : Bool) (share : DayShare) (ended : EndedTrades) (n : ℕ) (judged : JudgedSymbols) → n < length ended.symbols_trades.items → length ended.symbols_trades.items < 2 ^ 64 → RuleTradesFitPlaces rule share ended → IsJudgedUpTo rule table share ended n judged
+pub room-for : (rule : Rule) (table : Bool) (share : DayShare) (ended : EndedTrades) (n : ℕ) (judged : JudgedSymbols) → n < length ended.kept.items → length ended.kept.items < 2 ^ 64 → RuleTradesFitPlaces rule share ended → IsJudgedUpTo rule table share ended n judged
     → HasRoomForOne judged.counts
 room-for rule table share ended n judged lt few_parts few is =
     let before = is few.entries few.trades few.has in
     let symbols : List (List ℕ) = shared_symbols share few.entries few.trades in
-    let count : length (take n symbols) ≡ n = length-take-le n symbols (omega (arith, lt, few.has.symbols_trades_are.same_length)) in
+    let count : length (take n symbols) ≡ n = length-take-le n symbols (omega (arith, lt, few.has.records_are.same_length)) in
     let symbols_are : judged.counts.symbols ≡ length before.verdicts = ap (λ (counts : DayCounts). counts.symbols) before.counts_are in
     let accepted_are : judged.counts.accepted ≡ count_by is_acceptance before.verdicts = ap (λ (counts : DayCounts). counts.accepted) before.counts_are in
     let rejected_are : judged.counts.rejected ≡ count_by (λ (w : Verdict). not (is_acceptance w)) before.verdicts = ap (λ (counts : DayCounts). counts.rejected) before.counts_are in
@@ -155,10 +174,10 @@ room-for rule table share ended n judged lt few_parts few is =
     }
 
 -- all symbols were judged
-pub judged-all : (rule : Rule) (table : Bool) (share : DayShare) (ended : EndedTrades) (n : ℕ) (before rest : List SymbolTrades) (judged : JudgedSymbols) → before ++ rest ≡ ended.symbols_trades.items → length rest ≡ 0 → n ≡ length before
+pub judged-all : (rule : Rule) (table : Bool) (share : DayShare) (ended : EndedTrades) (n : ℕ) (before rest : List SymbolRecords) (judged : JudgedSymbols) → before ++ rest ≡ ended.kept.items → length rest ≡ 0 → n ≡ length before
     → IsJudgedUpTo rule table share ended n judged → IsJudgedShare rule table share ended judged
-judged-all rule table share ended n before rest judged symbols_trades none at is = λ entries trades has.
+judged-all rule table share ended n before rest judged all none at is = λ entries trades has.
     let symbols : List (List ℕ) = shared_symbols share entries trades in
-    let size : length before + length rest ≡ length ended.symbols_trades.items = sym (length-append before rest) ∙ ap length symbols_trades in
-    let whole : take n symbols ≡ symbols = take_all n symbols (omega (arith, size, none, at, has.symbols_trades_are.same_length)) in
+    let size : length before + length rest ≡ length ended.kept.items = sym (length-append before rest) ∙ ap length all in
+    let whole : take n symbols ≡ symbols = take_all n symbols (omega (arith, size, none, at, has.records_are.same_length)) in
     subst (λ (ss : List (List ℕ)). IsJudgedDay rule table entries trades ss judged) whole (is entries trades has)

@@ -111,7 +111,8 @@ impl JudgedSymbols {
 
 /// The verdicts of a rule on the symbols of a share, in their order: how many there are, and their
 /// lines, each with its symbol before it. `table` asks for the tables of accepted symbols. The
-/// memory of a symbol is freed before the next is judged.
+/// orders and deals of a symbol are made when it is judged, and its memory is freed before the next
+/// is judged.
 pub fn judge_day(
     alloc: Global,
     rule: Rule,
@@ -124,15 +125,18 @@ pub fn judge_day(
 {
     let EndedTrades {
         symbols,
-        symbols_trades,
+        kept,
         count,
+        seed,
+        admission,
     } = ended;
     let mut judged = JudgedSymbols::none(alloc);
     let mut share_index: usize = 0;
-    for symbol_trades in symbols_trades {
+    for symbol_records in kept {
         let Some(symbol) = share.symbol_at(&symbols, share_index) else {
             unreachable!();
         };
+        let symbol_trades = symbol_records.resolve(alloc, seed, admission)?;
         let question = Question {
             rule,
             symbol: *symbol,

@@ -2,3 +2,4 @@
 pub mod NameRowLemmas
 pub mod KeptLemmas
 pub mod TradeLemmas
+pub mod NumberedLemmas

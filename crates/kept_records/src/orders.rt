@@ -283,6 +283,13 @@ impl KeptOrders {
         append(&mut self.bytes, &mut self.orders, entry, place)
     }
 
+    /// The symbol.
+    pub fn symbol(&self) -> Name
+        ensures { result ≡ self.now.symbol }
+    {
+        self.symbol
+    }
+
     /// How many records there are.
     pub fn len(&self) -> usize
         ensures { result ≡ length self.now.entries }

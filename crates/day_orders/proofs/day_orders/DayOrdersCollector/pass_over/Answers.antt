@@ -20,5 +20,5 @@ returns g c = λ entries entry passed has.
       shared = has.shared;
       count = ap (λ (n : ℕ). n + 1) has.count ∙ sym (length-append entries (entry ∷ []));
       symbols_are = has.symbols_are ∙ sym same ∙ sym (symbols-more entries entry);
-      histories_are = outside-more g.D.AuditedShare.share c.args.self.now.histories.items entries entry outside.index got outside.outside has.histories_are;
+      histories_are = outside-more g.D.AuditedShare.share c.args.self.now.kept.items entries entry outside.index got outside.outside has.histories_are;
     }

@@ -1,13 +1,6 @@
-use Rattle.std.proofs.Common.{refl, sym, subst, ◌∙◌}
-use Rattle.record_verdict.specs.declared.scopes.Admission.{Admission}
-use Rattle.day_trades.specs.DayTrades.{AreBegun}
-use Rattle.day_trades.proofs.DayTradesLemmas.{all-few, begun-all, no-trades}
+use Rattle.std.proofs.Common.{refl, sym, ◌∙◌}
+use Rattle.day_trades.proofs.DayTradesLemmas.{begun-all, no-trades}
 use Rattle.day_trades.proofs.day_trades.DayTrades.new.Goals as goal
-
-pub begin-requires : goal.begin-requires
-begin-requires g c =
-    let orders = c.requires.orders c.requires.some.0 c.requires.some.1 in
-    all-few g.M.AuditedDay.share c.args.orders.histories.items c.requires.some.0 orders.histories_are orders.fits_indices
 
 pub returns : goal.returns
 returns g c = record {
@@ -20,7 +13,7 @@ returns g c = record {
         admits = c.requires.admission;
         count = refl;
         symbols_are = orders.symbols_are ∙ sym (no-trades entries);
-        symbols_trades_are = begun-all g.M.AuditedDay.share g.M.AuditedDay.admission c.args.orders.histories.items entries c.in_ok-symbols_trades.symbols_trades.items orders.histories_are
-            (subst (λ (admission : Admission). AreBegun admission c.args.orders.histories.items c.in_ok-symbols_trades.symbols_trades.items) c.requires.admission c.in_ok-symbols_trades.ensures);
+        records_are = begun-all g.M.AuditedDay.share c.args.orders.kept.items entries c.in_ok-kept.kept.items orders.histories_are c.in_ok-kept.ensures;
+        fits_indices = orders.fits_indices;
       };
 }

@@ -4,7 +4,7 @@ use Rattle.std.proofs.lemmas.Result.{on_ok_weaker}
 use Rattle.std.proofs.lemmas.Option.{slice_get_read}
 use Rattle.day_symbols.specs.Shares.{DayShare, is_in_share}
 use Rattle.day_symbols.specs.Symbols.{distinct_names, symbols_of_logs}
-use Rattle.day_trades.proofs.DayTradesLemmas.{has-taken, met-inside, outside-more, traded-more}
+use Rattle.day_trades.proofs.DayTradesLemmas.{has-taken, is-own, met-inside, outside-more, traded-more}
 use Rattle.day_trades.proofs.day_trades.DayTrades.take_trade.Goals as goal
 
 pub returns-then-not-has : goal.returns-then-not-has
@@ -25,16 +25,26 @@ returns-then-not-has g c = λ trades known. record {
         admits = has.admits;
         count = ap (λ (n : ℕ). n + 1) has.count ∙ sym (length-append trades (c.args.trade.now ∷ []));
         symbols_are = met ∙ sym (traded-more entries trades c.args.trade.now);
-        symbols_trades_are = outside-more g.M.AuditedDay.share g.M.AuditedDay.admission c.args.self.now.symbols_trades.items entries trades c.args.trade.now c.in_ok-index.index got outside has.symbols_trades_are;
+        records_are = outside-more g.M.AuditedDay.share c.args.self.now.kept.items entries trades c.args.trade.now c.in_ok-index.index got outside has.records_are;
+        fits_indices = has.fits_indices;
       };
 }
 
 pub index_mut-requires : goal.index_mut-requires
 index_mut-requires g c =
     let has = c.requires.has.after_each c.requires.has.entries c.requires.has.has in
-    let met = met-inside g.M.AuditedDay.share c.args.self.now.share g.M.AuditedDay.admission c.args.self.now.admission c.args.self.now.symbols_trades.items c.make_room.new.self.symbols_trades.items c.requires.has.entries c.requires.entries c.args.trade.now c.args.self.now.symbols c.meet.new.self c.in_ok-index.index c.index_in_share-share_index.result
-    has.shared has.admits has.symbols_are c.in_ok-index.ensures.meets c.in_ok-index.ensures.index (sym c.has.ensures ∙ c.if-not-has.false) c.index_in_share-share_index.ensures c.in_ok-make_room.ensures.room has.symbols_trades_are in
-    omega (arith, met.within, c.make_room.new.self.symbols_trades.ok.0)
+    let met = met-inside g.M.AuditedDay.share c.args.self.now.share c.args.self.now.kept.items c.make_room.new.self.kept.items c.requires.has.entries c.requires.entries c.args.trade.now c.args.self.now.symbols c.meet.new.self c.in_ok-index.index c.index_in_share-share_index.result
+    has.shared has.symbols_are c.in_ok-index.ensures.meets c.in_ok-index.ensures.index (sym c.has.ensures ∙ c.if-not-has.false) c.index_in_share-share_index.ensures c.in_ok-make_room.ensures.room has.records_are in
+    omega (arith, met.within, c.make_room.new.self.kept.ok.0)
+
+pub take-requires : goal.take-requires
+take-requires g c =
+    let has = c.requires.has.after_each c.requires.has.entries c.requires.has.has in
+    let met = met-inside g.M.AuditedDay.share c.args.self.now.share c.args.self.now.kept.items c.make_room.new.self.kept.items c.requires.has.entries c.requires.entries c.args.trade.now c.args.self.now.symbols c.meet.new.self c.in_ok-index.index c.index_in_share-share_index.result
+    has.shared has.symbols_are c.in_ok-index.ensures.meets c.in_ok-index.ensures.index (sym c.has.ensures ∙ c.if-not-has.false) c.index_in_share-share_index.ensures c.in_ok-make_room.ensures.room has.records_are in
+    let there : slice_get c.make_room.new.self.kept.items c.index_in_share-share_index.result ≡ Some c.index_mut.result.now =
+    slice_get_read c.make_room.new.self.kept.items (length c.make_room.new.self.kept.items) c.index_in_share-share_index.result c.index_mut.result.now refl met.within c.index_mut.ensures.value in
+    is-own g.M.AuditedDay.share c.requires.has.entries c.requires.entries c.args.trade.now c.make_room.new.self.kept.items c.in_ok-index.index c.index_in_share-share_index.result c.index_mut.result.now met there
 
 pub returns : goal.returns
 returns g c = on_ok_weaker c.take.result
@@ -43,10 +53,10 @@ returns g c = on_ok_weaker c.take.result
       has = known.has;
       after_each = λ entries may.
           let has = known.after_each entries may in
-          let met = met-inside g.M.AuditedDay.share c.args.self.now.share g.M.AuditedDay.admission c.args.self.now.admission c.args.self.now.symbols_trades.items c.make_room.new.self.symbols_trades.items entries trades c.args.trade.now c.args.self.now.symbols c.meet.new.self c.in_ok-index.index c.index_in_share-share_index.result
-          has.shared has.admits has.symbols_are c.in_ok-index.ensures.meets c.in_ok-index.ensures.index (sym c.has.ensures ∙ c.if-not-has.false) c.index_in_share-share_index.ensures c.in_ok-make_room.ensures.room has.symbols_trades_are in
-          let there : slice_get c.make_room.new.self.symbols_trades.items c.index_in_share-share_index.result ≡ Some c.index_mut.result.now =
-          slice_get_read c.make_room.new.self.symbols_trades.items (length c.make_room.new.self.symbols_trades.items) c.index_in_share-share_index.result c.index_mut.result.now refl met.within c.index_mut.ensures.value in
+          let met = met-inside g.M.AuditedDay.share c.args.self.now.share c.args.self.now.kept.items c.make_room.new.self.kept.items entries trades c.args.trade.now c.args.self.now.symbols c.meet.new.self c.in_ok-index.index c.index_in_share-share_index.result
+          has.shared has.symbols_are c.in_ok-index.ensures.meets c.in_ok-index.ensures.index (sym c.has.ensures ∙ c.if-not-has.false) c.index_in_share-share_index.ensures c.in_ok-make_room.ensures.room has.records_are in
+          let there : slice_get c.make_room.new.self.kept.items c.index_in_share-share_index.result ≡ Some c.index_mut.result.now =
+          slice_get_read c.make_room.new.self.kept.items (length c.make_room.new.self.kept.items) c.index_in_share-share_index.result c.index_mut.result.now refl met.within c.index_mut.ensures.value in
           let only = c.make_room.ensures.only in
           let counted : c.make_room.new.self.count ≡ length trades + 1 = only.count ∙ ap (λ (n : ℕ). n + 1) has.count in
           record {
@@ -54,7 +64,8 @@ returns g c = on_ok_weaker c.take.result
             admits = only.admits ∙ has.admits;
             count = counted ∙ sym (length-append trades (c.args.trade.now ∷ []));
             symbols_are = only.symbols_are ∙ c.in_ok-index.ensures.meets (symbols_of_logs entries trades) has.symbols_are ∙ sym (traded-more entries trades c.args.trade.now);
-            symbols_trades_are = has-taken g.M.AuditedDay.share g.M.AuditedDay.admission entries trades c.args.trade.now c.make_room.new.self.symbols_trades.items c.in_ok-index.index c.index_in_share-share_index.result c.make_room.new.self.count c.index_mut.result.now c.take.new.self met there counted takes;
+            records_are = has-taken g.M.AuditedDay.share entries trades c.args.trade.now c.make_room.new.self.kept.items c.in_ok-index.index c.index_in_share-share_index.result c.make_room.new.self.count c.index_mut.result.now c.take.new.self met there counted takes;
+            fits_indices = has.fits_indices;
           };
     })
     c.take.ensures

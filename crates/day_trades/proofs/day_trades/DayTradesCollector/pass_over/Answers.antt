@@ -24,6 +24,7 @@ returns g c = λ trades trade passed known. record {
         admits = has.admits;
         count = ap (λ (n : ℕ). n + 1) has.count ∙ sym (length-append trades (trade ∷ []));
         symbols_are = has.symbols_are ∙ sym same ∙ sym (traded-more entries trades trade);
-        symbols_trades_are = outside-more g.M.AuditedDay.share g.M.AuditedDay.admission c.args.self.now.symbols_trades.items entries trades trade outside.index got outside.outside has.symbols_trades_are;
+        records_are = outside-more g.M.AuditedDay.share c.args.self.now.kept.items entries trades trade outside.index got outside.outside has.records_are;
+        fits_indices = has.fits_indices;
       };
 }

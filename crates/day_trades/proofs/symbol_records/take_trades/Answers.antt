@@ -1,0 +1,17 @@
+use Rattle.std.proofs.Common.{◌≡◌, ℕ, List, length, take, subst, arith}
+use Rattle.std.proofs.lemmas.List.{take_all}
+use Rattle.audit_base.specs.declared.records.TradeRecord.{TradeRecord}
+use Rattle.day_trades.specs.SymbolRecords.{KnowsTrades}
+use Rattle.day_trades.proofs.ReplayLemmas.{no-trades-yet, trades-next}
+use Rattle.day_trades.proofs.symbol_records.take_trades.Goals as goal
+
+pub loop-index-starts : goal.loop-index-starts
+loop-index-starts c = no-trades-yet c.args.known.now
+
+pub loop-index-preserved : goal.loop-index-preserved
+loop-index-preserved c = trades-next c.args.trades.trades c.loop-index.index c.at.result.0 c.at.result.1 c.args.known.now c.loop-index.known c.take.new.self c.at.ensures c.in_ok-take.ensures c.loop-index.invariant
+
+pub returns : goal.returns
+returns c =
+    let whole : take c.loop-index.index c.args.trades.trades ≡ c.args.trades.trades = take_all c.loop-index.index c.args.trades.trades (omega arith) in
+    subst (λ (listed : List (ℕ × TradeRecord)). KnowsTrades listed c.args.known.now c.loop-index.known) whole c.loop-index.invariant
