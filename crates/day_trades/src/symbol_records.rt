@@ -21,11 +21,7 @@ pub struct SymbolRecords {
 }
 
 /// What is known of the history of a symbol after these records of it, whose memory is freed.
-fn history_of(
-    alloc: Global,
-    seed: HashSeed,
-    orders: KeptOrders,
-) -> Result<SymbolHistory, NoMemory>
+fn history_of(alloc: Global, seed: HashSeed, orders: KeptOrders) -> Result<SymbolHistory, NoMemory>
     requires { HasFewOrders orders }
     ensures { IfOk result (KnowsHistory orders.entries) }
 {

@@ -7,7 +7,8 @@
 //! trade logs and `deal_drafts` the drafts of them. `matchings` checks deals and adds them up.
 //! `shares` and `share_trades` have what is written for deals. `ranked_orders` and `extremes`
 //! have order lists by rank and with their least cuts and greatest executable volumes, `books`
-//! the orders that rest, and `generated_records` logs that are made.
+//! the orders that rest, and `generated_records` logs that are made. `kept` has records that are
+//! kept small.
 #![tactic(auto)]
 
 #[cfg(test)]
@@ -22,6 +23,8 @@ mod generated_records;
 mod histories;
 #[cfg(test)]
 mod history_drafts;
+#[cfg(test)]
+mod kept;
 #[cfg(test)]
 mod matchings;
 #[cfg(test)]

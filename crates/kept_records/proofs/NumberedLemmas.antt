@@ -1,5 +1,5 @@
 -- Members of a list, each with its number in it from 1 on, of which a test leaves some.
-use Rattle.std.proofs.Common.{◌≡◌, ◌<◌, ◌+◌, ◌∙◌, ℕ, zero, suc, Bool, true, false, Some, List, [], ◌∷◌, ◌++◌, All, cond, length, length-append, take, get_or, append-nil, refl, sym, ap, arith}
+use Rattle.std.proofs.Common.{◌≡◌, ◌<◌, ◌≤◌, ◌+◌, ◌∙◌, ℕ, zero, suc, Bool, true, false, Some, List, [], ◌∷◌, ◌++◌, All, cond, length, length-append, take, get_or, append-nil, refl, sym, ap, arith}
 use Rattle.std.specs.Prelude.{filter, map, slice_get}
 use Rattle.std.specs.List.{enumerate_from}
 use Rattle.std.proofs.lemmas.List.{get_or-take, length-take-le, take_all, take_more}
@@ -70,28 +70,36 @@ behind {X} test n y ys i p x b is rest j same = record {
       ∙ ap (λ (c : Bool). take j (cond c ((n, y) ∷ filter test (enumerate_from (n + 1) ys)) (filter test (enumerate_from (n + 1) ys)))) (sym is);
 }
 
+-- the first member is
+first-left : {X : Type 0} (test : ℕ × X → Bool) (n : ℕ) (y : X) (ys : List X) (p : ℕ) (x : X) → test (n, y) ≡ true → (n, y) ≡ (p, x) → IsLeftAt test n (y ∷ ys) zero p x
+first-left {X} test n y ys p x is pair = record {
+  count = 0;
+  within = positive;
+  at = sym (ap (λ (e : ℕ × X). e.0) pair) ∙ same;
+  passes = ap test (sym pair) ∙ is;
+  before = refl;
+}
+  where
+    positive : 0 < length (y ∷ ys)
+    positive = omega arith
+
+    same : n ≡ n + 0
+    same = omega arith
+
 left-at : {X : Type 0} (test : ℕ × X → Bool) (n : ℕ) (xs : List X) (i p : ℕ) (x : X) → slice_get (filter test (enumerate_from n xs)) i ≡ Some (p, x) → IsLeftAt test n xs i p x
 left-at test n [] i p x got = absurd (none-some (p, x) got)
-left-at {X} test n (y ∷ ys) i p x got = by-first (test (n, y)) refl i got
+left-at {X} test n (y ∷ ys) i p x got = by-first (λ j there. left-at test (n + 1) ys j p x there) (test (n, y)) refl i got
   where
     rest : List (ℕ × X)
     rest = filter test (enumerate_from (n + 1) ys)
 
-    by-first : (b : Bool) → test (n, y) ≡ b → (j : ℕ) → slice_get (cond (test (n, y)) ((n, y) ∷ rest) rest) j ≡ Some (p, x) → IsLeftAt test n (y ∷ ys) j p x
-    by-first false is j there =
-        behind test n y ys j p x false is (left-at test (n + 1) ys j p x (ap (λ (b : Bool). slice_get (cond b ((n, y) ∷ rest) rest) j) (sym is) ∙ there)) j refl
-    by-first true is (suc j) there =
-        behind test n y ys j p x true is (left-at test (n + 1) ys j p x (ap (λ (b : Bool). slice_get (cond b ((n, y) ∷ rest) rest) (suc j)) (sym is) ∙ there)) (suc j) refl
-    by-first true is zero there =
-        let same : Some (n, y) ≡ Some (p, x) = ap (λ (b : Bool). slice_get (cond b ((n, y) ∷ rest) rest) zero) (sym is) ∙ there in
-        let pair : (n, y) ≡ (p, x) = same_Some (n, y) (p, x) same in
-        record {
-          count = 0;
-          within = omega arith;
-          at = omega (arith, ap (λ (e : ℕ × X). e.0) pair);
-          passes = ap test (sym pair) ∙ is;
-          before = refl;
-        }
+    by-first : ((j : ℕ) → slice_get rest j ≡ Some (p, x) → IsLeftAt test (n + 1) ys j p x) → (b : Bool) → test (n, y) ≡ b → (j : ℕ) → slice_get (cond (test (n, y)) ((n, y) ∷ rest) rest) j ≡ Some (p, x) → IsLeftAt test n (y ∷ ys) j p x
+    by-first later false is j there =
+        behind test n y ys j p x false is (later j (ap (λ (b : Bool). slice_get (cond b ((n, y) ∷ rest) rest) j) (sym is) ∙ there)) j refl
+    by-first later true is (suc j) there =
+        behind test n y ys j p x true is (later j (ap (λ (b : Bool). slice_get (cond b ((n, y) ∷ rest) rest) (suc j)) (sym is) ∙ there)) (suc j) refl
+    by-first later true is zero there =
+        first-left test n y ys p x is (same_Some (n, y) (p, x) (ap (λ (b : Bool). slice_get (cond b ((n, y) ∷ rest) rest) zero) (sym is) ∙ there))
 
 -- the members before the one at an index of what is left, which is the next of them
 pub record ComesAfter {X : Type 0} (test : ℕ × X → Bool) (listed : List (ℕ × X)) (i p : ℕ) (x : X) : Type 0 where
@@ -129,10 +137,11 @@ comes-within {X} test xs i p x got =
     }
 
 -- the same of a list of which the first ones are left, up to this one
-take-twice : {X : Type 0} (i : ℕ) (xs : List X) → take i (take (i + 1) xs) ≡ take i xs
-take-twice zero xs = refl
-take-twice (suc i) [] = refl
-take-twice {X} (suc i) (x ∷ xs) = ap (λ (ys : List X). x ∷ ys) (take-twice i xs)
+take-twice : {X : Type 0} (i n : ℕ) (xs : List X) → i ≤ n → take i (take n xs) ≡ take i xs
+take-twice zero n xs le = refl
+take-twice (suc i) zero xs le = absurd (omega (arith, le))
+take-twice (suc i) (suc n) [] le = refl
+take-twice {X} (suc i) (suc n) (x ∷ xs) le = ap (λ (ys : List X). x ∷ ys) (take-twice i n xs (omega (arith, le)))
 
 pub comes-last : {X : Type 0} (test : ℕ × X → Bool) (xs : List X) (listed : List (ℕ × X)) (i p : ℕ) (x : X) → left_of test xs ≡ take (i + 1) listed → slice_get listed i ≡ Some (p, x) → ComesAfter test listed i p x
 comes-last {X} test xs listed i p x are got =
@@ -145,6 +154,6 @@ comes-last {X} test xs listed i p x are got =
       front = it.front;
       at = it.at;
       passes = it.passes;
-      before = it.before ∙ ap (take i) are ∙ take-twice i listed;
+      before = it.before ∙ ap (take i) are ∙ take-twice i (i + 1) listed (omega arith);
       after = it.after ∙ ap (take (i + 1)) are ∙ take_all (i + 1) (take (i + 1) listed) (omega (arith, size));
     }

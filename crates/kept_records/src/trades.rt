@@ -168,6 +168,13 @@ impl KeptTrades {
         append(&mut self.bytes, &mut self.trades, trade, place)
     }
 
+    /// The symbol.
+    pub fn symbol(&self) -> Name
+        ensures { result ≡ self.now.symbol }
+    {
+        self.symbol
+    }
+
     /// How many trades there are.
     pub fn len(&self) -> usize
         ensures { result ≡ length self.now.trades }
