@@ -71,7 +71,7 @@ behind {X} test n y ys i p x b is rest j same = record {
 }
 
 -- the first member is
-first-left : {X : Type 0} (test : ℕ × X → Bool) (n : ℕ) (y : X) (ys : List X) (p : ℕ) (x : X) → test (n, y) ≡ true → (n, y) ≡ (p, x) → IsLeftAt test n (y ∷ ys) zero p x
+first-left : {X : Type 0} (test : ℕ × X → Bool) (n : ℕ) (y : X) (ys : List X) (p : ℕ) (x : X) → test (n, y) ≡ true → ◌≡◌ {A = ℕ × X} (n, y) (p, x) → IsLeftAt test n (y ∷ ys) zero p x
 first-left {X} test n y ys p x is pair = record {
   count = 0;
   within = positive;
