@@ -9,6 +9,7 @@ use Rattle.audit_base.specs.Orders.{same_name}
 use Rattle.audit_base.specs.Trades.{trades_of_symbol}
 use Rattle.instruction_history.specs.declared.symbol_history.SymbolHistory.{SymbolHistory}
 use Rattle.instruction_history.specs.Draft.{IsHistoryKnown}
+use Rattle.instruction_history.specs.Flaws.{flaw_finding}
 use Rattle.instruction_history.specs.SymbolHistory.{ForRecords, HasFewRecords, IsSymbolHistory, TakesOwnRecord}
 use Rattle.kept_records.specs.KeptOrders.{KeptEntries}
 use Rattle.kept_records.specs.KeptTrades.{KeptDeals}
@@ -34,7 +35,7 @@ trade_of symbol e = same_name e.1.symbol symbol
 -- it is known by the records of the symbol alone
 same-history : (symbol : List ℕ) (xs ys : List OrderRecord) (known : SymbolHistory) → history symbol xs ≡ history symbol ys → IsSymbolHistory symbol known xs → IsSymbolHistory symbol known ys
 same-history symbol xs ys known same is = record {
-  known = subst (λ (records : List (ℕ × OrderRecord)). IsHistoryKnown records _ _) same is.known;
+  known = subst (λ (records : List (ℕ × OrderRecord)). IsHistoryKnown records known.so_far (flaw_finding known.flaw)) same is.known;
   alone = is.alone;
 }
 
@@ -69,7 +70,7 @@ few-after orders known few knows = record {
 
 same-deals : (orders : List Order) (symbol : List ℕ) (xs ys : List TradeRecord) (deals : SymbolDeals) → trades_of_symbol symbol xs ≡ trades_of_symbol symbol ys → IsSymbolDeals orders symbol deals xs → IsSymbolDeals orders symbol deals ys
 same-deals orders symbol xs ys deals same is = record {
-  known = subst (λ (listed : List (ℕ × TradeRecord)). AreTradesKnown orders listed _ _) same is.known;
+  known = subst (λ (listed : List (ℕ × TradeRecord)). AreTradesKnown orders listed deals.sound (flaw_finding deals.flaw)) same is.known;
   alone = is.alone;
 }
 

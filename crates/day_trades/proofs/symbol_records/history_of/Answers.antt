@@ -5,14 +5,14 @@ use Rattle.day_trades.specs.SymbolRecords.{KnowsHistory}
 use Rattle.day_trades.proofs.ReplayLemmas.{few-before, history-next, no-history}
 use Rattle.day_trades.proofs.symbol_records.history_of.Goals as goal
 
-pub loop-index-starts : goal.loop-index-starts
-loop-index-starts c = no-history c.new-history.result c.new-history.ensures
+pub loop-index-init : goal.loop-index-init
+loop-index-init c = no-history c.new-history.result c.new-history.ensures
 
 pub take-requires : goal.take-requires
-take-requires c = few-before c.args.orders c.loop-index.index c.at.result.0 c.at.result.1 c.loop-index.history c.requires c.at.ensures c.loop-index.invariant
+take-requires c = few-before c.args.orders c.loop-index.index c.at-place.result.0 c.at-place.result.1 c.loop-index.history c.requires c.at-place.ensures c.loop-index.invariant
 
 pub loop-index-preserved : goal.loop-index-preserved
-loop-index-preserved c = history-next c.args.orders.entries c.loop-index.index c.at.result.0 c.at.result.1 c.loop-index.history c.take.new.self c.at.ensures c.in_ok-take.ensures c.loop-index.invariant
+loop-index-preserved c = history-next c.args.orders.entries c.loop-index.index c.at-place.result.0 c.at-place.result.1 c.loop-index.history c.take.new.self c.at-place.ensures c.in_ok-take.ensures c.loop-index.invariant
 
 pub returns : goal.returns
 returns c =

@@ -5,11 +5,11 @@ use Rattle.day_trades.specs.SymbolRecords.{KnowsTrades}
 use Rattle.day_trades.proofs.ReplayLemmas.{no-trades-yet, trades-next}
 use Rattle.day_trades.proofs.symbol_records.take_trades.Goals as goal
 
-pub loop-index-starts : goal.loop-index-starts
-loop-index-starts c = no-trades-yet c.args.known.now
+pub loop-index-init : goal.loop-index-init
+loop-index-init c = no-trades-yet c.args.known.now
 
 pub loop-index-preserved : goal.loop-index-preserved
-loop-index-preserved c = trades-next c.args.trades.trades c.loop-index.index c.at.result.0 c.at.result.1 c.args.known.now c.loop-index.known c.take.new.self c.at.ensures c.in_ok-take.ensures c.loop-index.invariant
+loop-index-preserved c = trades-next c.args.trades.trades c.loop-index.index c.at-place.result.0 c.at-place.result.1 c.args.known.now c.loop-index.known c.take.new.self c.at-place.ensures c.in_ok-take.ensures c.loop-index.invariant
 
 pub returns : goal.returns
 returns c =
