@@ -76,8 +76,9 @@ pub enum DeskRequest {
 ///
 /// RULE, FORM and PHASES are those of `read_words` of `command_words`. K/N is two decimal
 /// numbers without leading zeros, joined by `/`, where K is from 1 to N, and N at most 65,536.
-/// DAY is a path, and TEXT has 1 to 5 bytes from 0x21 to 0x7E. `Usage` comes exactly where the words are not well-formed, and takes no memory. `Memory`
-/// comes only where they are, and there was not enough.
+/// DAY is a path, and TEXT has 1 to 5 bytes from 0x21 to 0x7E. `Usage` comes exactly where the
+/// words are not well-formed, and takes no memory. `Memory` comes only where they are, and there
+/// was not enough.
 pub fn read_desk_words(alloc: Global, words: &[String]) -> Result<DeskRequest, WordsFault>
     ensures request { IfOk result
         (λ request. spec.desk_request_of (map string_bytes words.now) ≡ Some request) }

@@ -292,40 +292,65 @@ impl RowDress {
     }
 }
 
-/// Lines that ask for the plain log of the day `d`, and how it is dressed.
-const PLAINS: [(&str, RowDress); 9] = [
-    ("plain d", RowDress::Framed),
-    ("plain d --lines", RowDress::OnLines(None)),
-    ("plain d --lines --soh |", RowDress::OnLines(Some("|"))),
-    ("plain d --soh ^A --lines", RowDress::OnLines(Some("^A"))),
-    (
-        "plain d --lines --soh <SOH>",
-        RowDress::OnLines(Some("<SOH>")),
-    ),
-    (
-        "plain d --lines --soh \\x01",
-        RowDress::OnLines(Some("\\x01")),
-    ),
-    ("plain d --lines --soh !~", RowDress::OnLines(Some("!~"))),
+/// A line that asks for the plain log of the day `d`, and how that is dressed.
+struct PlainRow {
+    line: &'static str,
+    dress: RowDress,
+}
+
+const PLAINS: [PlainRow; 9] = [
+    PlainRow {
+        line: "plain d",
+        dress: RowDress::Framed,
+    },
+    PlainRow {
+        line: "plain d --lines",
+        dress: RowDress::OnLines(None),
+    },
+    PlainRow {
+        line: "plain d --lines --soh |",
+        dress: RowDress::OnLines(Some("|")),
+    },
+    PlainRow {
+        line: "plain d --soh ^A --lines",
+        dress: RowDress::OnLines(Some("^A")),
+    },
+    PlainRow {
+        line: "plain d --lines --soh <SOH>",
+        dress: RowDress::OnLines(Some("<SOH>")),
+    },
+    PlainRow {
+        line: "plain d --lines --soh \\x01",
+        dress: RowDress::OnLines(Some("\\x01")),
+    },
+    PlainRow {
+        line: "plain d --lines --soh !~",
+        dress: RowDress::OnLines(Some("!~")),
+    },
     // The value of an option is the next word, whatever it is.
-    (
-        "plain d --lines --soh --soh",
-        RowDress::OnLines(Some("--soh")),
-    ),
-    (
-        "plain d --soh --soh --lines",
-        RowDress::OnLines(Some("--soh")),
-    ),
+    PlainRow {
+        line: "plain d --lines --soh --soh",
+        dress: RowDress::OnLines(Some("--soh")),
+    },
+    PlainRow {
+        line: "plain d --soh --soh --lines",
+        dress: RowDress::OnLines(Some("--soh")),
+    },
 ];
 
-fn check_plains(alloc: Global, rows: &[(&str, RowDress)]) -> Result<(), RowFault> {
-    for (line, wanted) in rows {
-        let words = words_of(alloc, line)?;
-        let holds = match read_desk_words(alloc, &words) {
-            Ok(DeskRequest::Plain { day, dress }) => day.as_str() == "d" && wanted.is(&dress),
-            _ => false,
-        };
-        check_row(alloc, line, holds)?;
+/// Whether the plain log of the row's day is asked for.
+fn is_plain_of(row: &PlainRow, asked: &Result<DeskRequest, WordsFault>) -> bool {
+    match asked {
+        Ok(DeskRequest::Plain { day, dress }) => day.as_str() == "d" && row.dress.is(dress),
+        _ => false,
+    }
+}
+
+fn check_plains(alloc: Global, rows: &[PlainRow]) -> Result<(), RowFault> {
+    for row in rows {
+        let words = words_of(alloc, row.line)?;
+        let asked = read_desk_words(alloc, &words);
+        check_row(alloc, row.line, is_plain_of(row, &asked))?;
     }
     Ok(())
 }
@@ -362,14 +387,19 @@ const CONTENTS: [DayRow; 4] = [
     },
 ];
 
+/// Whether the contents of the row's logs are asked for.
+fn are_contents_of(row: &DayRow, asked: &Result<DeskRequest, WordsFault>) -> bool {
+    match asked {
+        Ok(DeskRequest::Contents { logs }) => row.has_logs(logs),
+        _ => false,
+    }
+}
+
 fn check_contents(alloc: Global, rows: &[DayRow]) -> Result<(), RowFault> {
     for row in rows {
         let words = words_of(alloc, row.line)?;
-        let holds = match read_desk_words(alloc, &words) {
-            Ok(DeskRequest::Contents { logs }) => row.has_logs(&logs),
-            _ => false,
-        };
-        check_row(alloc, row.line, holds)?;
+        let asked = read_desk_words(alloc, &words);
+        check_row(alloc, row.line, are_contents_of(row, &asked))?;
     }
     Ok(())
 }

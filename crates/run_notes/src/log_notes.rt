@@ -42,6 +42,18 @@ fn log_named(word: &str) -> Option<Which> {
     }
 }
 
+/// The last of these lines. Before the line of a fault a command may have written others, of any
+/// bytes.
+fn last_line(text: &[u8]) -> &[u8] {
+    let mut start = 0;
+    for index in 1..text.len() {
+        if text[index - 1] == b'\n' {
+            start = index;
+        }
+    }
+    &text[start..]
+}
+
 /// Says what is wrong with the log that a line of a fault names:
 /// `malformed,LOG,PLACE,OFFSET,REASON`, `readfault,LOG` or `toolong,LOG`. Of any other line it
 /// says nothing.
@@ -62,7 +74,7 @@ fn print_fault_within<F: Shelf>(
     shelf: &NotedShelf<F>,
     line: &[u8],
 ) {
-    let Ok(text) = str::from_utf8(line) else {
+    let Ok(text) = str::from_utf8(last_line(line)) else {
         return;
     };
     let mut parts = text.trim_end().split(',');

@@ -22,6 +22,10 @@ const DAY_SESSION: [Part; 3] = [Part::Phases, Part::Path, Part::Path];
 
 const DIGEST: [Part; 2] = [Part::Path, Part::Path];
 
+const PLAIN: [Part; 1] = [Part::Path];
+
+const CONTENTS: [Part; 2] = [Part::Path, Part::Path];
+
 const FILE: [Part; 6] = [
     Part::Label,
     Part::Rule,
@@ -37,7 +41,7 @@ const SHOW: [Part; 1] = [Part::Label];
 
 const AUDITOR_COMMANDS: &str = "audit, expect, convert, generate, certify, verify, session";
 
-const DESK_COMMANDS: &str = "audit, session, digest, help";
+const DESK_COMMANDS: &str = "audit, session, digest, plain, contents, help";
 
 const CASEBOOK_COMMANDS: &str = "file, list, show";
 
@@ -105,6 +109,10 @@ fn desk_parts(command: &str) -> Option<&'static [Part]> {
         Some(&DAY_SESSION)
     } else if command == "digest" {
         Some(&DIGEST)
+    } else if command == "plain" {
+        Some(&PLAIN)
+    } else if command == "contents" {
+        Some(&CONTENTS)
     } else {
         None
     }
