@@ -22,7 +22,12 @@ type Trade = (&'static str, [&'static str; 4], u64, u32);
 
 const TRADES: [Trade; 3] = [
     ("T1", ["A", "b1", "LONGER", "s1"], 1, 1),
-    ("trade2", ["BROKER", "b", "B", "sell22"], 1_000_000_000_000, 8),
+    (
+        "trade2",
+        ["BROKER", "b", "B", "sell22"],
+        1_000_000_000_000,
+        8,
+    ),
     ("3", ["A", "b333", "A", "s"], 7, 4_000_000_000),
 ];
 
