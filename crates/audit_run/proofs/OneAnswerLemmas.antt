@@ -1,7 +1,6 @@
 -- A request and its logs have one answer.
-use Rattle.std.proofs.Common.{◌≡◌, ◌<◌, ◌⊎◌, ◌∙◌, sym, ap, refl, subst, ℕ, Bool, false, List, [], ◌∷◌, ◌++◌, length, Option, None, Some, Result, Ok, Err, arith, inl, inr}
+use Rattle.std.proofs.Common.{◌≡◌, ◌∙◌, sym, ap, refl, subst, ℕ, Bool, false, List, ◌++◌, length, Option, None, Some, Result, Ok, Err, inl, inr}
 use Rattle.std.specs.Prelude.{IfOk, IsSomeAnd, MatchOption, MatchResult}
-use Rattle.std.proofs.lemmas.Grind.{same_number_lists}
 use Rattle.audit_base.specs.declared.faults.BadPlace.{BadPlace}
 use Rattle.audit_base.specs.declared.findings.Finding.{Finding}
 use Rattle.audit_base.specs.declared.orders.Deal.{Deal}
@@ -17,14 +16,10 @@ use Rattle.audit_base.specs.declared.terms.Which.TheVariants.{Orders, Trades}
 use Rattle.audit_base.specs.Bounds.{IsBoundPrice}
 use Rattle.audit_base.specs.Deals.{volume}
 use Rattle.audit_base.specs.Expected.{trades_of_deals}
-use Rattle.audit_base.specs.Histories.{history_finding, order_list}
-use Rattle.audit_base.specs.Least.{first_answer}
+use Rattle.audit_base.specs.Histories.{order_list}
 use Rattle.audit_base.specs.RuleKinds.{rule_of_volume, volume_rule}
-use Rattle.audit_base.specs.Trades.{TradesInRange, deals_of_symbol, trades_finding}
-use Rattle.audit_base.specs.Verdicts.{paired_trades, pairing_finding}
-use Rattle.audit_base.proofs.HistoryLemmas.{order_list-rising}
-use Rattle.audit_base.proofs.LeastLemmas.{option_or-parts}
-use Rattle.audit_base.proofs.TradeLemmas.{deals-ranges, sound-names}
+use Rattle.audit_base.specs.Trades.{TradesInRange, deals_of_symbol}
+use Rattle.audit_base.specs.Verdicts.{paired_trades}
 use Rattle.audit_base.proofs.VerdictLemmas.{one-bound}
 use Rattle.audit_certificate.specs.Agreement.{IsCertificate, IsCertificateUnder}
 use Rattle.audit_certificate.specs.OneAnswer.{AgreedRuleIsOne, CertificateIsOne, FirstRefusedIsOne}
@@ -45,11 +40,10 @@ use Rattle.log_verdict.specs.LogVerdicts.{HaveRecords, Log, OfLogs, log_in, reco
 use Rattle.log_verdict.specs.Ranges.{TradeLogsAreInRange}
 use Rattle.record_verdict.specs.declared.questions.Question.{Question}
 use Rattle.record_verdict.specs.RecordVerdicts.{question}
-use Rattle.record_verdict.specs.Scopes.{call_scope, finding_before_rule_in_scope, session_scope, unadmitted_order_finding}
+use Rattle.record_verdict.specs.Scopes.{call_scope, finding_before_rule_in_scope}
 use Rattle.session_audit.specs.declared.phases.Phase.{Phase}
-use Rattle.session_audit.specs.OneOffence.{DayOffenceIsOne}
-use Rattle.session_audit.specs.Texts.{day_text}
-use Rattle.session_verdict.specs.Sessions.{session_status, IsRejectedSession, IsSessionOfDeals, IsSessionOfRecords, IsSessionText}
+use Rattle.session_verdict.specs.Laws.{SessionIsOne}
+use Rattle.session_verdict.specs.Sessions.{session_status}
 use Rattle.verdict_laws.specs.Histories.{ExpectedTradesAreOne}
 use Rattle.command_run.specs.Laws.{CallsAgree}
 use Rattle.command_words.specs.declared.requests.Request.{Request}
@@ -67,7 +61,7 @@ pub record Laws : Type 0 where
   pub certificate : CertificateIsOne
   pub agreed : AgreedRuleIsOne
   pub refused : FirstRefusedIsOne
-  pub day : DayOffenceIsOne
+  pub session : SessionIsOne
   pub expected : ExpectedTradesAreOne
   pub ranges : TradeLogsAreInRange
 
@@ -185,57 +179,11 @@ module _ (laws : Laws) where
       (λ log bad. refused-one (Malformed log bad) s t a b) x y
 
   -- `session`
-  session-text-one : (symbol : List ℕ) (phases : List Phase) (table : Bool) (orders : List Order) (deals : List Deal) (a b : List ℕ) → IsSessionText symbol phases table orders deals a → IsSessionText symbol phases table orders deals b → a ≡ b
-  session-text-one symbol phases table orders deals a b x y =
-      let of_x = x.conforms.totals_are in
-      let of_y = y.conforms.totals_are in
-      let listed : x.totals.0 ≡ y.totals.0 = same_number_lists x.totals.0 y.totals.0 (of_x.count ∙ sym of_y.count) (λ i lt.
-      let inside : i < length orders = let count = of_x.count in omega (arith, lt, count) in of_x.each i inside ∙ sym (of_y.each i inside)) in
-      let whole : x.totals.1 ≡ y.totals.1 = x.conforms.volume_is ∙ sym y.conforms.volume_is in
-      x.text_is ∙ (λ i. day_text symbol phases orders (listed i, whole i) (length deals) table) ∙ sym y.text_is
-
-  module _ (symbol : List ℕ) (phases : List Phase) (table : Bool) (entries : List OrderRecord) (paired : Result (List TradeRecord) Finding) (ranges : TradesInRange (paired_trades paired))
-      (c d : Bool) (a b : List ℕ) where
-    abbrev history : List Order
-    history = order_list symbol entries
-
-    abbrev deals : List Deal
-    deals = deals_of_symbol history symbol (paired_trades paired)
-
-    abbrev count : ℕ
-    count = length (paired_trades paired)
-
-    sound : finding_before_rule_in_scope (session_scope symbol) entries paired ≡ None → trades_finding history symbol (paired_trades paired) ≡ None
-    sound none =
-        let last = trades_finding history symbol (paired_trades paired) in
-        let admitted = unadmitted_order_finding (session_scope symbol).admission history in
-        let first = option_or-parts (history_finding symbol entries) (first_answer (admitted ∷ pairing_finding paired ∷ last ∷ [])) none in
-        let second = option_or-parts admitted (first_answer (pairing_finding paired ∷ last ∷ [])) first.1 in
-        let third = option_or-parts (pairing_finding paired) (first_answer (last ∷ [])) second.1 in
-        (option_or-parts last None third.1).0
-
-    rejected-one : (finding : Finding) → IsRejectedSession (Rejected finding) c a → IsRejectedSession (Rejected finding) d b → (c ≡ d) × (a ≡ b)
-    rejected-one finding x y = (x.conforms_is ∙ sym y.conforms_is, x.text_is ∙ sym y.text_is)
-
-    judged-one : finding_before_rule_in_scope (session_scope symbol) entries paired ≡ None → IsSessionOfDeals symbol phases table history deals count c a → IsSessionOfDeals symbol phases table history deals count d b → (c ≡ d) × (a ≡ b)
-    judged-one none (inl x) (inl y) = (x.conforms_is ∙ sym y.conforms_is, session-text-one symbol phases table history deals a b x.is y.is)
-    judged-one none (inl x) (inr y) = absurd (y.broken.fails x.is.conforms.conforms)
-    judged-one none (inr x) (inl y) = absurd (x.broken.fails y.is.conforms.conforms)
-    judged-one none (inr x) (inr y) =
-        let same = laws.day phases history deals count x.finding y.finding (order_list-rising symbol entries) (sound-names history symbol (paired_trades paired) (sound none))
-        (deals-ranges history symbol (paired_trades paired) ranges) x.broken.offence y.broken.offence in
-        rejected-one y.finding (subst (λ (f : Finding). IsRejectedSession (Rejected f) c a) same x.is) y.is
-
-    session-of-records-one : IsSessionOfRecords symbol phases table entries paired c a → IsSessionOfRecords symbol phases table entries paired d b → (c ≡ d) × (a ≡ b)
-    session-of-records-one x y = by-option (finding_before_rule_in_scope (session_scope symbol) entries paired) (IsSessionOfDeals symbol phases table history deals count c a) (IsSessionOfDeals symbol phases table history deals count d b)
-        (λ finding. IsRejectedSession (Rejected finding) c a) (λ finding. IsRejectedSession (Rejected finding) d b) ((c ≡ d) × (a ≡ b))
-        judged-one rejected-one x y
-
   session-answer-one : (symbol : List ℕ) (phases : List Phase) (table : Bool) (entries : List OrderRecord) (paired : Result (List TradeRecord) Finding) → TradesInRange (paired_trades paired) → (s t : Status) (a b : List ℕ)
       → IsSessionAnswerToRecords symbol phases table entries paired s a → IsSessionAnswerToRecords symbol phases table entries paired t b → Same s t a b
   session-answer-one symbol phases table entries paired ranges s t a b x y =
-      let same = session-of-records-one symbol phases table entries paired ranges x.conforms y.conforms a b x.is y.is in
-      (x.status_is ∙ ap session_status same.0 ∙ sym y.status_is, same.1)
+      let same = laws.session symbol phases table entries paired x.conforms y.conforms a b ranges x.is y.is in
+      (x.status_is ∙ ap session_status same.conforms_same ∙ sym y.status_is, same.text_same)
 
   session-one : (symbol : List ℕ) (phases : List Phase) (table : Bool) (orders trades : Log) (s t : Status) (a b : List ℕ) → IsSessionAnswer symbol phases table orders trades s a → IsSessionAnswer symbol phases table orders trades t b → Same s t a b
   session-one symbol phases table orders trades s t a b x y =

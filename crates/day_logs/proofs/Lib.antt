@@ -1,4 +1,4 @@
 mod JoinLemmas
 mod TradeLogLemmas
 pub mod AnswerLemmas
-mod LawLemmas
+pub mod LawLemmas

@@ -1,2 +1,3 @@
 mod SessionSteps
 mod SessionAnswerLemmas
+mod LawLemmas

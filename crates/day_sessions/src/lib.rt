@@ -4,4 +4,5 @@
 
 pub mod answers;
 pub mod judged_sessions;
+pub mod laws;
 pub mod symbol_sessions;

@@ -1,2 +1,3 @@
--- What a reader must believe: the session of one symbol.
+-- What a reader must believe: the session of one symbol, and that it is one.
 pub mod Sessions
+pub mod Laws

@@ -5,4 +5,5 @@
 //! logs of a whole day are read elsewhere, and both are judged by `sessions::session_after`.
 #![tactic(auto)]
 
+pub mod laws;
 pub mod sessions;

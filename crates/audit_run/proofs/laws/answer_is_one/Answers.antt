@@ -7,7 +7,7 @@ returns c = answer-is-one (record {
   certificate = c.one_certificate.ensures;
   agreed = c.one_answer_for_a_text.ensures.rule;
   refused = c.one_answer_for_a_text.ensures.line;
-  day = c.one_day_offence.ensures;
+  session = c.one_session.ensures;
   expected = c.expected_trades_are_one.ensures;
   ranges = c.records_are_in_range.ensures.trades;
 })
