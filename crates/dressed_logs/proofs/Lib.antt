@@ -5,8 +5,11 @@ pub mod StartLemmas
 pub mod UniqueLemmas
 pub mod LogLemmas
 pub mod UndressLemmas
+pub mod RunLemmas
 pub mod SearchLemmas
 pub mod LookLemmas
 pub mod LineLemmas
 pub mod LineUniqueLemmas
 pub mod LineSomeLemmas
+pub mod FrontLemmas
+pub mod LineFrontLemmas

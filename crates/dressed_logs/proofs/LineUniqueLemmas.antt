@@ -129,14 +129,14 @@ module _ (soh : List ℕ) (some : 0 < length soh) where
   ]
 
   -- no message is at the first beginning of what is left
-  abbrev IsStuck : List ℕ → Type 0
+  abbrev pub IsStuck : List ℕ → Type 0
   IsStuck left = (before from body rest : List ℕ) → FirstBeginning left before from → BeginsWithMessage soh from body rest → ⊥
 
-  none-stuck : (left : List ℕ) → HasNoBeginningBelow left (length left) → IsStuck left
+  pub none-stuck : (left : List ℕ) → HasNoBeginningBelow left (length left) → IsStuck left
   none-stuck left none before from body rest first message =
       let six = beginning-six left (length before) first.is in false≢true (sym (none (length before) (omega (arith, six))) ∙ first.is)
 
-  fault-stuck : (left before from : List ℕ) (fault : FrameFault) → FirstBeginning left before from → BeginsWithFault soh from fault → IsStuck left
+  pub fault-stuck : (left before from : List ℕ) (fault : FrameFault) → FirstBeginning left before from → BeginsWithFault soh from fault → IsStuck left
   fault-stuck left before from fault first fails other its body rest it message =
       no-fault from body rest fault (subst (λ (t : List ℕ). BeginsWithMessage soh t body rest) (sym (same-first left before from other its first it)) message) fails
 

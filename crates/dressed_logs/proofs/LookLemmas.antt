@@ -3,7 +3,7 @@ use Rattle.std.proofs.Common.{◌≡◌, ◌≢◌, ℕ, zero, suc, ◌+◌, ◌
 use Rattle.std.specs.Prelude.{MatchOption, nat_eq}
 use Rattle.std.specs.List.{list_all, slice_range, starts_with}
 use Rattle.std.proofs.lemmas.Bool.{and_from, and_parts, cases_Bool}
-use Rattle.std.proofs.lemmas.List.{length-append, length-take-le}
+use Rattle.std.proofs.lemmas.List.{length-append, length-take-le, take_all}
 use Rattle.std.proofs.lemmas.List.Folds.{list_all-append}
 use Rattle.fix_framing.proofs.PrefixLemmas.{split-at}
 use Rattle.fix_framing.specs.Headers.{any_version}
@@ -15,7 +15,7 @@ use Rattle.fix_framing.proofs.StayLemmas.{fault-stays, Truncated-bound}
 use Rattle.dressed_logs.specs.declared.undressing.Reached.{Reached}
 use Rattle.dressed_logs.specs.declared.undressing.Reached.TheVariants as why
 use Rattle.dressed_logs.specs.Lines.{BeginsWithFault, ends_line, HasNoLineEnd, IsUnit, StandFor}
-use Rattle.dressed_logs.specs.Looks.{IsMessageAt, LookSays, NeedsMore, refusal}
+use Rattle.dressed_logs.specs.Looks.{EndsFront, IsMessageAt, LookSays, NeedsMore, refusal}
 use Rattle.dressed_logs.specs.Undressings.{IsReached, IsUndressed, MayFollow, Undressed}
 use Rattle.dressed_logs.proofs.TextLemmas.{any-headers, frame-nine}
 use Rattle.dressed_logs.proofs.UndressLemmas.{stand-on}
@@ -86,13 +86,12 @@ stands-some soh some none (suc n) (byte ∷ line) later few ends = elim (cases_B
 
 -- the message is there
 pub message-at : (soh held : List ℕ) (place : ℕ) (ended : Bool) (to : ℕ) (message : List ℕ) (frame : Frame) (end : ℕ) → 0 < length soh → IsUndressed soh held place ended to message → IsFrameAt any_version message 0 frame
-    → ((more : List ℕ) (to : ℕ) (bytes : List ℕ) → frame.end ≤ length bytes → Undressed soh held place more to bytes → Undressed soh held place more end (take frame.end bytes))
-    → IsMessageAt soh held place ended message frame.body (frame.end - 7) end
+    → EndsFront soh held place message to frame.end end → IsMessageAt soh held place ended message frame.body (frame.end - 7) end
 message-at soh held place ended to message frame end some undressed is after =
     let before = is.before in
     let within = is.within in
     let none : MayFollow ended [] = λ e. refl in
-    let here = after [] to message is.within (undressed [] none) in
+    let here = after [] (undressed [] none) in
     let size = stand-size soh here.raw (drop end held ++ []) (take frame.end message) some here.stands in
     let taken = length-take-le frame.end message is.within in
     let nine = frame-nine (slice_range message frame.start frame.end) (slice_range message frame.body (frame.end - 7)) is.message in
@@ -106,7 +105,7 @@ message-at soh held place ended to message frame end some undressed is after =
       later = omega (arith, reaches, size, taken, nine, nine_taken);
       within = here.inside;
       each = λ more follows.
-          let there = after more to message is.within (undressed more follows) in
+          let there = after more (undressed more follows) in
           record {
             raw = there.raw;
             cut = ap (λ (t : List ℕ). t ++ more) there.cut ∙ append_assoc there.raw (drop end held) more;
@@ -116,6 +115,11 @@ message-at soh held place ended to message frame end some undressed is after =
             message = subst (λ (t : List ℕ). IsFrameWith any_version t (slice_range message frame.body (frame.end - 7))) same is.message;
           };
     }
+
+-- all bytes
+pub ends-all : (soh held : List ℕ) (place : ℕ) (message : List ℕ) (to count : ℕ) → count ≡ length message → EndsFront soh held place message to count to
+ends-all soh held place message to count all = λ more undressed.
+    subst (Undressed soh held place more to) (sym (take_all count message (omega (arith, all)))) undressed
 
 -- a fault that stays
 pub fault-line : (soh held : List ℕ) (place : ℕ) (ended : Bool) (to : ℕ) (message : List ℕ) (fault : FrameFault) → 0 < length soh → HasNoLineEnd soh → IsUndressed soh held place ended to message → frame_fault_with any_version message ≡ Some fault → fault ≢ faults.Truncated

@@ -23,7 +23,7 @@ use Rattle.dressed_logs.specs.Messages.{AreMessageFields, HasNoBadMessage, HasRe
 use Rattle.dressed_logs.proofs.TextLemmas.{any-headers, begins-past, framed-nine, split-breaks}
 
 -- the bytes fed are those that are framed and those that aren't
-fed-cut : (framer : Framer AnyVersion) (text : List ℕ) (frames : List (List ℕ)) → IsFramerWith any_version framer text frames → text ≡ take (count_framed framer) text ++ bytes_unframed framer
+pub fed-cut : (framer : Framer AnyVersion) (text : List ℕ) (frames : List (List ℕ)) → IsFramerWith any_version framer text frames → text ≡ take (count_framed framer) text ++ bytes_unframed framer
 fed-cut framer text frames stands =
     let rest : drop (framer.base + framer.next) text ≡ bytes_unframed framer =
     sym (drop-drop framer.next framer.base text) ∙ ap (λ (t : List ℕ). drop framer.next (drop framer.base t)) stands.whole
@@ -34,7 +34,7 @@ fed-cut framer text frames stands =
 abbrev bad_after : ℕ → List (List ℕ) → ℕ → FrameFault → BadMessage
 bad_after start frames at fault = record { place = length frames + 1; offset = start + at; fault = fault }
 
-length-bodies : (frames : List (List ℕ)) → length (bodies_of frames) ≡ length frames
+pub length-bodies : (frames : List (List ℕ)) → length (bodies_of frames) ≡ length frames
 length-bodies [] = refl
 length-bodies (frame ∷ frames) = let h = length-bodies frames in omega (arith, h)
 

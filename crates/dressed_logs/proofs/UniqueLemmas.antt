@@ -74,7 +74,7 @@ pub fault-stuck : (left : List ℕ) (fault : FrameFault) → begins_past_breaks 
 fault-stuck left fault past fails = record { still = past-still left past; none = λ is. cc (sym is ∙ fails) }
 
 -- a message is not left
-not-left : (left frame body more : List ℕ) → IsStuck left → IsFrameWith any_version frame body → after_breaks left ≡ after_breaks (frame ++ more) → ⊥
+pub not-left : (left frame body more : List ℕ) → IsStuck left → IsFrameWith any_version frame body → after_breaks left ≡ after_breaks (frame ++ more) → ⊥
 not-left left frame body more stuck is same =
     let whole : left ≡ frame ++ more = sym stuck.still ∙ same ∙ frame-still frame body more is in
     stuck.none (ap (frame_fault_with any_version) whole ∙ IsFrameWith-no_fault any_version frame body more any-headers is)
@@ -119,7 +119,7 @@ module _ (start : ℕ) (text : List ℕ) where
       let same = same-frames is.frames its.frames text [] text [] is.framed its.framed refl nothing-stuck nothing-stuck in
       is.are ∙ ap bodies_of same.frames_are ∙ sym its.are
 
-  bad-stuck : (bodies : List (List ℕ)) (bad : BadMessage) (is : IsBadText start text bodies bad) → IsStuck is.left
+  pub bad-stuck : (bodies : List (List ℕ)) (bad : BadMessage) (is : IsBadText start text bodies bad) → IsStuck is.left
   bad-stuck bodies bad is = fault-stuck is.left bad.fault is.begins is.fails
 
   good-bad : (bodies others : List (List ℕ)) (bad : BadMessage) → HasBodies text bodies → IsBadText start text others bad → ⊥

@@ -6,12 +6,15 @@ pub mod Feeds
 -- what is read of a day on lines
 pub mod Lines
 pub mod LineFeeds
+-- what was read of a day that may go on
+pub mod Fronts
 -- what holds of every day
 pub mod Laws
 -- Part 2. What the private functions pass on to one another.
 pub mod Messages
 pub mod Starts
 pub mod Searches
+pub mod Runs
 pub mod Undressings
 pub mod Looks
 pub mod LineSteps

@@ -1,5 +1,5 @@
 -- What a look at a message says.
-use Rattle.std.specs.Prelude.{◌≡◌, ℕ, ◌+◌, ◌≤◌, Bool, false, Option, Some, None, List, ◌++◌, length, drop, MatchOption}
+use Rattle.std.specs.Prelude.{◌≡◌, ℕ, ◌+◌, ◌≤◌, Bool, false, Option, Some, None, List, ◌++◌, length, take, drop, MatchOption}
 use Rattle.std.specs.List.{slice_range}
 use Rattle.fix_framing.specs.Headers.{any_version}
 use Rattle.fix_framing.specs.Frames.{frame_fault_with}
@@ -10,7 +10,7 @@ use Rattle.dressed_logs.specs.declared.looking.Look.TheVariants as look
 use Rattle.dressed_logs.specs.declared.undressing.Reached.{Reached}
 use Rattle.dressed_logs.specs.declared.undressing.Reached.TheVariants as reached
 use Rattle.dressed_logs.specs.Lines.{BeginsWithFault, BeginsWithMessage}
-use Rattle.dressed_logs.specs.Undressings.{IsReached, IsUndressed, MayFollow}
+use Rattle.dressed_logs.specs.Undressings.{IsReached, IsUndressed, MayFollow, Undressed}
 
 -- what a fault says: nothing, where more bytes can be undressed
 abbrev pub refusal : FrameFault → Reached → Option Look
@@ -48,9 +48,15 @@ pub record NeedsMore (message : List ℕ) (why : Reached) : Type 0 where
   pub cut : frame_fault_with any_version message ≡ Some frame.Truncated
   pub count : why ≡ reached.Count
 
--- the bytes are answered as a look is, however far they were undressed
-abbrev pub AnswersLook : List ℕ → List ℕ → ℕ → List ℕ → Reached → Option Look → Type 0
-AnswersLook soh held place message why result =
-    (count : ℕ) (ended : Bool) (to : ℕ) → IsUndressed soh held place ended to message
+-- up to `end` the bytes held stand for the first `count` of those for which they stand up to `to`
+abbrev pub EndsFront : List ℕ → List ℕ → ℕ → List ℕ → ℕ → ℕ → ℕ → Type 0
+EndsFront soh held place message to count end =
+    (more : List ℕ) → Undressed soh held place more to message
+    → Undressed soh held place more end (take count message)
+
+-- the bytes, undressed up to this place, are answered as a look is
+abbrev pub AnswersLook : List ℕ → List ℕ → ℕ → List ℕ → ℕ → Reached → Option Look → Type 0
+AnswersLook soh held place message to why result =
+    (count : ℕ) (ended : Bool) → IsUndressed soh held place ended to message
     → to ≤ length held → IsReached held count ended to message why
     → MatchOption result (NeedsMore message why) (LookSays soh held place ended message)

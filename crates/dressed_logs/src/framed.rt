@@ -6,6 +6,7 @@ ghost use Rattle.log_source.specs.Handing.{HandsOnMore};
 ghost use Rattle.dressed_logs.specs.Framed.{IsFramedReading, mark};
 ghost use Rattle.dressed_logs.specs.Answers.{HasReadBodies};
 ghost use Rattle.dressed_logs.specs.Feeds.{IsFramedFeedOf, IsFramedFeedWithinLimit};
+ghost use Rattle.dressed_logs.specs.Fronts.{HasReadFramed};
 ghost use Rattle.dressed_logs.specs.Starts.{BeginsDay, HasFront, HasWholeFront};
 
 use crate::bodies::Bodies;
@@ -14,6 +15,7 @@ use crate::read_day::ReadDay;
 use audit_base::faults::NoMemory;
 use log_source::feed::Feed;
 use std::alloc::Global;
+use std::mem;
 
 /// The byte order mark of UTF-8.
 const MARK: [u8; 3] = [0xEF, 0xBB, 0xBF];
@@ -46,6 +48,17 @@ impl<B: Bodies> FramedFeed<B> {
             front: Vec::new(alloc),
             messages: Messages::over(alloc, bodies),
         }
+    }
+
+    /// Gives back the taker that has been handed the bodies so far, and puts this one in its place,
+    /// which is handed those to come.
+    pub fn replace(&mut self, bodies: B) -> B
+        ensures taken { result ≡ self.old.messages.bodies }
+        ensures placed { self.new.messages.bodies ≡ bodies }
+        ensures kept { (day : List ℕ) (handed : List (List ℕ))
+            → HasReadFramed self.old day handed → HasReadFramed self.new day handed }
+    {
+        mem::replace(&mut self.messages.bodies, bodies)
     }
 
     // Hands on what has come first, unless it is the mark.

@@ -21,4 +21,5 @@ pub mod lines;
 mod looking;
 mod messages;
 pub mod read_day;
+mod runs;
 mod undressing;

@@ -3,6 +3,7 @@
 ghost use Rattle.std.specs.Prelude.{◌≡◌, ◌+◌, ◌≤◌, ◌<◌, ◌^◌, [], ℕ, Bool, List, None, IfOk, OnOk, MatchBool, IsTrue, length, drop, vec_len};
 ghost use Rattle.std.specs.List.{list_all};
 ghost use Rattle.dressed_logs.specs.Answers.{HasReadBodies};
+ghost use Rattle.dressed_logs.specs.Fronts.{HasReadLines};
 ghost use Rattle.dressed_logs.specs.Lines.{IsLineReading, is_graphic, is_soh_text};
 ghost use Rattle.dressed_logs.specs.LineFeeds.{IsLineFeedOf, IsLineFeedWithinLimit};
 ghost use Rattle.dressed_logs.specs.LineSteps.{DropsTo, EndsLines, HasDay, ShutsAt, TakesLine, TakesNoLine, unread};
@@ -20,6 +21,7 @@ use fix_framing::frames::FrameFault;
 use log_source::feed::Feed;
 use std::alloc::Global;
 use std::marker::{Brand, PhantomData};
+use std::mem;
 
 /// The text that stands for SOH in a day, for proofs alone. What hands pieces to feeds of any kind
 /// can say of one only which day it has been handed, and not which text it was made for. So the
@@ -108,6 +110,17 @@ impl<B: Bodies, S: SohText> LineFeed<B, S> {
             bad: None,
             of: PhantomData,
         }
+    }
+
+    /// Gives back the taker that has been handed the bodies so far, and puts this one in its place,
+    /// which is handed those to come.
+    pub fn replace(&mut self, bodies: B) -> B
+        ensures taken { result ≡ self.old.bodies }
+        ensures placed { self.new.bodies ≡ bodies }
+        ensures kept { (day : List ℕ) (handed : List (List ℕ))
+            → HasReadLines S.text self.old day handed → HasReadLines S.text self.new day handed }
+    {
+        mem::replace(&mut self.bodies, bodies)
     }
 
     // Drops the bytes before this place: those after it are read next, from where they are

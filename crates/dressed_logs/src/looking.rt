@@ -6,19 +6,21 @@ ghost use Rattle.fix_framing.specs.Frames.{frame_fault_with};
 ghost use Rattle.fix_framing.specs.declared.frames.FrameFault.TheVariants.{Truncated};
 ghost use Rattle.dressed_logs.specs.Lines.{HasNoLineEnd};
 ghost use Rattle.dressed_logs.specs.Undressings.{HasUndressed};
-ghost use Rattle.dressed_logs.specs.Looks.{AnswersLook, LookSays, refusal};
+ghost use Rattle.dressed_logs.specs.Looks.{AnswersLook, EndsFront, LookSays, refusal};
 
 use crate::undressing::{Reached, place_after, undress};
+use audit_base::digits::{are_digits, value_of};
 use audit_base::faults::NoMemory;
+use audit_base::sizes::SOH;
 use fix_framing::frames::{FrameFault, frame_at};
 use fix_framing::headers::AnyVersion;
+use memchr::memchr;
 
 /// The number of bytes of the longest message, of any version.
 const LONGEST_FRAME: usize = 1_048_606;
 
-/// How many bytes of a message are undressed before it is first looked at; each time that more
-/// are needed, four times as many.
-const FIRST_LOOK: usize = 64;
+/// How many bytes of a message are undressed before it is first looked at: its length is there.
+const FIRST_LOOK: usize = 32;
 
 /// What a look at a message says.
 #[derive(Clone, Copy)]
@@ -45,21 +47,74 @@ fn refusal(fault: FrameFault, why: Reached) -> Option<Look>
     }
 }
 
-/// What these bytes say, for which the bytes held stand from the place on: nothing, where more of
-/// them are needed.
-fn answer_of(soh: &[u8], held: &[u8], place: usize, message: &[u8], why: Reached) -> Option<Look>
+/// The place after the bytes held that stand for the first `count` bytes of the message, where
+/// those from `place` up to `reached` stand for all of them.
+fn end_of(
+    soh: &[u8],
+    held: &[u8],
+    place: usize,
+    message: &[u8],
+    reached: usize,
+    count: usize,
+) -> usize
+    requires few { count ≤ length message.now }
+    requires bytes { HasUndressed soh.now held.now place (length message.now) }
+    ensures { EndsFront soh.now held.now place message.now reached count result }
+{
+    if count == message.len() {
+        return reached;
+    }
+    place_after(soh, held, place, count)
+}
+
+/// What these bytes say, for which the bytes held stand from the place on up to `reached`:
+/// nothing, where more of them are needed.
+fn answer_of(
+    soh: &[u8],
+    held: &[u8],
+    place: usize,
+    message: &[u8],
+    reached: usize,
+    why: Reached,
+) -> Option<Look>
     requires some { 0 < length soh.now }
     requires line { HasNoLineEnd soh.now }
     requires bytes { HasUndressed soh.now held.now place (length message.now) }
-    ensures { AnswersLook soh.now held.now place message.now why result }
+    ensures { AnswersLook soh.now held.now place message.now reached why result }
 {
     match frame_at::<AnyVersion>(message, 0) {
         Ok(frame) => Some(Look::Message {
             body: frame.body,
             to: frame.end - 7,
-            end: place_after(soh, held, place, frame.end),
+            end: end_of(soh, held, place, message, reached, frame.end),
         }),
         Err(fault) => refusal(fault, why),
+    }
+}
+
+/// How many bytes a message that begins so says that it has, where its length is all there.
+fn announced_size(message: &[u8]) -> Option<usize> {
+    let header = memchr(SOH, message)?;
+    let rest = message.get(header + 3..)?;
+    let digits = memchr(SOH, rest)?;
+    if digits > 9 || !are_digits(&rest[..digits]) {
+        return None;
+    }
+    let body = header + 3 + digits + 1;
+    Some(body + value_of(&rest[..digits]) as usize + 7)
+}
+
+/// How many bytes to undress before the next look: as many as the message says that it has. Where
+/// it doesn't say so yet, four times as many as before.
+fn next_count(message: &[u8], count: usize) -> usize
+    requires some { 0 < count }
+    requires few { count < 1048606 }
+    ensures more { count < result }
+    ensures most { result ≤ 1048606 }
+{
+    match announced_size(message) {
+        Some(size) if size > count => size.min(LONGEST_FRAME),
+        _ => (4 * count).min(LONGEST_FRAME),
     }
 }
 
@@ -82,10 +137,10 @@ pub(crate) fn look_at(
     let mut at = place;
     'looks: loop {
         let (reached, why) = undress(soh, held, at, count, ended, message)?;
-        if let Some(look) = answer_of(soh, held, place, message, why) {
+        if let Some(look) = answer_of(soh, held, place, message, reached, why) {
             return Ok(look);
         }
         at = reached;
-        count = (4 * count).min(LONGEST_FRAME);
+        count = next_count(message, count);
     }
 }

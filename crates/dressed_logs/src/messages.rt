@@ -27,7 +27,7 @@ pub(crate) struct Messages<B> {
     /// The bytes of the message that isn't all there.
     framer: Framer<AnyVersion>,
     /// What has been handed the bodies of the messages before it.
-    bodies: B,
+    pub(crate) bodies: B,
     /// How many messages these are.
     count: u32,
     /// The first bad message.

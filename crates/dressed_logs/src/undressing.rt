@@ -1,10 +1,11 @@
 //! What the bytes of a line stand for: from left to right SOH, where the text that stands for SOH
-//! begins, and else themselves.
+//! begins, and else themselves. Bytes of which each stands for one are copied in runs (`runs`).
 ghost use Rattle.std.specs.Prelude.{◌≡◌, ◌≤◌, ◌<◌, ◌++◌, ℕ, List, length, take, drop, false, IfOk, MatchResult, if◌then◌else◌, nat_eq};
 ghost use Rattle.std.specs.List.{starts_with};
 ghost use Rattle.dressed_logs.specs.Lines.{HasNoLineEnd};
 ghost use Rattle.dressed_logs.specs.Undressings.{HasUndressed, IsNextUnit, IsReached, StopsUnits, Undressed, Undresses};
 
+use crate::runs::append_run;
 use audit_base::faults::NoMemory;
 use audit_base::sizes::SOH;
 
@@ -27,6 +28,18 @@ struct Unit {
     size: usize,
 }
 
+/// Whether the text begins with this front. Of a front of two bytes these are compared here, since
+/// it is asked at each field.
+#[inline(always)]
+fn begins_with(text: &[u8], front: &[u8]) -> bool
+    ensures { result ≡ starts_with nat_eq text.now front.now }
+{
+    if front.len() == 2 && text.len() >= 2 {
+        return text[0] == front[0] && text[1] == front[1];
+    }
+    text.starts_with(front)
+}
+
 /// The first byte that the text stands for, or why none is known. `ended` says that no bytes will
 /// follow these.
 fn next_unit(soh: &[u8], text: &[u8], ended: bool) -> Result<Unit, Reached>
@@ -45,7 +58,7 @@ fn next_unit(soh: &[u8], text: &[u8], ended: bool) -> Result<Unit, Reached>
     if text[0] == b'\n' {
         return Err(Reached::LineEnd);
     }
-    if text.starts_with(soh) {
+    if begins_with(text, soh) {
         return Ok(Unit {
             byte: SOH,
             size: soh.len(),
@@ -80,6 +93,11 @@ pub(crate) fn undress(
 {
     let mut to = at;
     'units: while out.len() < count {
+        let run = append_run(soh, &text[to..], count - out.len(), out)?;
+        to += run;
+        if out.len() >= count {
+            return Ok((to, Reached::Count));
+        }
         match next_unit(soh, &text[to..], ended) {
             Ok(unit) => {
                 out.push(unit.byte)?;

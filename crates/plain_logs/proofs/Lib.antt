@@ -1,3 +1,6 @@
 mod ListLemmas
 mod FitLemmas
 mod TextLemmas
+mod FeedLemmas
+mod PassLemmas
+mod SlotLemmas

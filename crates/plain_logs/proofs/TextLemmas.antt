@@ -1,30 +1,38 @@
 -- The plain text of bodies, one more of them, and of a day.
-use Rattle.std.proofs.Common.{◌≡◌, ℕ, ◌<◌, List, [], ◌∷◌, ◌++◌, length, map, Option, None, ap, sym, subst, refl, ◌∙◌, append_assoc, arith}
+use Rattle.std.proofs.Common.{◌≡◌, ℕ, ◌<◌, ◌≤◌, List, [], ◌∷◌, ◌++◌, drop, length, map, Option, None, ap, sym, subst, ◌∙◌, append_assoc, arith}
 use Rattle.std.specs.Prelude.{All}
-use Rattle.std.specs.List.{flat_map}
 use Rattle.std.proofs.lemmas.Grind.{flat_map-append}
-use Rattle.std.proofs.lemmas.List.{append-nil}
-use Rattle.std.proofs.lemmas.List.Elements.{All-contains, All-head}
+use Rattle.std.proofs.lemmas.List.{append-nil, drop-append-le, length-append}
 use Rattle.audit_base.specs.Sizes.{longest_body}
 use Rattle.fix_framing.specs.Frames.{body_of, frame_text}
-use Rattle.fix_framing.specs.Framing.{IsFramed}
 use Rattle.dressed_logs.specs.declared.faults.BadMessage.{BadMessage}
 use Rattle.dressed_logs.specs.Framed.{IsFramedReading}
 use Rattle.dressed_logs.specs.Laws.{FitsMessage, FixLogsAreDays, FramedDaysAreReadOnce, WrittenDaysAreRead, written_line}
-use Rattle.dressed_logs.specs.Lines.{IsLineReading}
 use Rattle.plain_logs.specs.Laws.{FramedBodiesFit, LineBodiesFit, PlainIsRead, PlainOfFixLogs, PlainOfPlain}
-use Rattle.plain_logs.specs.PlainTexts.{IsPlainText, IsTextOf, plain_text}
+use Rattle.plain_logs.specs.PlainTexts.{IsPlainText, IsTextBehind, plain_text}
 use Rattle.plain_logs.proofs.ListLemmas.{All-front, All-last}
 
-pub more-text : (bodies : List (List ℕ)) (body old new : List ℕ) → new ≡ (old ++ frame_text body) ++ 10 ∷ [] → IsTextOf bodies old → IsTextOf (bodies ++ body ∷ []) new
-more-text bodies body old new made has fit =
-    let before : old ≡ plain_text bodies = has (All-front FitsMessage bodies (body ∷ []) fit) in
-    let one : plain_text (body ∷ []) ≡ written_line body = append-nil (written_line body) in
-    made ∙ append_assoc old (frame_text body) (10 ∷ []) ∙ ap (λ (t : List ℕ). t ++ written_line body) before
-    ∙ ap (λ (t : List ℕ). plain_text bodies ++ t) (sym one) ∙ sym (flat_map-append written_line bodies (body ∷ []))
+more-some : (skipped : ℕ) (bodies : List (List ℕ)) (body : List ℕ) → skipped ≤ length bodies → skipped ≤ length (bodies ++ body ∷ [])
+more-some skipped bodies body some = let size = length-append bodies (body ∷ []) in omega (arith, size, some)
 
-pub too-long : (bodies : List (List ℕ)) (body old new : List ℕ) → longest_body < length body → IsTextOf (bodies ++ body ∷ []) new
-too-long bodies body old new long fit = let fits = All-last FitsMessage bodies body fit in absurd (omega (arith, long, fits))
+-- one more body of those behind the skipped ones
+pub more-text : (skipped : ℕ) (bodies : List (List ℕ)) (body old new : List ℕ) → new ≡ (old ++ frame_text body) ++ 10 ∷ [] → IsTextBehind skipped bodies old → IsTextBehind skipped (bodies ++ body ∷ []) new
+more-text skipped bodies body old new made has = record {
+  some = more-some skipped bodies body has.some;
+  text_is = λ fit.
+      let before : old ≡ plain_text (drop skipped bodies) = has.text_is (All-front FitsMessage bodies (body ∷ []) fit) in
+      let one : plain_text (body ∷ []) ≡ written_line body = append-nil (written_line body) in
+      let behind : drop skipped (bodies ++ body ∷ []) ≡ drop skipped bodies ++ body ∷ [] = drop-append-le skipped bodies (body ∷ []) has.some in
+      made ∙ append_assoc old (frame_text body) (10 ∷ []) ∙ ap (λ (t : List ℕ). t ++ written_line body) before
+      ∙ ap (λ (t : List ℕ). plain_text (drop skipped bodies) ++ t) (sym one) ∙ sym (flat_map-append written_line (drop skipped bodies) (body ∷ []))
+      ∙ ap plain_text (sym behind);
+}
+
+pub too-long : (skipped : ℕ) (bodies : List (List ℕ)) (body text : List ℕ) → longest_body < length body → IsTextBehind skipped bodies text → IsTextBehind skipped (bodies ++ body ∷ []) text
+too-long skipped bodies body text long has = record {
+  some = more-some skipped bodies body has.some;
+  text_is = λ fit. let fits = All-last FitsMessage bodies body fit in absurd (omega (arith, long, fits));
+}
 
 module _ (one : FramedDaysAreReadOnce) (written : WrittenDaysAreRead) (framed_fit : FramedBodiesFit) (lines_fit : LineBodiesFit) where
   pub plain-read : PlainIsRead

@@ -1,5 +1,5 @@
 -- The laws of plain days, in one sentence each.
-use Rattle.std.specs.Prelude.{◌≡◌, ℕ, All, IsTrue, List, map, None, Option}
+use Rattle.std.specs.Prelude.{◌≡◌, ℕ, All, List, map, None, Option}
 use Rattle.dressed_logs.specs.declared.faults.BadMessage.{BadMessage}
 use Rattle.dressed_logs.specs.Framed.{IsFramedReading}
 use Rattle.dressed_logs.specs.Laws.{FitsMessage}

@@ -1,7 +1,11 @@
 -- Part 1. What a reader must believe: the public contracts and laws cite these.
 -- the plain text of bodies, and of a day
 pub mod PlainTexts
--- what is made of a log of a shelf
+-- the feeds of a day that give its text as they are handed its bytes
+pub mod DayFeeds
+-- what is written of a log of a shelf
 pub mod PlainLogs
 -- what holds of every day
 pub mod Laws
+-- Part 2. What the private functions pass on to one another.
+pub mod Passing

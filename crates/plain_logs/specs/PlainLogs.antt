@@ -1,19 +1,93 @@
--- What is made of a log of a shelf.
-use Rattle.std.specs.Prelude.{◌≡◌, ◌≤◌, ℕ, List, Option, length}
+-- What is written of a log of a shelf while it is read.
+use Rattle.std.specs.Prelude.{◌≡◌, ◌≤◌, ℕ, List, Option, Result, Ok, Err, length}
+use Rattle.std.specs.Io.KnownBytes.{Appends}
 use Rattle.audit_base.specs.declared.terms.Which.{Which}
 use Rattle.dressed_logs.specs.declared.faults.BadMessage.{BadMessage}
-use Rattle.log_source.specs.Taking.{IsWholeLog}
+use Rattle.dressed_logs.specs.Fronts.{BeginsReadings}
+use Rattle.log_source.specs.Calls.{count_after}
+use Rattle.log_source.specs.Pumping.{IsFront}
+use Rattle.log_source.specs.Sinks.{AppendsPart, HasFailureCause, SinkState}
+use Rattle.log_source.specs.Taking.{IsWholeLog, Takes}
 use Rattle.log_source.specs.declared.shelf.Shelf as shelf
-use Rattle.plain_logs.specs.declared.logs.PlainLog.{PlainLog}
-use Rattle.plain_logs.specs.PlainTexts.{IsPlainText}
+use Rattle.plain_logs.specs.declared.day_ends.DayEnd.{DayEnd}
+use Rattle.plain_logs.specs.declared.day_ends.PlainFault.{PlainFault}
+use Rattle.plain_logs.specs.declared.day_ends.PlainFault.TheVariants as plain
+use Rattle.plain_logs.specs.DayFeeds.{EndsReading}
+use Rattle.plain_logs.specs.PlainTexts.{plain_text}
 
--- The text and the first bad message are those of the bytes that were taken of the log, no more
--- than the limit, which are the whole log where the logs of the shelf are known.
-pub record IsPlainOfLog {F : Type 0} (shelves : shelf.Ghosts F)
-    (reading : List ℕ → List (List ℕ) → Option BadMessage → Type 0) (which : Which)
-    (name : List ℕ) (limit : ℕ) (old new : F) (log : PlainLog) : Type 0 where
+-- The slot was started once, and its faults did not fall.
+pub record StartsSlot {F : Type 0} (shelves : shelf.Ghosts F) (which : Which) (old new : F)
+    : Type 0 where
+  pub once : (shelves.slot new which).starts ≡ count_after (shelves.slot old which).starts
+  pub later : (shelves.slot old which).faults ≤ (shelves.slot new which).faults
+
+-- what is done to the slot of a log that is written while it is read: what taking it does, or
+-- where the sink failed, a start
+abbrev pub TakesUpTo : {F T : Type 0} → shelf.Ghosts F → Which → List ℕ → ℕ → F → F
+    → Result T PlainFault → Type 0
+TakesUpTo {T} shelves which name limit old new (Ok value) =
+    Takes {T = T} shelves which name limit old new (Ok value)
+TakesUpTo {T} shelves which name limit old new (Err (plain.Log why)) =
+    Takes {T = T} shelves which name limit old new (Err why)
+TakesUpTo shelves which name limit old new (Err plain.Sink) = StartsSlot shelves which old new
+
+-- These bytes are a front of the log, no more than were taken of it, and what is read of every log
+-- that begins with them begins with these bodies.
+pub record ReadsFrontOf {F : Type 0} (shelves : shelf.Ghosts F)
+    (reads : List ℕ → List (List ℕ) → Option BadMessage → Type 0) (which : Which)
+    (name : List ℕ) (old new : F) (front : List ℕ) (bodies : List (List ℕ)) : Type 0 where
+  pub taken : length front ≤ (shelves.slot new which).taken
+  pub known : IsFront shelves which name old front
+  pub begins : BeginsReadings reads front bodies
+
+-- The plain text of bodies that were read of a front of the log was written, whole.
+pub record WritesFront {F : Type 0} (shelves : shelf.Ghosts F)
+    (reads : List ℕ → List (List ℕ) → Option BadMessage → Type 0) (which : Which)
+    (name : List ℕ) (old new : F) (sink_old sink_new : SinkState) : Type 0 where
+  pub front : List ℕ
+  pub bodies : List (List ℕ)
+  pub of : ReadsFrontOf shelves reads which name old new front bodies
+  pub wrote : Appends sink_old.wrote sink_new.wrote (plain_text bodies)
+
+-- The sink failed, and a part of the plain text of such bodies was written.
+pub record FailsAtFront {F : Type 0} (shelves : shelf.Ghosts F)
+    (reads : List ℕ → List (List ℕ) → Option BadMessage → Type 0) (which : Which)
+    (name : List ℕ) (old new : F) (sink_old sink_new : SinkState) : Type 0 where
+  pub front : List ℕ
+  pub bodies : List (List ℕ)
+  pub of : ReadsFrontOf shelves reads which name old new front bodies
+  pub part : AppendsPart sink_old.wrote sink_new.wrote (plain_text bodies)
+  pub cause : HasFailureCause sink_old sink_new
+
+-- The whole log was taken, the plain text of the bodies that were read of it so far was written, and
+-- this holds of its bytes and of them.
+pub record WritesWholeLog {F : Type 0} (shelves : shelf.Ghosts F)
+    (reads : List ℕ → List (List ℕ) → Option BadMessage → Type 0) (which : Which)
+    (name : List ℕ) (limit : ℕ) (old new : F) (sink_old sink_new : SinkState)
+    (holds : List ℕ → List (List ℕ) → Type 0) : Type 0 where
   pub bytes : List ℕ
-  pub plain : IsPlainText (reading bytes) log.text.items log.bad
+  pub bodies : List (List ℕ)
+  pub holding : holds bytes bodies
+  pub begins : BeginsReadings reads bytes bodies
+  pub wrote : Appends sink_old.wrote sink_new.wrote (plain_text bodies)
   pub within : length bytes ≤ limit
   pub count : length bytes ≡ (shelves.slot new which).taken
   pub whole : IsWholeLog shelves which name old bytes
+
+-- what was written where a log was not read to its end
+abbrev pub StopsWriting : {F : Type 0} → shelf.Ghosts F
+    → (List ℕ → List (List ℕ) → Option BadMessage → Type 0) → Which → List ℕ → F → F
+    → SinkState → SinkState → PlainFault → Type 0
+StopsWriting shelves reads which name old new sink_old sink_new (plain.Log why) =
+    WritesFront shelves reads which name old new sink_old sink_new
+StopsWriting shelves reads which name old new sink_old sink_new plain.Sink =
+    FailsAtFront shelves reads which name old new sink_old sink_new
+
+-- the whole log was written up to its end, which has this text still to be written, and this first
+-- bad message, or none
+abbrev pub WritesUpToEnd : {F : Type 0} → shelf.Ghosts F
+    → (List ℕ → List (List ℕ) → Option BadMessage → Type 0) → Which → List ℕ → ℕ → F → F
+    → SinkState → SinkState → DayEnd → Type 0
+WritesUpToEnd shelves reads which name limit old new sink_old sink_new end =
+    WritesWholeLog shelves reads which name limit old new sink_old sink_new
+    (λ bytes bodies. EndsReading reads bytes bodies end)

@@ -1,5 +1,5 @@
 -- The plain text of a day: each message that is read of it, as a line of a FIX log.
-use Rattle.std.specs.Prelude.{◌≡◌, ℕ, All, List, Option}
+use Rattle.std.specs.Prelude.{◌≡◌, ◌≤◌, ℕ, All, List, Option, drop, length}
 use Rattle.std.specs.List.{flat_map}
 use Rattle.dressed_logs.specs.declared.faults.BadMessage.{BadMessage}
 use Rattle.dressed_logs.specs.Laws.{FitsMessage, written_line}
@@ -8,9 +8,10 @@ use Rattle.dressed_logs.specs.Laws.{FitsMessage, written_line}
 abbrev pub plain_text : List (List ℕ) → List ℕ
 plain_text bodies = flat_map written_line bodies
 
--- the text is the plain text of these bodies, where each fits a message
-abbrev pub IsTextOf : List (List ℕ) → List ℕ → Type 0
-IsTextOf bodies text = All FitsMessage bodies → text ≡ plain_text bodies
+-- The text is the plain text of the bodies behind so many, where each fits a message.
+pub record IsTextBehind (skipped : ℕ) (bodies : List (List ℕ)) (text : List ℕ) : Type 0 where
+  pub some : skipped ≤ length bodies
+  pub text_is : All FitsMessage bodies → text ≡ plain_text (drop skipped bodies)
 
 -- The text is the plain text of exactly the bodies that are read, in order, together with this
 -- first bad message, or with none.

@@ -1,82 +1,174 @@
-//! A day of a shelf, made plain.
-ghost use Rattle.std.specs.Prelude.{◌≡◌, ◌≤◌, IfOk, IsTrue};
+//! A day of a shelf, made plain: its text is written to a sink while it is read.
+ghost use Rattle.std.specs.Prelude.{◌≡◌, ◌≤◌, [], IfErr, IfOk, OnOk, IsTrue};
 ghost use Rattle.dressed_logs.specs.Framed.{IsFramedReading};
 ghost use Rattle.dressed_logs.specs.Lines.{IsLineReading, is_soh_text};
+ghost use Rattle.log_source.specs.Sinks.{SinkStays};
 ghost use Rattle.log_source.specs.Sources.{ChangesOneSlot, longest_read};
-ghost use Rattle.log_source.specs.Taking.{Takes};
-ghost use Rattle.plain_logs.specs.PlainLogs.{IsPlainOfLog};
+ghost use Rattle.plain_logs.specs.DayFeeds.{HasRoomForPiece};
+ghost use Rattle.plain_logs.specs.Passing.{PassesPiece};
+ghost use Rattle.plain_logs.specs.PlainLogs.{StopsWriting, TakesUpTo, WritesUpToEnd, WritesWholeLog};
 
-use crate::laws::bodies_fit_messages;
-use crate::lines::PlainLines;
+use crate::day_ends::{DayEnd, PlainFault};
+use crate::feeds::{DayFeed, framed_feed, line_feed};
 use audit_base::terms::Which;
-use dressed_logs::faults::BadMessage;
-use dressed_logs::framed::FramedFeed;
-use dressed_logs::lines::{LineFeed, SohText};
-use log_source::pump::pump;
+use dressed_logs::lines::SohText;
+use log_source::put::put_all;
 use log_source::shelf::Shelf;
+use log_source::sink::Sink;
 use log_source::take::TakeFault;
 use std::alloc::Global;
 
-/// What a day is made: the plain text of its messages up to the first bad one, and that one, if
-/// there is one.
-#[derive(Drop)]
-pub struct PlainLog {
-    pub text: Vec<u8>,
-    pub bad: Option<BadMessage>,
+/// The bytes of one read, 1 MiB, as where a log is handed to a feed.
+const PIECE: usize = 1_048_576;
+
+/// Hands a piece to the feed, and writes the text that it gives. That text comes back, for its
+/// memory.
+fn pass_piece<D: DayFeed, K: Sink>(
+    alloc: Global,
+    feed: &mut D,
+    piece: &[u8],
+    spare: Vec<u8>,
+    out: &mut K,
+) -> Result<Vec<u8>, PlainFault>
+    requires { HasRoomForPiece D.has_read feed.old piece.now }
+    ensures passes { PassesPiece D.reads D.has_read feed.old feed.new piece.now
+        (K.state out.old) (K.state out.new) result }
+    ensures stays { SinkStays (K.state out.old) (K.state out.new) }
+{
+    let text = match feed.feed(alloc, piece, spare) {
+        Ok(text) => text,
+        Err(_) => return Err(PlainFault::Log(TakeFault::Memory)),
+    };
+    match put_all(out, &text) {
+        Ok(()) => Ok(text),
+        Err(_) => Err(PlainFault::Sink),
+    }
 }
 
-/// Makes plain the day of this name, whose messages are framed one after another. `limit` is the
-/// greatest number of bytes that it may have, `LONGEST_READ` at most. The causes of failure are
-/// those of `take_log`. Whatever the answer, the slot may be started anew, and the other slot is
-/// as it was.
-pub fn plain_framed<F: Shelf>(
+/// Hands the log of this name to the feed, piece by piece up to its end, and writes what the feed
+/// gives at each.
+fn pass_log<D: DayFeed, F: Shelf, K: Sink>(
     alloc: Global,
     shelf: &mut F,
     which: Which,
     name: &str,
     limit: u64,
-) -> Result<PlainLog, TakeFault>
+    feed: &mut D,
+    out: &mut K,
+) -> Result<(), PlainFault>
+    requires limit { limit ≤ longest_read }
+    requires empty { D.has_read feed.old [] [] }
+    ensures only { ChangesOneSlot F.tells F.log_of F.slot which shelf.old shelf.new }
+    ensures stays { SinkStays (K.state out.old) (K.state out.new) }
+    ensures slot { TakesUpTo F.Shelf which name.now limit shelf.old shelf.new result }
+    ensures whole { OnOk result (WritesWholeLog F.Shelf D.reads which name.now limit
+        shelf.old shelf.new (K.state out.old) (K.state out.new) (D.has_read feed.new)) }
+    ensures stops { IfErr result (StopsWriting F.Shelf D.reads which name.now
+        shelf.old shelf.new (K.state out.old) (K.state out.new)) }
+{
+    shelf.start(which, name)?;
+    let mut buffer = [0u8; PIECE];
+    let mut spare = Vec::new(alloc);
+    let mut taken: u64 = 0;
+    'pieces: loop {
+        let count = shelf.read(which, &mut buffer)?;
+        if count == 0 {
+            return Ok(());
+        }
+        if count as u64 > limit - taken {
+            return Err(PlainFault::Log(TakeFault::TooLong));
+        }
+        taken += count as u64;
+        spare = pass_piece(alloc, feed, &buffer[..count], spare, out)?;
+    }
+}
+
+/// The same, up to the end of the day.
+fn write_day<D: DayFeed, F: Shelf, K: Sink>(
+    alloc: Global,
+    shelf: &mut F,
+    which: Which,
+    name: &str,
+    limit: u64,
+    mut feed: D,
+    out: &mut K,
+) -> Result<DayEnd, PlainFault>
+    requires limit { limit ≤ longest_read }
+    requires empty { D.has_read feed [] [] }
+    ensures only { ChangesOneSlot F.tells F.log_of F.slot which shelf.old shelf.new }
+    ensures stays { SinkStays (K.state out.old) (K.state out.new) }
+    ensures slot { TakesUpTo F.Shelf which name.now limit shelf.old shelf.new result }
+    ensures ends { IfOk result (WritesUpToEnd F.Shelf D.reads which name.now limit
+        shelf.old shelf.new (K.state out.old) (K.state out.new)) }
+    ensures stops { IfErr result (StopsWriting F.Shelf D.reads which name.now
+        shelf.old shelf.new (K.state out.old) (K.state out.new)) }
+{
+    pass_log(alloc, shelf, which, name, limit, &mut feed, out)?;
+    match feed.close() {
+        Ok(end) => Ok(end),
+        Err(_) => Err(PlainFault::Log(TakeFault::Memory)),
+    }
+}
+
+/// Makes plain the day of this name, whose messages are framed one after another: the text of each
+/// is written as soon as it is all there. What ends with the day is answered, and not written.
+///
+/// `limit` is the greatest number of bytes that the day may have, `LONGEST_READ` at most. Where a
+/// write fails, reading stops. The other causes of failure are those of `take_log`; what was read
+/// until then is written. Whatever the answer, the slot may be started anew, and the other slot is
+/// as it was.
+///
+/// No more is held than the bytes of a message that isn't all there and the text of two pieces of
+/// 1 MiB.
+pub fn write_framed<F: Shelf, K: Sink>(
+    alloc: Global,
+    shelf: &mut F,
+    which: Which,
+    name: &str,
+    limit: u64,
+    out: &mut K,
+) -> Result<DayEnd, PlainFault>
     requires { limit ≤ longest_read }
     ensures only { ChangesOneSlot F.tells F.log_of F.slot which shelf.old shelf.new }
-    ensures slot { Takes F.Shelf which name.now limit shelf.old shelf.new result }
-    ensures plain { IfOk result
-        (IsPlainOfLog F.Shelf IsFramedReading which name.now limit shelf.old shelf.new) }
+    ensures stays { SinkStays (K.state out.old) (K.state out.new) }
+    ensures slot { TakesUpTo F.Shelf which name.now limit shelf.old shelf.new result }
+    ensures ends { IfOk result (WritesUpToEnd F.Shelf IsFramedReading which name.now limit
+        shelf.old shelf.new (K.state out.old) (K.state out.new)) }
+    ensures stops { IfErr result (StopsWriting F.Shelf IsFramedReading which name.now
+        shelf.old shelf.new (K.state out.old) (K.state out.new)) }
 {
-    // A law that the text rests on. It computes nothing.
-    bodies_fit_messages();
-    let mut feed = FramedFeed::over(alloc, PlainLines::new(alloc));
-    pump(shelf, which, name, limit, &mut feed)?;
-    let day = feed.close()?;
-    Ok(PlainLog {
-        text: day.bodies.text,
-        bad: day.bad,
-    })
+    write_day(alloc, shelf, which, name, limit, framed_feed(alloc), out)
 }
 
 /// The same of a day whose messages stand on lines, after anything. `soh` is the text that stands
 /// for SOH in them.
-pub fn plain_on_lines<S: SohText, F: Shelf>(
+pub fn write_on_lines<S: SohText, F: Shelf, K: Sink>(
     alloc: Global,
     shelf: &mut F,
     which: Which,
     name: &str,
     limit: u64,
     soh: Vec<u8>,
-) -> Result<PlainLog, TakeFault>
+    out: &mut K,
+) -> Result<DayEnd, PlainFault>
     requires limit { limit ≤ longest_read }
     requires soh { soh.items ≡ S.text }
     requires is { IsTrue (is_soh_text S.text) }
     ensures only { ChangesOneSlot F.tells F.log_of F.slot which shelf.old shelf.new }
-    ensures slot { Takes F.Shelf which name.now limit shelf.old shelf.new result }
-    ensures plain { IfOk result
-        (IsPlainOfLog F.Shelf (IsLineReading S.text) which name.now limit shelf.old shelf.new) }
+    ensures stays { SinkStays (K.state out.old) (K.state out.new) }
+    ensures slot { TakesUpTo F.Shelf which name.now limit shelf.old shelf.new result }
+    ensures ends { IfOk result (WritesUpToEnd F.Shelf (IsLineReading S.text) which name.now limit
+        shelf.old shelf.new (K.state out.old) (K.state out.new)) }
+    ensures stops { IfErr result (StopsWriting F.Shelf (IsLineReading S.text) which name.now
+        shelf.old shelf.new (K.state out.old) (K.state out.new)) }
 {
-    bodies_fit_messages();
-    let mut feed = LineFeed::<PlainLines, S>::over(alloc, soh, PlainLines::new(alloc));
-    pump(shelf, which, name, limit, &mut feed)?;
-    let day = feed.close()?;
-    Ok(PlainLog {
-        text: day.bodies.text,
-        bad: day.bad,
-    })
+    write_day(
+        alloc,
+        shelf,
+        which,
+        name,
+        limit,
+        line_feed::<S>(alloc, soh),
+        out,
+    )
 }

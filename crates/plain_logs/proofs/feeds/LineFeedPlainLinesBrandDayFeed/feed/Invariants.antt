@@ -1,0 +1,6 @@
+-- what the feed has handed on before is skipped
+use Rattle.dressed_logs.specs.Fronts.{line_count}
+use Rattle.plain_logs.proofs.feeds.LineFeedPlainLinesBrandDayFeed.feed.Given as goal
+
+abbrev pub ghosts-feed_lines : goal.ghosts-feed_lines
+ghosts-feed_lines g a = record { skipped = line_count a.feed.now }
