@@ -72,7 +72,7 @@ pub fn rule_named(word: &str) -> Option<Rule>
 }
 
 /// The log that the word names, `orders` or `trades`.
-pub(crate) fn log_named(word: &str) -> Option<Which>
+pub fn log_named(word: &str) -> Option<Which>
     ensures { result ≡ spec.log_named word.now }
 {
     if is_word(word, b"orders") {
@@ -98,7 +98,7 @@ pub fn form_named(word: &str) -> Option<Form>
 }
 
 /// The number from 1 to a greatest one that the word writes in 1 to 10 digits.
-pub(crate) fn number_upto(word: &str, most: u32) -> Option<u32>
+pub fn number_upto(word: &str, most: u32) -> Option<u32>
     ensures number { result ≡ spec.number_upto most word.now }
     ensures limits { IfSome result (λ number. (1 ≤ number) × (number ≤ most)) }
 {

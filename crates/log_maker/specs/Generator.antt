@@ -10,6 +10,7 @@ use Rattle.audit_base.specs.declared.records.OrderRecord.{OrderRecord}
 use Rattle.audit_base.specs.declared.records.OrderRecord.TheVariants.{New, Cancel}
 use Rattle.audit_base.specs.declared.orders.Order.{Order}
 use Rattle.audit_base.specs.Histories.{symbol_of, order_list, instant_order_finding}
+use Rattle.log_maker.specs.declared.generator.OrderBlock.{OrderBlock}
 
 -- START is from 1 to 2,147,483,646
 pub record IsStart (start : ℕ) : Type 0 where
@@ -85,6 +86,16 @@ generated_record start i = record_of_state i (state_at start i)
 -- the records from 1 to COUNT
 abbrev pub generated_records : ℕ → ℕ → List OrderRecord
 generated_records start count = map (generated_record start) (range_with_len 1 count)
+
+-- so many records behind the first ones
+abbrev pub generated_records_after : ℕ → ℕ → ℕ → List OrderRecord
+generated_records_after start first count =
+    map (generated_record start) (range_with_len (1 + first) count)
+
+-- The block has so many records behind the first ones, and the state at the last of them.
+pub record IsBlockAfter (start first count : ℕ) (block : OrderBlock) : Type 0 where
+  pub entries_are : block.entries.items ≡ generated_records_after start first count
+  pub state_is : block.state ≡ state_at start (first + count)
 
 -- the order list of their history
 abbrev pub generated_orders : List OrderRecord → List Order

@@ -2,19 +2,12 @@ use Rattle.std.proofs.Common.{◌≡◌, sym, ap, ◌∙◌, arith, subst, lengt
 use Rattle.std.specs.Prelude.{None}
 use Rattle.audit_base.specs.Histories.{WellFormed, Regular, order_list, instant_order_finding}
 use Rattle.log_maker.specs.Generator.{AreOfSymbol, generated_records, generated_symbol}
-use Rattle.log_maker.proofs.GeneratorLemmas.{state-first, step-is, all-made}
+use Rattle.log_maker.proofs.GeneratorLemmas.{state-first}
 use Rattle.log_maker.proofs.HistoryOfGenerated.{count-is, all-of-symbol, well_formed, regular, all-rest}
 use Rattle.log_maker.proofs.generator.make_orders.Goals as goal
 
-pub loop-number-init : goal.loop-number-init
-loop-number-init c = (state-first c.args.start, c.in_ok-entries.ensures.items)
-
-pub loop-number-preserved : goal.loop-number-preserved
-loop-number-preserved c = step-is c.args.start c.loop-number.number c.loop-number.state c.next_state-state.result c.loop-number.entries.items c.push.new.self.items c.in_ok-entry.entry
-    c.loop-number.auto.number c.loop-number.invariant c.next_state-state.ensures c.in_ok-entry.ensures c.in_ok-push.ensures.items
-
-made : (c : goal.After-drop-text-2) → c.loop-number.entries.items ≡ generated_records c.args.start c.args.count
-made c = all-made c.args.start c.args.count c.loop-number.number c.loop-number.entries.items c.loop-number-test.false (c.loop-number.auto.number-end (omega arith)) c.loop-number.invariant.1
+made : (c : goal.In_ok-block) → c.in_ok-block.block.entries.items ≡ generated_records c.args.start c.args.count
+made c = (c.in_ok-block.ensures c.args.start (state-first c.args.start)).entries_are
 
 pub returns-clause-records : goal.returns-clause-records
 returns-clause-records c = made c

@@ -1,0 +1,3 @@
+mod FormLemmas
+mod TextLemmas
+mod WriteLemmas

@@ -1,0 +1,3 @@
+mod ConvertLemmas
+mod LawLemmas
+mod RowLemmas
