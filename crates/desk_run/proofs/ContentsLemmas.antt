@@ -1,6 +1,6 @@
 -- What is in two logs that are read in turn, the trade log where the order log is good: from what is decided of each to the whole call.
 use Rattle.std.proofs.Common.{◌≡◌, ◌≤◌, ◌<◌, ◌⊎◌, ◌∙◌, sym, subst, refl, inl, inr, true, false, ℕ, List, [], ◌∷◌, length, Option, None, Some, Result, Ok, Err, IsOk, arith}
-use Rattle.std.specs.Prelude.{IsSomeAnd, MatchResult, is_ok}
+use Rattle.std.specs.Prelude.{IsSomeAnd}
 use Rattle.audit_base.specs.declared.faults.BadPlace.{BadPlace}
 use Rattle.audit_base.specs.declared.records.OrderRecord.{OrderRecord}
 use Rattle.audit_base.specs.declared.terms.Form.{Form}
@@ -26,12 +26,12 @@ use Rattle.log_verdict.specs.declared.reading.Unread.TheVariants as unread
 use Rattle.log_verdict.specs.declared.sources.Source.{Source}
 use Rattle.log_verdict.specs.declared.stops.Stop.{Stop}
 use Rattle.log_verdict.specs.declared.stops.Stop.TheVariants as stop
-use Rattle.log_verdict.specs.BothLogs.{IsLogStop, StaysWithin, StaysWithinAt}
+use Rattle.log_verdict.specs.BothLogs.{StaysWithin, StaysWithinAt}
 use Rattle.log_verdict.specs.Collecting.{step_of, IsUnread, TouchesOnly}
 use Rattle.log_verdict.specs.LogVerdicts.{records_of_order_log}
 use Rattle.log_verdict.specs.Steps.{Reading, EndsWithin, FaultsNeverFall, IsRead, IsReadFault, IsTooLong, StepsLead, with_slot}
 use Rattle.day_contents.specs.Items.{csv_items, fix_items, order_log_items}
-use Rattle.desk_run.specs.Contents.{IsAnswerAfterOrders, IsAnswerToItems}
+use Rattle.desk_run.specs.Contents.{IsAnswerToItems}
 
 -- The answers are those to logs that were read.
 

@@ -1,5 +1,7 @@
 mod ContentsLemmas
 mod DayLemmas
 mod DigestLemmas
+mod GeneratedLemmas
 mod HeadlineLemmas
 mod PlainLemmas
+mod WrittenLemmas

@@ -1,63 +1,223 @@
--- A day that was made plain, or why it was not.
-use Rattle.std.proofs.Common.{◌≡◌, ◌≤◌, ◌⊎◌, refl, sym, subst, inl, inr, ℕ, Bool, true, false, List, [], ◌∷◌, ◌++◌, Option, Some, None, Result, Ok, arith}
-use Rattle.std.specs.Prelude.{IsTrue, ◌&&◌, ◌||◌, length, nat_eq, nat_le}
+-- A day that is written while it is read, and what is left of it.
+use Rattle.std.proofs.Common.{◌≡◌, ◌≤◌, ◌⊎◌, refl, sym, subst, ap, ◌∙◌, inl, inr, ℕ, Bool, true, false, List, [], ◌∷◌, ◌++◌, take, Option, Some, None, Result, Ok, Err, append_assoc, arith}
+use Rattle.std.specs.Prelude.{IsTrue, ◌&&◌, ◌||◌, IfErr, IfOk, IfSome, length, MatchResult, nat_eq, nat_le}
 use Rattle.std.specs.Char.{is_ascii_graphic}
+use Rattle.std.specs.Io.{StartsWith}
 use Rattle.std.specs.List.{list_all, starts_with}
+use Rattle.std.proofs.KnownBytes.{Appends-nil}
+use Rattle.std.proofs.lemmas.Grind.{flat_map-append}
+use Rattle.std.proofs.lemmas.List.{take_at}
+use Rattle.audit_base.specs.declared.terms.Which.{Which}
 use Rattle.audit_base.specs.declared.terms.Which.TheVariants.{Orders, Trades}
 use Rattle.audit_base.specs.Sizes.{soh}
 use Rattle.audit_report.specs.declared.statuses.Status.{Status}
+use Rattle.audit_report.specs.declared.statuses.Status.TheVariants as status
 use Rattle.command_run.specs.declared.answers.Answer.{Answer}
-use Rattle.command_run.specs.Deciding.{IsStatusOfLogs}
+use Rattle.command_run.specs.Commands.{Command}
+use Rattle.command_run.specs.Deciding.{DecidesRest, IsAnswerOfKind, RestStops}
+use Rattle.command_run.specs.Early.{BeginsEveryAnswer, IsEarlyAt, ReadsFront}
+use Rattle.command_run.specs.Runs.{AnswersCommand, IsAnswerToReadLogs, IsEarlyText, ReadingDecides, ReadsThenStarts}
 use Rattle.command_run.specs.VerdictAnswers.{IsAnswerWith}
+use Rattle.command_run.specs.Writing.{HasWritten}
 use Rattle.desk_words.specs.DressWords.{HasSohWord}
+use Rattle.desk_words.specs.declared.dress_words.DayDress.{DayDress}
 use Rattle.desk_words.specs.declared.dress_words.DayDress.TheVariants.{OnLines}
+use Rattle.desk_words.specs.declared.requests.DeskRequest.TheVariants.{Plain}
 use Rattle.dressed_logs.specs.declared.faults.BadMessage.{BadMessage}
+use Rattle.dressed_logs.specs.Fronts.{BeginsReadings}
+use Rattle.dressed_logs.specs.Laws.{written_line}
 use Rattle.dressed_logs.specs.Lines.{is_graphic, is_soh_text}
 use Rattle.log_source.specs.declared.shelf.Shelf.{Ghosts as Shelf}
+use Rattle.log_source.specs.declared.take.TakeFault.{TakeFault}
+use Rattle.log_source.specs.declared.take.TakeFault.TheVariants as take
+use Rattle.log_source.specs.Sinks.{SinkState, SinkStays}
 use Rattle.log_source.specs.Sources.{Slot, longest_read}
-use Rattle.log_source.specs.Taking.{Takes}
 use Rattle.log_verdict.specs.declared.stops.Stop.{Stop}
-use Rattle.log_verdict.specs.BothLogs.{StaysWithin, StaysWithinAt}
-use Rattle.log_verdict.specs.Collecting.{IsReadAs, TouchesOnly}
-use Rattle.log_verdict.specs.Steps.{EndsWithin, FaultsNeverFall, Reading}
-use Rattle.plain_logs.specs.declared.logs.PlainLog.{PlainLog}
-use Rattle.plain_logs.specs.PlainLogs.{IsPlainOfLog}
-use Rattle.desk_run.specs.PlainAnswers.{bad_line, IsPlainAnswer, plain_status, text_for_soh}
+use Rattle.log_verdict.specs.declared.stops.Stop.TheVariants as stop
+use Rattle.log_verdict.specs.BothLogs.{IsLogStop, StaysWithin}
+use Rattle.log_verdict.specs.Collecting.{step_of, TouchesOnly}
+use Rattle.log_verdict.specs.Steps.{EndsWithin, FaultsNeverFall, IsRead, LogStep, Reading, with_slot}
+use Rattle.plain_logs.specs.declared.day_ends.DayEnd.{DayEnd}
+use Rattle.plain_logs.specs.declared.day_ends.PlainFault.{PlainFault}
+use Rattle.plain_logs.specs.declared.day_ends.PlainFault.TheVariants as plain
+use Rattle.plain_logs.specs.PlainLogs.{ReadsFrontOf, StopsWriting, TakesUpTo, WritesUpToEnd}
+use Rattle.plain_logs.specs.PlainTexts.{plain_text}
+use Rattle.desk_run.specs.Digesting.{stop_of_take}
+use Rattle.desk_run.specs.PlainAnswers.{bad_line, day_reading, IsPlainAnswer, plain_status, text_for_soh}
+use Rattle.desk_run.specs.PlainWriting.{FailsAt, WritesDay, WritesOfFront, WritesToEnd, WritesToStop, WritesWithin}
+use Rattle.desk_run.specs.Requests.{desk_command_of}
 use Rattle.desk_run.specs.TopCall.{desk_reading}
-
-module _ {F : Type 0} (shelves : Shelf F) (reading : List ℕ → List (List ℕ) → Option BadMessage → Type 0) (old new : F) (name : List ℕ) (log : PlainLog)
-    (plain : IsPlainOfLog shelves reading Orders name longest_read old new log) where
-  pub plain-within : (shelves.slot new Orders).taken ≤ longest_read
-  plain-within = subst (λ (n : ℕ). n ≤ longest_read) plain.count plain.within
-
-  pub plain-read : (status : Status) (text : List ℕ) → Takes {T = PlainLog} shelves Orders name longest_read old new (Ok log) → IsAnswerWith (plain_status log.bad) (log.text.items ++ bad_line log.bad) status text
-      → IsReadAs (desk_reading shelves old new) Orders name (λ bytes. IsPlainAnswer (reading bytes) status text)
-  plain-read status text slot answer = record {
-    bytes = plain.bytes;
-    read = record { once = slot.once; started = slot.started; at_end = slot.at_end; within = plain.within; taken = plain.count; known = plain.whole };
-    holds = record { plain = log.text.items; bad = log.bad; is = plain.plain; answer = answer };
-  }
-
--- the status of a day is one of an answer
-of-logs : (bad : Option BadMessage) → IsStatusOfLogs (plain_status bad)
-of-logs None = tt
-of-logs (Some bad) = tt
-
-pub plain-of-logs : (reads : List (List ℕ) → Option BadMessage → Type 0) (status : Status) (text : List ℕ) → IsPlainAnswer reads status text → IsStatusOfLogs status
-plain-of-logs reads status text is = subst IsStatusOfLogs (sym is.answer.status_is) (of-logs is.bad)
-
--- where the order log alone was touched
-pub first_later : (r : Reading) → TouchesOnly r Orders → FaultsNeverFall r
-first_later r only Orders = only.later
-first_later r only Trades = subst (λ (s : Slot). (r.before Trades).faults ≤ s.faults) (sym only.other) (omega arith)
+use Rattle.desk_run.proofs.DigestLemmas.{first_stop, stop-cause, stop-within}
 
 first-ends : (r : Reading) → (r.after Orders).taken ≤ r.limit → (r.after Trades).taken ≤ r.limit → EndsWithin r
 first-ends r orders trades Orders = orders
 first-ends r orders trades Trades = trades
 
-pub first_within : (r : Reading) (result : Result Answer Stop) → TouchesOnly r Orders → StaysWithinAt r Orders result → StaysWithin r result
-first_within r result only (inl long) begins = inl long
-first_within r result only (inr short) begins = inr (first-ends r short (subst (λ (s : Slot). s.taken ≤ r.limit) (sym only.other) (begins Trades)))
+-- What is known of a log of the shelf, as of the order log of a call.
+module _ {F : Type 0} (shelves : Shelf F) (reads : List ℕ → List (List ℕ) → Option BadMessage → Type 0) (old new : F) (name : List ℕ) (sink_old sink_new : SinkState) where
+  abbrev r : Reading
+  r = desk_reading shelves old new
+
+  front-read : (front : List ℕ) (bodies : List (List ℕ)) → ReadsFrontOf shelves reads Orders name old new front bodies → ReadsFront r (step_of r Orders name) front
+  front-read front bodies of = record { taken = of.taken; known = of.known }
+
+  pub writes-day : (result : Result DayEnd PlainFault) → TakesUpTo shelves Orders name longest_read old new result → IfOk result (WritesUpToEnd shelves reads Orders name longest_read old new sink_old sink_new)
+      → IfErr result (StopsWriting shelves reads Orders name old new sink_old sink_new) → WritesDay r reads name sink_old sink_new result
+  writes-day (Ok end) slot is stops = record {
+    bytes = is.bytes;
+    bodies = is.bodies;
+    read = record { once = slot.once; started = slot.started; at_end = slot.at_end; within = is.within; taken = is.count; known = is.whole };
+    begins = is.begins;
+    wrote = is.wrote;
+    ends = is.holding;
+  }
+  writes-day (Err (plain.Log why)) slot ends is = record {
+    cause = stop-cause shelves old new Orders name why slot;
+    early = record { front = is.front; bodies = is.bodies; read = front-read is.front is.bodies is.of; begins = is.of.begins; wrote = is.wrote };
+  }
+  writes-day (Err plain.Sink) slot ends is = record {
+    front = is.front;
+    bodies = is.bodies;
+    read = front-read is.front is.bodies is.of;
+    begins = is.of.begins;
+    wrote = record { part = is.part; cause = is.cause };
+  }
+
+  pub takes-later : (result : Result DayEnd PlainFault) → TakesUpTo shelves Orders name longest_read old new result → (shelves.slot old Orders).faults ≤ (shelves.slot new Orders).faults
+  takes-later (Ok end) slot = slot.later
+  takes-later (Err (plain.Log why)) slot = slot.later
+  takes-later (Err plain.Sink) slot = slot.later
+
+  pub writes-within : (result : Result DayEnd PlainFault) → TouchesOnly r Orders → TakesUpTo shelves Orders name longest_read old new result → IfOk result (WritesUpToEnd shelves reads Orders name longest_read old new sink_old sink_new)
+      → WritesWithin r result
+  writes-within (Ok end) only slot is = λ begins.
+      first-ends r (subst (λ (n : ℕ). n ≤ longest_read) is.count is.within) (subst (λ (s : Slot). s.taken ≤ r.limit) (sym only.other) (begins Trades))
+  writes-within (Err (plain.Log why)) only slot is = first_stop r (stop_of_take Orders why) only (stop-within shelves old new Orders name why slot)
+  writes-within (Err plain.Sink) only slot is = tt
+
+-- where memory ran out before the day was started, nothing was written
+nothing-first : (log : Option (List ℕ)) → IfSome log (λ xs. StartsWith xs [])
+nothing-first None = tt
+nothing-first (Some xs) = refl
+
+pub nothing-written : (r : Reading) (reads : List ℕ → List (List ℕ) → Option BadMessage → Type 0) (name : List ℕ) (sink : SinkState) → WritesDay r reads name sink sink (Err (plain.Log take.Memory))
+nothing-written r reads name sink = record {
+  cause = tt;
+  early = record {
+    front = [];
+    bodies = [];
+    read = record { taken = omega arith; known = λ tells. nothing-first (r.log_of Orders name) };
+    begins = λ more others bad is. (others, refl);
+    wrote = Appends-nil sink.wrote;
+  };
+}
+
+module _ (r : Reading) (day : List ℕ) (dress : DayDress) (only : TouchesOnly r Orders) where
+  abbrev command : Command
+  command = desk_command_of (Plain day dress)
+
+  abbrev last : LogStep
+  last = step_of r Orders day
+
+  day-ends : (which : Which) → r.after which ≡ with_slot r.before Orders (r.after Orders) which
+  day-ends Orders = refl
+  day-ends Trades = only.other
+
+  abbrev reaches : ReadsThenStarts r command last
+  reaches = record { steps = []; logs = []; lead = (record { at = refl; later = only.later }, day-ends); read = refl; next = refl }
+
+  -- what was written of a front begins every answer
+  begins-answer : (front : List ℕ) (bodies : List (List ℕ)) → BeginsReadings (day_reading dress) front bodies → BeginsEveryAnswer command [] front (plain_text bodies)
+  begins-answer front bodies begins more later status answer is =
+      let rest = begins more is.is.bodies is.bad is.is.read in
+      let text : answer ≡ plain_text bodies ++ (plain_text rest.0 ++ bad_line is.bad) =
+      is.answer.text_is ∙ ap (λ (t : List ℕ). t ++ bad_line is.bad) (is.is.text_is ∙ ap plain_text rest.1 ∙ flat_map-append written_line bodies rest.0)
+      ∙ append_assoc (plain_text bodies) (plain_text rest.0) (bad_line is.bad) in
+      subst (λ (t : List ℕ). StartsWith t (plain_text bodies)) (sym text) (take_at (plain_text bodies) (plain_text rest.0 ++ bad_line is.bad) (length (plain_text bodies)) refl)
+
+  early-at : (front : List ℕ) (bodies : List (List ℕ)) → ReadsFront r last front → BeginsReadings (day_reading dress) front bodies → IsEarlyAt r command [] last (plain_text bodies)
+  early-at front bodies read begins = record { front = front; read = read; begins = begins-answer front bodies begins }
+
+  early-text : (front : List ℕ) (bodies : List (List ℕ)) → ReadsFront r last front → BeginsReadings (day_reading dress) front bodies → IsEarlyText r command (plain_text bodies)
+  early-text front bodies read begins = inl (record { last = last; reads = reaches; early = early-at front bodies read begins })
+
+  whole-front : (bytes : List ℕ) → IsRead r last bytes → ReadsFront r last bytes
+  whole-front bytes read = record { taken = by-equal (length bytes) last.after.taken read.taken; known = λ tells. subst (λ (log : Option (List ℕ)). IfSome log (λ xs. StartsWith xs bytes)) (sym (read.known tells)) (take-all bytes) }
+    where
+      by-equal : (a b : ℕ) → a ≡ b → a ≤ b
+      by-equal a b same = omega (arith, same)
+
+      take-all : (xs : List ℕ) → take (length xs) xs ≡ xs
+      take-all [] = refl
+      take-all (x ∷ xs) = ap (λ (t : List ℕ). x ∷ t) (take-all xs)
+
+  -- the answer to a day that was read
+  by-bad : (bad : Option BadMessage) (text : List ℕ) → IsAnswerToReadLogs r command (plain_status bad) text → ReadingDecides r command (plain_status bad) text
+  by-bad None text is = is
+  by-bad (Some bad) text is = is
+
+  module _ (sink_old sink_new : SinkState) where
+    module _ (end : DayEnd) (is : WritesToEnd r (day_reading dress) day sink_old sink_new end) where
+      rest-of : (status : Status) (text : List ℕ) → IsAnswerWith (plain_status end.bad) (end.text.items ++ bad_line end.bad) status text → ReadingDecides r command status (plain_text is.bodies ++ text)
+      rest-of status text answer =
+          let whole : plain_text is.bodies ++ text ≡ (plain_text is.bodies ++ end.text.items) ++ bad_line end.bad =
+          ap (λ (t : List ℕ). plain_text is.bodies ++ t) answer.text_is ∙ sym (append_assoc (plain_text is.bodies) end.text.items (bad_line end.bad)) in
+          let plain : plain_text is.bodies ++ end.text.items ≡ plain_text (is.bodies ++ is.ends.more) =
+          ap (λ (t : List ℕ). plain_text is.bodies ++ t) is.ends.text_is ∙ sym (flat_map-append written_line is.bodies is.ends.more) in
+          let says : IsPlainAnswer (day_reading dress is.bytes) (plain_status end.bad) (plain_text is.bodies ++ text) = record {
+            plain = plain_text is.bodies ++ end.text.items;
+            bad = end.bad;
+            is = record { bodies = is.bodies ++ is.ends.more; read = is.ends.read; text_is = plain };
+            answer = record { status_is = refl; text_is = whole };
+          } in
+          subst (λ (s : Status). ReadingDecides r command s (plain_text is.bodies ++ text)) (sym answer.status_is)
+          (by-bad end.bad (plain_text is.bodies ++ text) (record {
+            steps = last ∷ [];
+            logs = is.bytes ∷ [];
+            lead = reaches.lead;
+            read = (is.bytes, record { next = refl; read = is.read }, refl);
+            all = refl;
+            answer = says;
+          }))
+
+      pub rest-at-end : (result : Result Answer Stop) → MatchResult result (IsAnswerOfKind (IsAnswerWith (plain_status end.bad) (end.text.items ++ bad_line end.bad))) (λ why. why ≡ stop.Memory) → DecidesRest r command (plain_text is.bodies) result
+      rest-at-end (Ok answer) says = rest-of answer.status answer.text.items says
+      rest-at-end (Err why) says = subst (RestStops r command (plain_text is.bodies)) (sym says) (early-text is.bytes is.bodies (whole-front is.bytes is.read) is.begins)
+
+      pub end-written : SinkStays sink_old sink_new → HasWritten sink_old sink_new (plain_text is.bodies)
+      end-written stays = record { stays = stays; wrote = is.wrote }
+
+    module _ (fault : TakeFault) (is : WritesToStop r (day_reading dress) day sink_old sink_new (IsLogStop r Orders day (stop_of_take Orders fault))) where
+      pub stop-written : SinkStays sink_old sink_new → HasWritten sink_old sink_new (plain_text is.early.bodies)
+      stop-written stays = record { stays = stays; wrote = is.early.wrote }
+
+    pub rest-at-stop : (fault : TakeFault) (is : WritesToStop r (day_reading dress) day sink_old sink_new (IsLogStop r Orders day (stop_of_take Orders fault))) → RestStops r command (plain_text is.early.bodies) (stop_of_take Orders fault)
+    rest-at-stop take.Fault is = record {
+      last = last;
+      reads = reaches;
+      cause = is.cause.1;
+      text_is = record { early = plain_text is.early.bodies; is_early = early-at is.early.front is.early.bodies is.early.read is.early.begins; text_is = refl };
+    }
+    rest-at-stop take.TooLong is = record {
+      last = last;
+      reads = reaches;
+      cause = is.cause.1;
+      text_is = record { early = plain_text is.early.bodies; is_early = early-at is.early.front is.early.bodies is.early.read is.early.begins; text_is = refl };
+    }
+    rest-at-stop take.Memory is = early-text is.early.front is.early.bodies is.early.read is.early.begins
+
+    pub sink-failed : WritesOfFront r (day_reading dress) day (FailsAt sink_old sink_new) → AnswersCommand r command sink_old sink_new status.WriteFault
+    sink-failed is = record {
+      text = plain_text is.bodies;
+      is = inr (early-text is.front is.bodies is.read is.begins);
+      wrote = is.wrote.part;
+      cause = is.wrote.cause;
+    }
+
+-- where the order log alone was touched
+pub first_later : (r : Reading) → TouchesOnly r Orders → FaultsNeverFall r
+first_later r only Orders = only.later
+first_later r only Trades = subst (λ (s : Slot). (r.before Trades).faults ≤ s.faults) (sym only.other) (omega arith)
 
 -- a word in the place of SOH may stand for it
 three : (a b c other same : Bool) → c ≡ other → (a && b && c) ≡ true → (a && b && (other || same)) ≡ true
@@ -73,3 +233,13 @@ pub soh-fits : (word : Option (List ℕ)) → HasSohWord (OnLines word) → IsTr
 soh-fits None is = refl
 soh-fits (Some text) is =
     three (nat_le 1 (length text)) (nat_le (length text) 5) (list_all is_ascii_graphic text) (list_all is_graphic text) (starts_with nat_eq (soh ∷ []) text) (graphic text) is
+
+-- what is said of both slots where the sink failed, or the day ended
+pub ended-within : (r : Reading) (end : DayEnd) (result : Result Answer Stop) → WritesWithin r (Ok end) → StaysWithin r result
+ended-within r end result within begins = inr (within begins)
+
+pub stays-on : (a b c : SinkState) → SinkStays a b → SinkStays b c → SinkStays a c
+stays-on a b c first second =
+    let early = first.later in
+    let late = second.later in
+    record { tells = second.tells ∙ first.tells; sure = second.sure ∙ first.sure; later = omega (arith, early, late) }

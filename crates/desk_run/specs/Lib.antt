@@ -4,6 +4,9 @@ pub mod TopCall
 pub mod Requests
 pub mod Contents
 pub mod PlainAnswers
+pub mod WrittenLogs
 -- What private functions pass on to one another.
 pub mod Deciding
 pub mod Digesting
+pub mod PlainWriting
+pub mod Converting

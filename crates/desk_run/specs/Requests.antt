@@ -1,6 +1,6 @@
 -- What each command of `desk` reads, and what it answers to that.
 -- A command is one case of each definition here.
-use Rattle.std.specs.Prelude.{ℕ, Bool, false, List, Option, None, Some}
+use Rattle.std.specs.Prelude.{ℕ, Bool, true, false, List, Option, None, Some}
 use Rattle.audit_base.specs.declared.terms.Rule.{Rule}
 use Rattle.audit_base.specs.declared.terms.Which.{Which}
 use Rattle.audit_base.specs.declared.terms.Which.TheVariants.{Orders}
@@ -17,7 +17,7 @@ use Rattle.day_logs.specs.DayAnswerTexts.{day_answer_status, day_answer_text}
 use Rattle.day_sessions.specs.JudgedSessions.{AreSessionsOfDay}
 use Rattle.day_symbols.specs.Shares.{DayShare, whole_day}
 use Rattle.desk_words.specs.declared.requests.DeskRequest.{DeskRequest}
-use Rattle.desk_words.specs.declared.requests.DeskRequest.TheVariants.{Audit, Session, Digest, Plain, Contents, Help, Version}
+use Rattle.desk_words.specs.declared.requests.DeskRequest.TheVariants.{Audit, Session, Digest, Orders as GeneratedOrders, Convert, Plain, Contents, Help, Version}
 use Rattle.desk_run.specs.Contents.{IsContentsAnswer}
 use Rattle.desk_words.specs.Texts.{help_text, version_text}
 use Rattle.log_digests.specs.DigestLines.{digest_text}
@@ -25,6 +25,7 @@ use Rattle.log_digests.specs.Digests.{digest_of}
 use Rattle.log_verdict.specs.LogVerdicts.{Log, log_in}
 use Rattle.session_audit.specs.Texts.{phases_text}
 use Rattle.desk_run.specs.PlainAnswers.{day_reading, IsPlainAnswer}
+use Rattle.desk_run.specs.WrittenLogs.{IsGeneratedAnswer, IsWrittenLogAnswer}
 
 -- the share that is asked for; the whole day where none is given
 abbrev pub share_or_whole : Option DayShare → DayShare
@@ -38,14 +39,16 @@ day_question rule table share =
 
 -- the log that a command starts after those that it has read, whose bytes these are: its slot and
 -- its name; nothing where it needs no more. `audit`, `session` and `contents` start both logs, the
--- trade log where the order log is good, `digest` both whatever is in them, `plain` the day as the
--- order log, `help` and `--version` none
+-- trade log where the order log is good, `digest` both whatever is in them, `convert` its one log,
+-- `plain` the day as the order log, `orders`, `help` and `--version` none
 abbrev pub next_desk_log : DeskRequest → List (List ℕ) → Option (Which × List ℕ)
 next_desk_log (Audit rule logs table share) bytes =
     next_of_both_logs logs.orders logs.trades logs.orders_form bytes
 next_desk_log (Session phases logs table share) bytes =
     next_of_both_logs logs.orders logs.trades logs.orders_form bytes
 next_desk_log (Digest orders trades) bytes = next_of_any_two_logs orders trades bytes
+next_desk_log (GeneratedOrders start count form) bytes = None
+next_desk_log (Convert log from path into) bytes = next_of_one_log log path bytes
 next_desk_log (Plain day dress) bytes = next_of_one_log Orders day bytes
 next_desk_log (Contents logs) bytes =
     next_of_both_logs logs.orders logs.trades logs.orders_form bytes
@@ -62,8 +65,9 @@ pub record IsDayAnswer (meaning : DayMeaning) (judged_by : List ℕ) (orders tra
 
 -- what a command answers to the logs that it has read, its status and its text: to `audit` and
 -- `session` that of the day, of the symbols of the share that is asked for; to `digest` the
--- digests of both logs; to `plain` the messages of the day; to `contents` what is in both logs; to
--- `help` and `--version` a text of their own
+-- digests of both logs; to `orders` the generated log; to `convert` the records of the log in the
+-- second form; to `plain` the messages of the day; to `contents` what is in both logs; to `help`
+-- and `--version` a text of their own
 abbrev pub IsDeskAnswer : DeskRequest → List (List ℕ) → Status → List ℕ → Type 0
 IsDeskAnswer (Audit rule logs table share) bytes status text =
     IsDayAnswer (AreVerdictsOfDay (day_question rule table share)) (rule_word rule)
@@ -76,6 +80,10 @@ IsDeskAnswer (Session phases logs table share) bytes status text =
 IsDeskAnswer (Digest orders trades) bytes status text =
     IsAnswerWith Accepted
     (digest_text (digest_of (log_read_at bytes 0)) (digest_of (log_read_at bytes 1))) status text
+IsDeskAnswer (GeneratedOrders start count form) bytes status text =
+    IsGeneratedAnswer start count form status text
+IsDeskAnswer (Convert log from path into) bytes status text =
+    IsWrittenLogAnswer log into (log_in from (log_read_at bytes 0)) status text
 IsDeskAnswer (Plain day dress) bytes status text =
     IsPlainAnswer (day_reading dress (log_read_at bytes 0)) status text
 IsDeskAnswer (Contents logs) bytes status text =
@@ -84,11 +92,24 @@ IsDeskAnswer (Contents logs) bytes status text =
 IsDeskAnswer (Help about) bytes status text = IsAnswerWith Accepted (help_text about) status text
 IsDeskAnswer Version bytes status text = IsAnswerWith Accepted version_text status text
 
+-- whether a command writes its text while it makes it: `plain`, whose text is as long as the day,
+-- and `orders`, whose text may be longer than memory is to be
+abbrev pub writes_while_reading : DeskRequest → Bool
+writes_while_reading (Audit rule logs table share) = false
+writes_while_reading (Session phases logs table share) = false
+writes_while_reading (Digest orders trades) = false
+writes_while_reading (GeneratedOrders start count form) = true
+writes_while_reading (Convert log from path into) = false
+writes_while_reading (Plain day dress) = true
+writes_while_reading (Contents logs) = false
+writes_while_reading (Help about) = false
+writes_while_reading Version = false
+
 -- the command that a request asks for
 abbrev pub desk_command_of : DeskRequest → Command
 desk_command_of request =
     record {
       next = next_desk_log request;
       is_answer = IsDeskAnswer request;
-      writes_early = false;
+      writes_early = writes_while_reading request;
     }

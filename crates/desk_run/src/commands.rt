@@ -1,9 +1,9 @@
 //! The answer to each command. A command is an arm of `answer_request`.
-ghost use Rattle.std.specs.Prelude.{IfOk};
+ghost use Rattle.std.specs.Prelude.{◌≡◌, false, IfOk};
 ghost use Rattle.audit_report.specs.declared.statuses.Status.TheVariants as status;
 ghost use Rattle.command_run.specs.Deciding.{DecidesAnswer, IsAnswerOfKind};
 ghost use Rattle.command_run.specs.VerdictAnswers.{IsAnswerWith};
-ghost use Rattle.desk_run.specs.Requests.{desk_command_of};
+ghost use Rattle.desk_run.specs.Requests.{desk_command_of, writes_while_reading};
 ghost use Rattle.desk_run.specs.TopCall.{desk_reading};
 ghost use Rattle.desk_words.specs.Texts.{help_text, version_text};
 ghost use Rattle.desk_words.specs.Words.{MayBeAskedOfDesk};
@@ -11,9 +11,9 @@ ghost use Rattle.log_verdict.specs.BothLogs.{StaysWithin};
 ghost use Rattle.log_verdict.specs.Steps.{FaultsNeverFall, KeepsShelfLogs};
 
 use super::contents::answer_contents;
+use super::converting::answer_convert;
 use super::days::{answer_audit, answer_session};
 use super::digests::answer_digest;
-use super::plain::answer_plain;
 use super::program::Desk;
 use super::sources::{day_source, share_asked};
 use audit_base::faults::NoMemory;
@@ -46,14 +46,15 @@ fn answer_version(alloc: Global) -> Result<Answer, NoMemory>
     Ok(done_answer(text))
 }
 
-/// The answer to a request, whatever its command is.
+/// The answer to a request, whatever its command is, unless it writes while it makes its text.
 pub(crate) fn answer_request<F: Shelf>(
     alloc: Global,
     seed: HashSeed,
     shelf: &mut F,
     request: &DeskRequest,
 ) -> Result<Answer, Stop>
-    requires { MayBeAskedOfDesk request.now }
+    requires may { MayBeAskedOfDesk request.now }
+    requires whole { writes_while_reading request.now ≡ false }
     ensures logs { KeepsShelfLogs F.Shelf shelf.old shelf.new }
     ensures later { FaultsNeverFall (desk_reading F.Shelf shelf.old shelf.new) }
     ensures decides { DecidesAnswer (desk_reading F.Shelf shelf.old shelf.new)
@@ -98,7 +99,16 @@ pub(crate) fn answer_request<F: Shelf>(
             )
         }
         DeskRequest::Digest { orders, trades } => answer_digest(alloc, shelf, orders, trades),
-        DeskRequest::Plain { day, dress } => answer_plain(alloc, shelf, day, dress),
+        DeskRequest::Orders { .. } | DeskRequest::Plain { .. } => unreachable!(),
+        DeskRequest::Convert {
+            log,
+            from,
+            path,
+            into,
+        } => {
+            let source = day_source(path, *from, seed);
+            answer_convert(alloc, shelf, *log, &source, *into)
+        }
         DeskRequest::Contents { logs } => {
             let orders = day_source(&logs.orders, logs.orders_form, seed);
             let trades = day_source(&logs.trades, logs.trades_form, seed);

@@ -1,6 +1,5 @@
 //! The answers to `audit` and to `session`: a day of two logs.
 ghost use Rattle.std.specs.Prelude.{IfOk};
-ghost use Rattle.audit_base.specs.Words.{rule_word};
 ghost use Rattle.command_run.specs.Deciding.{DecidesAnswer, IsAnswerOfKind};
 ghost use Rattle.command_run.specs.VerdictAnswers.{IsAnswerWith};
 ghost use Rattle.day_logs.specs.DayAnswerTexts.{day_answer_status, day_answer_text};

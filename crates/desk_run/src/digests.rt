@@ -10,7 +10,6 @@ ghost use Rattle.log_verdict.specs.Steps.{FaultsNeverFall, KeepsShelfLogs};
 ghost use Rattle.std.specs.Prelude.{◌≡◌};
 
 use super::program::Desk;
-use audit_base::faults::NoMemory;
 use audit_base::terms::Which;
 use command_run::answers::{Answer, done_answer};
 use command_run::laws::{any_two_logs_decide, readings_in_turn_are_one};

@@ -1,15 +1,20 @@
-//! The answer to `plain`: the messages of a day, each as a line of a FIX log.
-ghost use Rattle.std.specs.Prelude.{◌≡◌, ◌++◌, IfOk, IsTrue};
-ghost use Rattle.command_run.specs.Deciding.{DecidesAnswer, DecidesBytes, IsAnswerOfKind};
+//! The answer to `plain`: the messages of a day, each as a line of a FIX log, written while the day
+//! is read.
+ghost use Rattle.std.specs.Prelude.{◌≡◌, ◌++◌, IfOk, IsTrue, MatchResult};
+ghost use Rattle.audit_report.specs.declared.statuses.Status.TheVariants as status;
+ghost use Rattle.command_run.specs.Deciding.{IsAnswerOfKind};
+ghost use Rattle.command_run.specs.Runs.{AnswersCommand, AnswersTooLong};
 ghost use Rattle.command_run.specs.VerdictAnswers.{IsAnswerWith};
-ghost use Rattle.desk_run.specs.PlainAnswers.{bad_line, bad_place_of, IsPlainAnswer, plain_status, text_for_soh};
+ghost use Rattle.desk_run.specs.PlainAnswers.{bad_line, bad_place_of, day_reading, plain_status, text_for_soh};
+ghost use Rattle.desk_run.specs.PlainWriting.{WritesDay, WritesWithin};
 ghost use Rattle.desk_run.specs.Requests.{desk_command_of};
 ghost use Rattle.desk_run.specs.TopCall.{desk_reading};
 ghost use Rattle.desk_words.specs.DressWords.{HasSohWord};
 ghost use Rattle.desk_words.specs.declared.requests.DeskRequest.TheVariants.{Plain};
 ghost use Rattle.dressed_logs.specs.Framed.{IsFramedReading};
 ghost use Rattle.dressed_logs.specs.Lines.{IsLineReading, is_soh_text};
-ghost use Rattle.log_verdict.specs.BothLogs.{StaysWithin, StaysWithinAt};
+ghost use Rattle.log_source.specs.Sinks.{SinkStays};
+ghost use Rattle.log_verdict.specs.declared.stops.Stop.TheVariants as stop;
 ghost use Rattle.log_verdict.specs.Collecting.{TouchesOnly};
 ghost use Rattle.log_verdict.specs.Steps.{FaultsNeverFall, KeepsShelfLogs};
 
@@ -18,8 +23,9 @@ use super::program::Desk;
 use audit_base::faults::{BadPlace, NoMemory};
 use audit_base::sizes::SOH;
 use audit_base::terms::Which;
+use audit_report::statuses::Status;
 use command_run::answers::{Answer, done_answer, malformed_answer};
-use command_run::laws::one_log_decides;
+use command_run::writing::write_answer;
 use command_words::paths::PathText;
 use desk_words::dress_words::{DayDress, SohWord};
 use dressed_logs::faults::BadMessage;
@@ -27,8 +33,11 @@ use dressed_logs::lines::SohText;
 use fix_messages::feeds::frame_reason;
 use log_source::limits::LONGEST_READ;
 use log_source::shelf::Shelf;
+use log_source::sink::Sink;
+use log_source::take::TakeFault;
 use log_verdict::stops::Stop;
-use plain_logs::logs::{PlainLog, plain_framed, plain_on_lines};
+use plain_logs::day_ends::{DayEnd, PlainFault};
+use plain_logs::logs::{write_framed, write_on_lines};
 use std::alloc::Global;
 use std::marker::Brand;
 
@@ -43,12 +52,12 @@ fn bad_place(bad: &BadMessage) -> BadPlace
     }
 }
 
-/// The answer that a day is, made plain.
-fn plain_answer(alloc: Global, log: PlainLog) -> Result<Answer, NoMemory>
+/// What is left of the answer at the end of a day.
+fn end_answer(alloc: Global, end: DayEnd) -> Result<Answer, NoMemory>
     ensures { IfOk result (IsAnswerOfKind
-        (IsAnswerWith (plain_status log.bad) (log.text.items ++ bad_line log.bad))) }
+        (IsAnswerWith (plain_status end.bad) (end.text.items ++ bad_line end.bad))) }
 {
-    let PlainLog { mut text, bad } = log;
+    let DayEnd { mut text, bad } = end;
     match bad {
         None => Ok(done_answer(text)),
         Some(bad) => {
@@ -62,60 +71,78 @@ fn plain_answer(alloc: Global, log: PlainLog) -> Result<Answer, NoMemory>
     }
 }
 
-/// The answer to a day whose messages are framed.
-fn answer_framed<F: Shelf>(alloc: Global, shelf: &mut F, day: &PathText) -> Result<Answer, Stop>
-    ensures logs { KeepsShelfLogs F.Shelf shelf.old shelf.new }
-    ensures only { TouchesOnly (desk_reading F.Shelf shelf.old shelf.new) Which.Orders }
-    ensures decides { DecidesBytes (desk_reading F.Shelf shelf.old shelf.new) Which.Orders day.now
-        (λ bytes. IsPlainAnswer (IsFramedReading bytes)) result }
-    ensures within { StaysWithinAt (desk_reading F.Shelf shelf.old shelf.new)
-        Which.Orders result }
+/// The same, or that memory ran out.
+fn end_or_stop(alloc: Global, end: DayEnd) -> Result<Answer, Stop>
+    ensures { MatchResult result (IsAnswerOfKind
+        (IsAnswerWith (plain_status end.bad) (end.text.items ++ bad_line end.bad)))
+        (λ why. why ≡ stop.Memory) }
 {
-    match plain_framed(alloc, shelf, Which::Orders, day.as_str(), LONGEST_READ) {
-        Ok(log) => Ok(plain_answer(alloc, log)?),
-        Err(fault) => Err(stop_of_take(Which::Orders, fault)),
-    }
+    Ok(end_answer(alloc, end)?)
 }
 
-/// The answer to a day whose messages stand on lines. The text of `S`, which is `soh`, stands for
-/// SOH in them.
-fn answer_lines<S: SohText, F: Shelf>(
+/// Writes a day whose messages are framed, up to its end.
+fn write_day_framed<F: Shelf, K: Sink>(
     alloc: Global,
     shelf: &mut F,
+    out: &mut K,
+    day: &PathText,
+) -> Result<DayEnd, PlainFault>
+    ensures logs { KeepsShelfLogs F.Shelf shelf.old shelf.new }
+    ensures only { TouchesOnly (desk_reading F.Shelf shelf.old shelf.new) Which.Orders }
+    ensures stays { SinkStays (K.state out.old) (K.state out.new) }
+    ensures writes { WritesDay (desk_reading F.Shelf shelf.old shelf.new) IsFramedReading day.now
+        (K.state out.old) (K.state out.new) result }
+    ensures within { WritesWithin (desk_reading F.Shelf shelf.old shelf.new) result }
+{
+    write_framed(alloc, shelf, Which::Orders, day.as_str(), LONGEST_READ, out)
+}
+
+/// Writes a day whose messages stand on lines, up to its end. The text of `S`, which is `soh`,
+/// stands for SOH in them.
+fn write_day_lines<S: SohText, F: Shelf, K: Sink>(
+    alloc: Global,
+    shelf: &mut F,
+    out: &mut K,
     day: &PathText,
     soh: Vec<u8>,
-) -> Result<Answer, Stop>
+) -> Result<DayEnd, PlainFault>
     requires soh { soh.items ≡ S.text }
     requires is { IsTrue (is_soh_text S.text) }
     ensures logs { KeepsShelfLogs F.Shelf shelf.old shelf.new }
     ensures only { TouchesOnly (desk_reading F.Shelf shelf.old shelf.new) Which.Orders }
-    ensures decides { DecidesBytes (desk_reading F.Shelf shelf.old shelf.new) Which.Orders day.now
-        (λ bytes. IsPlainAnswer (IsLineReading S.text bytes)) result }
-    ensures within { StaysWithinAt (desk_reading F.Shelf shelf.old shelf.new)
-        Which.Orders result }
+    ensures stays { SinkStays (K.state out.old) (K.state out.new) }
+    ensures writes { WritesDay (desk_reading F.Shelf shelf.old shelf.new) (IsLineReading S.text)
+        day.now (K.state out.old) (K.state out.new) result }
+    ensures within { WritesWithin (desk_reading F.Shelf shelf.old shelf.new) result }
 {
-    match plain_on_lines::<S, F>(alloc, shelf, Which::Orders, day.as_str(), LONGEST_READ, soh) {
-        Ok(log) => Ok(plain_answer(alloc, log)?),
-        Err(fault) => Err(stop_of_take(Which::Orders, fault)),
-    }
+    write_on_lines::<S, F, K>(
+        alloc,
+        shelf,
+        Which::Orders,
+        day.as_str(),
+        LONGEST_READ,
+        soh,
+        out,
+    )
 }
 
 /// The same, whatever text stands for SOH.
-fn answer_on_lines<F: Shelf>(
+fn write_day_on_lines<F: Shelf, K: Sink>(
     alloc: Global,
     shelf: &mut F,
+    out: &mut K,
     day: &PathText,
     soh: Vec<u8>,
-) -> Result<Answer, Stop>
+) -> Result<DayEnd, PlainFault>
     requires { IsTrue (is_soh_text soh.items) }
     ensures logs { KeepsShelfLogs F.Shelf shelf.old shelf.new }
     ensures only { TouchesOnly (desk_reading F.Shelf shelf.old shelf.new) Which.Orders }
-    ensures decides { DecidesBytes (desk_reading F.Shelf shelf.old shelf.new) Which.Orders day.now
-        (λ bytes. IsPlainAnswer (IsLineReading soh.items bytes)) result }
-    ensures within { StaysWithinAt (desk_reading F.Shelf shelf.old shelf.new)
-        Which.Orders result }
+    ensures stays { SinkStays (K.state out.old) (K.state out.new) }
+    ensures writes { WritesDay (desk_reading F.Shelf shelf.old shelf.new) (IsLineReading soh.items)
+        day.now (K.state out.old) (K.state out.new) result }
+    ensures within { WritesWithin (desk_reading F.Shelf shelf.old shelf.new) result }
 {
-    answer_lines::<Brand, F>(alloc, shelf, day, soh)
+    write_day_lines::<Brand, F, K>(alloc, shelf, out, day, soh)
 }
 
 /// The text that stands for SOH: the word that is given, or SOH itself.
@@ -128,27 +155,53 @@ fn soh_of(word: &Option<SohWord>) -> &[u8]
     }
 }
 
-/// The answer to `plain`: the day is read as the order log.
-pub(crate) fn answer_plain<F: Shelf>(
+/// Writes a day in its dress, up to its end. The day is read as the order log.
+fn write_day<F: Shelf, K: Sink>(
     alloc: Global,
     shelf: &mut F,
+    out: &mut K,
     day: &PathText,
     dress: &DayDress,
-) -> Result<Answer, Stop>
+) -> Result<DayEnd, PlainFault>
+    requires { HasSohWord dress.now }
+    ensures logs { KeepsShelfLogs F.Shelf shelf.old shelf.new }
+    ensures only { TouchesOnly (desk_reading F.Shelf shelf.old shelf.new) Which.Orders }
+    ensures stays { SinkStays (K.state out.old) (K.state out.new) }
+    ensures writes { WritesDay (desk_reading F.Shelf shelf.old shelf.new) (day_reading dress.now)
+        day.now (K.state out.old) (K.state out.new) result }
+    ensures within { WritesWithin (desk_reading F.Shelf shelf.old shelf.new) result }
+{
+    match dress {
+        DayDress::Framed => write_day_framed(alloc, shelf, out, day),
+        DayDress::OnLines(word) => match Vec::from_slice(alloc, soh_of(word)) {
+            Ok(soh) => write_day_on_lines(alloc, shelf, out, day, soh),
+            Err(_) => Err(PlainFault::Log(TakeFault::Memory)),
+        },
+    }
+}
+
+/// Answers `plain`: the text of the day is written while it is read, and then what is left of it.
+/// Where a write fails, the day is not read on.
+pub(crate) fn run_plain<F: Shelf, K: Sink>(
+    alloc: Global,
+    shelf: &mut F,
+    out: &mut K,
+    day: &PathText,
+    dress: &DayDress,
+) -> Status
     requires { HasSohWord dress.now }
     ensures logs { KeepsShelfLogs F.Shelf shelf.old shelf.new }
     ensures later { FaultsNeverFall (desk_reading F.Shelf shelf.old shelf.new) }
-    ensures decides { DecidesAnswer (desk_reading F.Shelf shelf.old shelf.new)
-        (desk_command_of (Plain day.now dress.now)) result }
-    ensures within { StaysWithin (desk_reading F.Shelf shelf.old shelf.new) result }
+    ensures stays { SinkStays (K.state out.old) (K.state out.new) }
+    ensures answers { AnswersCommand (desk_reading F.Shelf shelf.old shelf.new)
+        (desk_command_of (Plain day.now dress.now)) (K.state out.old) (K.state out.new) result }
+    ensures too_long { AnswersTooLong (desk_reading F.Shelf shelf.old shelf.new) result }
 {
-    // A law that the answer rests on. It computes nothing.
-    one_log_decides::<Desk>();
-    match dress {
-        DayDress::Framed => answer_framed(alloc, shelf, day),
-        DayDress::OnLines(word) => match Vec::from_slice(alloc, soh_of(word)) {
-            Ok(soh) => answer_on_lines(alloc, shelf, day, soh),
-            Err(_) => Err(Stop::Memory),
-        },
+    match write_day(alloc, shelf, out, day, dress) {
+        Ok(end) => write_answer::<Desk, K>(out, end_or_stop(alloc, end)),
+        Err(PlainFault::Log(fault)) => {
+            write_answer::<Desk, K>(out, Err(stop_of_take(Which::Orders, fault)))
+        }
+        Err(PlainFault::Sink) => Status::WriteFault,
     }
 }

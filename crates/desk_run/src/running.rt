@@ -1,15 +1,17 @@
 //! The top call of `desk`: from the words of a command line to the text that is written and the
 //! status.
-ghost use Rattle.std.specs.Prelude.{map};
+ghost use Rattle.std.specs.Prelude.{◌≡◌, false, map};
 ghost use Rattle.std.specs.String.{string_bytes};
 ghost use Rattle.command_run.specs.Runs.{AnswersCommand, AnswersTooLong};
-ghost use Rattle.desk_run.specs.Requests.{desk_command_of};
+ghost use Rattle.desk_run.specs.Requests.{desk_command_of, writes_while_reading};
 ghost use Rattle.desk_run.specs.TopCall.{desk_reading, DeskAnswers};
 ghost use Rattle.desk_words.specs.Words.{desk_request_of, MayBeAskedOfDesk};
 ghost use Rattle.log_source.specs.Sinks.{SinkStays};
 ghost use Rattle.log_verdict.specs.Steps.{FaultsNeverFall, KeepsShelfLogs};
 
 use super::commands::answer_request;
+use super::generated::run_orders;
+use super::plain::run_plain;
 use super::program::Desk;
 use audit_report::statuses::Status;
 use command_run::laws::{held_logs_are_answered, memory_is_answered};
@@ -21,7 +23,28 @@ use log_source::sink::Sink;
 use seeded_hash::seed::HashSeed;
 use std::alloc::Global;
 
-/// Answers well-formed words: the whole answer is made, and then its text is written.
+/// Answers well-formed words whose command makes its whole answer before it writes.
+fn run_whole<F: Shelf, K: Sink>(
+    alloc: Global,
+    seed: HashSeed,
+    shelf: &mut F,
+    out: &mut K,
+    request: &DeskRequest,
+) -> Status
+    requires may { MayBeAskedOfDesk request.now }
+    requires whole { writes_while_reading request.now ≡ false }
+    ensures logs { KeepsShelfLogs F.Shelf shelf.old shelf.new }
+    ensures later { FaultsNeverFall (desk_reading F.Shelf shelf.old shelf.new) }
+    ensures stays { SinkStays (K.state out.old) (K.state out.new) }
+    ensures answers { AnswersCommand (desk_reading F.Shelf shelf.old shelf.new)
+        (desk_command_of request.now) (K.state out.old) (K.state out.new) result }
+    ensures too_long { AnswersTooLong (desk_reading F.Shelf shelf.old shelf.new) result }
+{
+    let decided = answer_request(alloc, seed, shelf, request);
+    write_answer::<Desk, K>(out, decided)
+}
+
+/// Answers well-formed words.
 fn run_request<F: Shelf, K: Sink>(
     alloc: Global,
     seed: HashSeed,
@@ -37,8 +60,11 @@ fn run_request<F: Shelf, K: Sink>(
         (desk_command_of request.now) (K.state out.old) (K.state out.new) result }
     ensures too_long { AnswersTooLong (desk_reading F.Shelf shelf.old shelf.new) result }
 {
-    let decided = answer_request(alloc, seed, shelf, request);
-    write_answer::<Desk, K>(out, decided)
+    match request {
+        DeskRequest::Orders { start, count, form } => run_orders(alloc, out, *start, *count, *form),
+        DeskRequest::Plain { day, dress } => run_plain(alloc, shelf, out, day, dress),
+        _ => run_whole(alloc, seed, shelf, out, request),
+    }
 }
 
 /// Runs a command of `desk`: reads the words, then the logs that they name from the shelf, and
@@ -47,9 +73,10 @@ fn run_request<F: Shelf, K: Sink>(
 /// The words are those of the command line without the program's name. `Usage` comes only where
 /// they are not well-formed (`WriteFault` where the usage line could not be written), `ReadFault`
 /// only where a log could not be read, `TooLong` where one has more than 34,359,738,368 bytes,
-/// `WriteFault` only where the sink's faults rose, and `Memory` where memory ran out, with nothing
-/// written. `Rejected` comes where a symbol of the share is rejected, or where the reports of the
-/// trade log do not pair. What the shelf has under its names stays as it was.
+/// `WriteFault` only where the sink's faults rose, and `Memory` where memory ran out: `plain` and
+/// `orders` have then written a front of their text, every other command nothing. `Rejected` comes
+/// where a symbol of the share is rejected, or where the reports of the trade log do not pair. What
+/// the shelf has under its names stays as it was.
 ///
 /// The hashes by which names are found begin with the fixed seed: see `run_desk_seeded` for logs
 /// whose names may have been chosen to make this slow.

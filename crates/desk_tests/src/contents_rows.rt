@@ -1,5 +1,5 @@
-//! What is in two logs: kinds of messages and records, those that are passed over too, what asks for
-//! attention, symbols and times.
+//! What is in two logs: kinds of messages and records, those that are passed over too, what asks
+//! for attention, symbols and times.
 use crate::checks::cuts::{Cut, CutLogs, check_cuts};
 use crate::checks::inputs::{ORDERS, TRADES};
 use crate::checks::rows::{Row, check_rows};
@@ -61,6 +61,39 @@ const REPORTS: [&str; 23] = [
     "8=FIX.4.4|9=16|35=8|43=Y|150=8|10=231|",
 ];
 
+/// A day as an exchange keeps it, with a report of each kind: orders, a cancel and a replacement,
+/// both reports of a trade, each other execution type, a copy, and a message of another type.
+const REPORT_DAY: [&str; 28] = [
+    "8=FIX.4.4|9=64|35=D|49=A|11=1|60=20240102-09:00:00|55=Z|54=1|38=100|40=2|44=10|10=145|",
+    "8=FIX.4.4|9=11|35=8|150=0|10=220|",
+    "8=FIX.4.4|9=11|35=8|150=1|10=221|",
+    "8=FIX.4.4|9=11|35=8|150=2|10=222|",
+    "8=FIX.4.4|9=11|35=8|150=3|10=223|",
+    "8=FIX.4.4|9=11|35=8|150=4|10=224|",
+    "8=FIX.4.4|9=11|35=8|150=5|10=225|",
+    "8=FIX.4.4|9=11|35=8|150=6|10=226|",
+    "8=FIX.4.4|9=11|35=8|150=7|10=227|",
+    "8=FIX.4.4|9=11|35=8|150=8|10=228|",
+    "8=FIX.4.4|9=11|35=8|150=9|10=229|",
+    "8=FIX.4.4|9=11|35=8|150=A|10=237|",
+    "8=FIX.4.4|9=11|35=8|150=B|10=238|",
+    "8=FIX.4.4|9=11|35=8|150=C|10=239|",
+    "8=FIX.4.4|9=11|35=8|150=D|10=240|",
+    "8=FIX.4.4|9=11|35=8|150=E|10=241|",
+    "8=FIX.4.4|9=70|35=G|49=A|11=2|60=20240102-09:00:02|55=Z|41=1|54=1|38=100|40=2|44=9.5|10=163|",
+    "8=FIX.4.4|9=63|35=D|49=B|11=3|60=20240102-09:00:03|55=Y|54=2|38=100|40=2|44=9|10=110|",
+    "8=FIX.4.4|9=78|35=8|49=X|56=A|11=2|150=F|527=T1|55=Z|54=1|32=100|31=9.5|60=20240102-09:00:05|10=105|",
+    "8=FIX.4.4|9=78|35=8|49=X|56=B|11=3|150=F|527=T1|55=Z|54=2|32=100|31=9.5|60=20240102-09:00:05|10=108|",
+    "8=FIX.4.4|9=11|35=8|150=G|10=243|",
+    "8=FIX.4.4|9=11|35=8|150=H|10=244|",
+    "8=FIX.4.4|9=11|35=8|150=I|10=245|",
+    "8=FIX.4.4|9=46|35=F|49=B|11=4|60=20240102-09:00:04|55=Z|41=3|10=132|",
+    "8=FIX.4.4|9=12|35=8|150=44|10=021|",
+    "8=FIX.4.4|9=16|35=8|43=Y|150=H|10=247|",
+    "8=FIX.4.4|9=5|35=9|10=172|",
+    "8=FIX.4.4|9=11|35=8|150=4|10=224|",
+];
+
 /// Each message that is read, and others: by their types, one of which has a comma.
 const MESSAGES: [&str; 7] = [
     "8=FIX.4.4|9=64|35=D|49=A|11=1|60=20240102-09:00:00|55=Z|54=1|38=100|40=2|44=10|10=145|",
@@ -89,7 +122,7 @@ const LONG_TYPE: [&str; 1] = [
     "8=FIX.4.4|9=304|35=TTTTTTTTTTTTTTTTTTTTTTTTTTTTTTTTTTTTTTTTTTTTTTTTTTTTTTTTTTTTTTTTTTTTTTTTTTTTTTTTTTTTTTTTTTTTTTTTTTTTTTTTTTTTTTTTTTTTTTTTTTTTTTTTTTTTTTTTTTTTTTTTTTTTTTTTTTTTTTTTTTTTTTTTTTTTTTTTTTTTTTTTTTTTTTTTTTTTTTTTTTTTTTTTTTTTTTTTTTTTTTTTTTTTTTTTTTTTTTTTTTTTTTTTTTTTTTTTTTTTTTTTTTTTTTTTTTTTTTTTTTTTTTTTTTTTTTTTTTTT|10=069|",
 ];
 
-const CONTENTS: [Row; 9] = [
+const CONTENTS: [Row; 10] = [
     Row {
         name: "contents-of-a-day",
         words: FIX,
@@ -170,6 +203,89 @@ attention,orders,150=D,1
 attention,orders,150=G,1
 attention,orders,150=H,1
 symbols,0
+",
+    },
+    Row {
+        name: "a day with each kind of report, as both logs",
+        words: "contents orders orders --orders-form fix --trades-form fix",
+        orders: &REPORT_DAY,
+        trades: &[],
+        status: 0,
+        report: "orders,D,2
+orders,passed:150=0,1
+orders,passed:150=1,1
+orders,passed:150=2,1
+orders,passed:150=3,1
+orders,passed:150=4,2
+orders,passed:150=5,1
+orders,passed:150=6,1
+orders,passed:150=7,1
+orders,passed:150=8,1
+orders,passed:150=9,1
+orders,passed:150=A,1
+orders,passed:150=B,1
+orders,passed:150=C,1
+orders,passed:150=D,1
+orders,passed:150=E,1
+orders,G,1
+orders,passed:150=F,2
+orders,passed:150=G,1
+orders,passed:150=H,1
+orders,passed:150=I,1
+orders,F,1
+orders,passed:150=44,1
+orders,passed:43=Y,1
+orders,passed:35=9,1
+trades,passed:35=D,2
+trades,passed:150=0,1
+trades,passed:150=1,1
+trades,passed:150=2,1
+trades,passed:150=3,1
+trades,passed:150=4,2
+trades,passed:150=5,1
+trades,passed:150=6,1
+trades,passed:150=7,1
+trades,passed:150=8,1
+trades,passed:150=9,1
+trades,passed:150=A,1
+trades,passed:150=B,1
+trades,passed:150=C,1
+trades,passed:150=D,1
+trades,passed:150=E,1
+trades,passed:35=G,1
+trades,8,2
+trades,passed:150=G,1
+trades,passed:150=H,1
+trades,passed:150=I,1
+trades,passed:35=F,1
+trades,passed:150=44,1
+trades,passed:43=Y,1
+trades,passed:35=9,1
+attention,orders,150=1,1
+attention,orders,150=2,1
+attention,orders,150=3,1
+attention,orders,150=4,2
+attention,orders,150=5,1
+attention,orders,150=8,1
+attention,orders,150=9,1
+attention,orders,150=C,1
+attention,orders,150=D,1
+attention,orders,150=G,1
+attention,orders,150=H,1
+attention,trades,150=1,1
+attention,trades,150=2,1
+attention,trades,150=3,1
+attention,trades,150=4,2
+attention,trades,150=5,1
+attention,trades,150=8,1
+attention,trades,150=9,1
+attention,trades,150=C,1
+attention,trades,150=D,1
+attention,trades,150=G,1
+attention,trades,150=H,1
+symbols,2
+times,orders,20240102-09:00:00,20240102-09:00:04
+times,trades,20240102-09:00:05,20240102-09:00:05
 ",
     },
     Row {

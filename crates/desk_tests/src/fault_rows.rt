@@ -120,7 +120,9 @@ Z,order,3,buy,A,b1,10,10,11
         trades: &[TRADES],
         status: 2,
         report: "usage: audit RULE ORDERS TRADES | session PHASES ORDERS TRADES \
-                 | digest ORDERS TRADES | plain DAY | contents ORDERS TRADES | help [COMMAND]\n",
+                 | digest ORDERS TRADES | orders START COUNT \
+                 | convert orders|trades csv|fix PATH csv|fix \
+                 | plain DAY | contents ORDERS TRADES | help [COMMAND]\n",
     },
     Row {
         name: "digests of two logs",

@@ -2,7 +2,7 @@
 ghost use Rattle.std.specs.Prelude.{◌≤◌};
 
 use crate::checks::answers::{RowFault, answer_of};
-use crate::checks::faults::{ShelfRow, check_shelf_faults, check_sink_faults};
+use crate::checks::faults::{answer_in_writes, check_sink_faults, check_written};
 use crate::checks::rows::Row;
 use audit_base::faults::NoMemory;
 use log_source::memory_shelf::MemoryShelf;
@@ -209,34 +209,37 @@ const ONE_MESSAGE: Row = Row {
     report: "8=FIX.4.4\x019=5\x0135=0\x0110=163\x01\n",
 };
 
-const SHELF_ROWS: [ShelfRow; 1] = [ShelfRow {
-    row: ONE_MESSAGE,
-    order_calls: 3,
-    calls: 3,
-}];
+/// A day with a bad message.
+const BAD_MESSAGE: Row = Row {
+    name: "a day with a bad message",
+    words: "plain orders --soh ^A --lines",
+    orders: &["a 8=FIX.4.2^A9=5^A35=0^A10=161^A\nb 8=FIX.4.2^A9=5^A35=0^A10=160^A\n"],
+    trades: &[],
+    status: 3,
+    report: "8=FIX.4.4\x019=5\x0135=0\x0110=163\x01\nmalformed,orders,2,35,checksum\n",
+};
 
-const SINK_ROWS: [Row; 2] = [
-    ONE_MESSAGE,
-    Row {
-        name: "a day with a bad message",
-        words: "plain orders --soh ^A --lines",
-        orders: &["a 8=FIX.4.2^A9=5^A35=0^A10=161^A\nb 8=FIX.4.2^A9=5^A35=0^A10=160^A\n"],
-        trades: &[],
-        status: 3,
-        report: "8=FIX.4.4\x019=5\x0135=0\x0110=163\x01\nmalformed,orders,2,35,checksum\n",
-    },
+/// What is written of a day of one message that comes in one piece where the call of this number
+/// fails: its start, the read of the piece, or that of its end, at which the message is written.
+const CALLS: [(u32, &[u8]); 3] = [
+    (1, b"readfault,orders\n"),
+    (2, b"readfault,orders\n"),
+    (
+        3,
+        b"8=FIX.4.4\x019=5\x0135=0\x0110=163\x01\nreadfault,orders\n",
+    ),
 ];
 
-/// A shelf of this day, named `day`, of which a piece comes at a time.
-fn shelf_of(
-    alloc: Global,
-    day: &[u8],
-    piece: usize,
-    fails: Vec<u32>,
-) -> Result<MemoryShelf, NoMemory>
+/// How many bytes are written of the day with a bad message where the write of this number fails:
+/// each takes at most ten bytes, first of the message, and then of the line.
+const WRITES: [(u32, usize); 7] = [(1, 0), (2, 10), (3, 20), (4, 27), (5, 37), (6, 47), (7, 57)];
+
+/// A shelf of this day, named `day`, of which a piece comes at a time, and whose calls of these
+/// numbers fail.
+fn shelf_of(alloc: Global, day: &[u8], piece: usize, fails: &[u32]) -> Result<MemoryShelf, NoMemory>
     requires { 1 ≤ piece }
 {
-    let mut shelf = MemoryShelf::new(alloc, piece, fails);
+    let mut shelf = MemoryShelf::new(alloc, piece, Vec::from_slice(alloc, fails)?);
     shelf.put(
         String::from_str(alloc, "day")?,
         Vec::from_slice(alloc, day)?,
@@ -248,7 +251,7 @@ fn shelf_of(
 fn check_day(alloc: Global, row: &DayRow, piece: usize) -> Result<(), RowFault>
     requires { 1 ≤ piece }
 {
-    let mut shelf = shelf_of(alloc, row.day, piece, Vec::new(alloc))?;
+    let mut shelf = shelf_of(alloc, row.day, piece, &[])?;
     let answered = answer_of(alloc, row.words, &mut shelf)?;
     answered.check(alloc, row.name, piece, row.status, row.text)
 }
@@ -268,12 +271,33 @@ fn days_in_each_dress_in_pieces_of_every_size(rt: HostRuntime) -> Result<(), Fai
     Ok(check_days(rt.alloc())?)
 }
 
+/// Checks a day of one message with each of its calls of the shelf failing once.
+fn check_calls(alloc: Global) -> Result<(), RowFault> {
+    let day = b"8=FIX.4.2\x019=5\x0135=0\x0110=161\x01\n";
+    for &(fails, text) in &CALLS {
+        let mut shelf = shelf_of(alloc, day, 64, &[fails])?;
+        let answered = answer_of(alloc, "plain day", &mut shelf)?;
+        answered.check(alloc, "a call fails", fails as usize, 4, text)?;
+    }
+    Ok(())
+}
+
+/// Checks a day with a bad message with each of its writes failing once.
+fn check_writes(alloc: Global) -> Result<(), RowFault> {
+    for &(fails, written) in &WRITES {
+        let answered = answer_in_writes(alloc, &BAD_MESSAGE, BAD_MESSAGE.report.len(), &[fails])?;
+        check_written(alloc, &BAD_MESSAGE, &answered, written)?;
+    }
+    Ok(())
+}
+
 #[test]
 fn each_call_of_the_shelf_fails(rt: HostRuntime) -> Result<(), Fail> {
-    Ok(check_shelf_faults(rt.alloc(), &SHELF_ROWS)?)
+    Ok(check_calls(rt.alloc())?)
 }
 
 #[test]
 fn each_write_fails(rt: HostRuntime) -> Result<(), Fail> {
-    Ok(check_sink_faults(rt.alloc(), &SINK_ROWS)?)
+    check_sink_faults(rt.alloc(), &[ONE_MESSAGE])?;
+    Ok(check_writes(rt.alloc())?)
 }

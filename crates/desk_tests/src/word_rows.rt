@@ -6,7 +6,7 @@ use log_source::endless_shelf::EndlessShelf;
 use std::alloc::Global;
 use std::test::Fail;
 
-const WORDS: [&str; 32] = [
+const WORDS: [&str; 36] = [
     "",
     "audit",
     "audit matching",
@@ -29,6 +29,10 @@ const WORDS: [&str; 32] = [
     "digest orders",
     "digest orders trades --table",
     "digest -orders trades",
+    "orders 7",
+    "orders 7 1000001",
+    "orders 7 4 --form",
+    "convert orders csv orders",
     "plain",
     "plain day --soh |",
     "contents orders",
@@ -65,6 +69,8 @@ fn check_helps(alloc: Global) -> Result<(), RowFault> {
     check_help(alloc, "help audit", Some(DeskCommand::Audit))?;
     check_help(alloc, "help session", Some(DeskCommand::Session))?;
     check_help(alloc, "help digest", Some(DeskCommand::Digest))?;
+    check_help(alloc, "help orders", Some(DeskCommand::Orders))?;
+    check_help(alloc, "help convert", Some(DeskCommand::Convert))?;
     check_help(alloc, "help plain", Some(DeskCommand::Plain))?;
     check_help(alloc, "help contents", Some(DeskCommand::Contents))?;
     check_help(alloc, "help help", Some(DeskCommand::Help))

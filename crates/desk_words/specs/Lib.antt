@@ -3,5 +3,6 @@
 pub mod Words
 pub mod ShareWords
 pub mod DressWords
+pub mod LogWords
 pub mod Options
 pub mod Texts

@@ -8,6 +8,7 @@ use Rattle.desk_words.specs.declared.commands.DeskCommand.TheVariants as command
 abbrev pub desk_usage_line : List ℕ
 desk_usage_line = codes "usage: audit RULE ORDERS TRADES"
     ++ codes " | session PHASES ORDERS TRADES" ++ codes " | digest ORDERS TRADES"
+    ++ codes " | orders START COUNT" ++ codes " | convert orders|trades csv|fix PATH csv|fix"
     ++ codes " | plain DAY" ++ codes " | contents ORDERS TRADES" ++ codes " | help [COMMAND]"
     ++ 10 ∷ []
 
@@ -65,6 +66,31 @@ digest_help = text_of_lines (
     ∷ codes "    Example: desk digest orders.csv trades.csv"
     ∷ [])
 
+-- what `orders` does, with its words, its option and an example
+unfoldable pub orders_help : List ℕ
+orders_help = text_of_lines (
+    codes "orders START COUNT"
+    ∷ codes "    Writes a generated order log of one symbol, GEN, the same at each run, to feed an"
+    ∷ codes "    engine with and to audit the trades that come out. Each tenth record is a cancel,"
+    ∷ codes "    every other one an order with a limit. No log is read."
+    ∷ codes "    START        from 1 to 2147483646: where the generator begins"
+    ∷ codes "    COUNT        how many records, from 1 to 1000000"
+    ∷ codes "    --form FORM  the form of the log: csv, as without it, or fix"
+    ∷ codes "    Example: desk orders 7 100000 >orders.csv"
+    ∷ [])
+
+-- what `convert` does, with its words and an example
+unfoldable pub convert_help : List ℕ
+convert_help = text_of_lines (
+    codes "convert orders|trades csv|fix PATH csv|fix"
+    ∷ codes "    Writes the records of a log in the second form: canonical CSV, or FIX messages. What"
+    ∷ codes "    is written has the same records, so it has the same verdicts."
+    ∷ codes "    orders|trades  which log it is"
+    ∷ codes "    csv|fix        the form of the log, and behind PATH the form to write it in"
+    ∷ codes "    PATH           the path of the log"
+    ∷ codes "    Example: desk convert trades csv trades.csv fix >trades.fix"
+    ∷ [])
+
 -- what `plain` does, with its word, its options and an example
 unfoldable pub plain_help : List ℕ
 plain_help = text_of_lines (
@@ -99,8 +125,8 @@ unfoldable pub help_help : List ℕ
 help_help = text_of_lines (
     codes "help [COMMAND]"
     ∷ codes "    Writes what each command does, or what COMMAND does: audit, session, digest,"
-    ∷ codes "    plain, contents or help. --help alone does as help, and --version writes the"
-    ∷ codes "    version of the program and the kit that it is proved with."
+    ∷ codes "    orders, convert, plain, contents or help. --help alone does as help, and"
+    ∷ codes "    --version writes the version of the program and the kit that it is proved with."
     ∷ codes "    Example: desk help audit"
     ∷ [])
 
@@ -109,14 +135,16 @@ abbrev pub command_help : DeskCommand → List ℕ
 command_help command.Audit = audit_help
 command_help command.Session = session_help
 command_help command.Digest = digest_help
+command_help command.Orders = orders_help
+command_help command.Convert = convert_help
 command_help command.Plain = plain_help
 command_help command.Contents = contents_help
 command_help command.Help = help_help
 
 -- what each command does, with an empty line between two
 abbrev pub whole_help : List ℕ
-whole_help = audit_help ++ 10 ∷ session_help ++ 10 ∷ digest_help ++ 10 ∷ plain_help
-    ++ 10 ∷ contents_help ++ 10 ∷ help_help
+whole_help = audit_help ++ 10 ∷ session_help ++ 10 ∷ digest_help ++ 10 ∷ orders_help
+    ++ 10 ∷ convert_help ++ 10 ∷ plain_help ++ 10 ∷ contents_help ++ 10 ∷ help_help
 
 -- what is written for `help`, or for `help` and a command
 abbrev pub help_text : Option DeskCommand → List ℕ

@@ -5,6 +5,7 @@ use Rattle.std.specs.Prelude.{ℕ, Bool, not, ◌==◌, ◌&&◌, ◌||◌, ◌+
 use Rattle.audit_base.specs.Least.{first_answer, only_if}
 use Rattle.audit_base.specs.RuleKinds.{has_table}
 use Rattle.audit_base.specs.declared.terms.Rule.{Rule}
+use Rattle.log_maker.specs.Generator.{IsCount, IsStart}
 use Rattle.session_audit.specs.Phases.{ArePhases}
 use Rattle.command_words.specs.declared.options.Options.{Options}
 use Rattle.command_words.specs.Options.{options_in, or_csv}
@@ -16,8 +17,9 @@ use Rattle.desk_words.specs.declared.commands.DeskCommand.TheVariants as command
 use Rattle.desk_words.specs.declared.options.DeskOptions.{DeskOptions}
 use Rattle.desk_words.specs.declared.requests.DayLogs.{DayLogs}
 use Rattle.desk_words.specs.declared.requests.DeskRequest.{DeskRequest}
-use Rattle.desk_words.specs.declared.requests.DeskRequest.TheVariants.{Audit, Session, Digest, Plain, Contents, Help, Version}
+use Rattle.desk_words.specs.declared.requests.DeskRequest.TheVariants.{Audit, Session, Digest, Orders, Convert, Plain, Contents, Help, Version}
 use Rattle.desk_words.specs.DressWords.{dress_named, HasSohWord}
+use Rattle.desk_words.specs.LogWords.{desk_convert_asked, orders_asked}
 use Rattle.desk_words.specs.Options.{desk_options_in}
 
 -- the command that a word names
@@ -25,6 +27,8 @@ abbrev pub desk_command_named : List ℕ → Option DeskCommand
 desk_command_named word = first_answer (only_if (word_equals word (codes "audit")) command.Audit
     ∷ only_if (word_equals word (codes "session")) command.Session
     ∷ only_if (word_equals word (codes "digest")) command.Digest
+    ∷ only_if (word_equals word (codes "orders")) command.Orders
+    ∷ only_if (word_equals word (codes "convert")) command.Convert
     ∷ only_if (word_equals word (codes "plain")) command.Plain
     ∷ only_if (word_equals word (codes "contents")) command.Contents
     ∷ only_if (word_equals word (codes "help")) command.Help ∷ [])
@@ -103,6 +107,8 @@ abbrev pub desk_asked_by : DeskCommand → List (List ℕ) → Option DeskReques
 desk_asked_by command.Audit words = desk_audit_asked words
 desk_asked_by command.Session words = desk_session_asked words
 desk_asked_by command.Digest words = digest_asked words
+desk_asked_by command.Orders words = orders_asked words
+desk_asked_by command.Convert words = desk_convert_asked words
 desk_asked_by command.Plain words = plain_asked words
 desk_asked_by command.Contents words = contents_asked words
 desk_asked_by command.Help words = help_asked words
@@ -128,11 +134,14 @@ abbrev pub desk_request_of : List (List ℕ) → Option DeskRequest
 desk_request_of words = asked_by_first (desk_command_named (nth_word words 0)) words
 
 -- what well-formed words ask for is a table only of a rule that has one, phases that are those of
--- a day, and a word of 1 to 5 bytes from 0x21 to 0x7E in the place of SOH
+-- a day, a log of numbers in their limits, and a word of 1 to 5 bytes from 0x21 to 0x7E in the
+-- place of SOH
 abbrev pub MayBeAskedOfDesk : DeskRequest → Type 0
 MayBeAskedOfDesk (Audit rule logs table share) = IsTrue (table_fits_rule table rule)
 MayBeAskedOfDesk (Session phases logs table share) = ArePhases phases
 MayBeAskedOfDesk (Digest orders trades) = Unit {0}
+MayBeAskedOfDesk (Orders start count form) = IsStart start × IsCount count
+MayBeAskedOfDesk (Convert log from path into) = Unit {0}
 MayBeAskedOfDesk (Plain day dress) = HasSohWord dress
 MayBeAskedOfDesk (Contents logs) = Unit {0}
 MayBeAskedOfDesk (Help about) = Unit {0}

@@ -7,6 +7,7 @@ ghost use Rattle.command_words.specs.WordForms.{nth_word};
 ghost use Rattle.desk_words.specs.Words as spec;
 
 use super::dress_words::dress_named;
+use super::log_words::{desk_convert_request, orders_request};
 use super::options::{DeskOptions, desk_options_in};
 use super::requests::{DayLogs, DeskRequest};
 use audit_base::faults::NoMemory;
@@ -23,6 +24,8 @@ pub enum DeskCommand {
     Audit,
     Session,
     Digest,
+    Orders,
+    Convert,
     Plain,
     Contents,
     Help,
@@ -40,6 +43,12 @@ fn desk_command_named(word: &str) -> Option<DeskCommand>
     }
     if is_word(word, b"digest") {
         return Some(DeskCommand::Digest);
+    }
+    if is_word(word, b"orders") {
+        return Some(DeskCommand::Orders);
+    }
+    if is_word(word, b"convert") {
+        return Some(DeskCommand::Convert);
     }
     if is_word(word, b"plain") {
         return Some(DeskCommand::Plain);
@@ -259,6 +268,8 @@ fn desk_request_by(
         DeskCommand::Audit => desk_audit_request(alloc, words),
         DeskCommand::Session => desk_session_request(alloc, words),
         DeskCommand::Digest => digest_request(alloc, words),
+        DeskCommand::Orders => Ok(orders_request(words)),
+        DeskCommand::Convert => desk_convert_request(alloc, words),
         DeskCommand::Plain => plain_request(alloc, words),
         DeskCommand::Contents => contents_request(alloc, words),
         DeskCommand::Help => Ok(help_request(words)),

@@ -5,7 +5,7 @@ ghost use Rattle.desk_words.specs.Words as spec;
 
 use super::commands::{DeskCommand, desk_request_in};
 use super::dress_words::DayDress;
-use audit_base::terms::{Form, Rule};
+use audit_base::terms::{Form, Rule, Which};
 use command_words::paths::PathText;
 use command_words::requests::WordsFault;
 use day_symbols::shares::Share;
@@ -45,6 +45,19 @@ pub enum DeskRequest {
         orders: PathText,
         trades: PathText,
     },
+    /// To write the generated order log of START and COUNT in this form.
+    Orders {
+        start: u32,
+        count: u32,
+        form: Form,
+    },
+    /// To write the records of a log, which is in one form, in the same or the other one.
+    Convert {
+        log: Which,
+        from: Form,
+        path: PathText,
+        into: Form,
+    },
     /// To write the messages of a day as a FIX log.
     Plain {
         day: PathText,
@@ -67,14 +80,16 @@ pub enum DeskRequest {
 ///   `--table`;
 /// - `session PHASES ORDERS TRADES`, and after them the same options;
 /// - `digest ORDERS TRADES`;
+/// - `orders START COUNT`, and after them `--form FORM`, once or not at all;
+/// - `convert LOG FORM PATH FORM`;
 /// - `plain DAY`, and after it `--lines`, or `--lines` and `--soh TEXT` in either order;
 /// - `contents ORDERS TRADES`, and after them, in any order and each at most once,
 ///   `--orders-form FORM` and `--trades-form FORM`;
 /// - `help`, which `--help` asks for too, and `help COMMAND`, COMMAND being `audit`, `session`,
-///   `digest`, `plain`, `contents` or `help`;
+///   `digest`, `orders`, `convert`, `plain`, `contents` or `help`;
 /// - `--version`.
 ///
-/// RULE, FORM and PHASES are those of `read_words` of `command_words`. K/N is two decimal
+/// RULE, FORM, PHASES, START, COUNT and LOG are those of `read_words` of `command_words`. K/N is two decimal
 /// numbers without leading zeros, joined by `/`, where K is from 1 to N, and N at most 65,536.
 /// DAY is a path, and TEXT has 1 to 5 bytes from 0x21 to 0x7E. `Usage` comes exactly where the
 /// words are not well-formed, and takes no memory. `Memory` comes only where they are, and there

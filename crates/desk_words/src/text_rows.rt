@@ -6,13 +6,15 @@ use std::test::Fail;
 #[test]
 fn lines_of_usage_and_version(rt: HostRuntime) {
     let usage = "usage: audit RULE ORDERS TRADES | session PHASES ORDERS TRADES \
-                 | digest ORDERS TRADES | plain DAY | contents ORDERS TRADES | help [COMMAND]\n";
+                 | digest ORDERS TRADES | orders START COUNT \
+                 | convert orders|trades csv|fix PATH csv|fix \
+                 | plain DAY | contents ORDERS TRADES | help [COMMAND]\n";
     assert_eq!(rt; desk_usage_text(), usage.as_bytes());
     assert!(rt; version_text().starts_with(b"desk (Mekdrox) "));
 }
 
 /// How the help of each command begins and ends.
-const HELPS: [(DeskCommand, &str, &str); 6] = [
+const HELPS: [(DeskCommand, &str, &str); 8] = [
     (
         DeskCommand::Audit,
         "audit RULE ORDERS TRADES\n",
@@ -27,6 +29,16 @@ const HELPS: [(DeskCommand, &str, &str); 6] = [
         DeskCommand::Digest,
         "digest ORDERS TRADES\n",
         "Example: desk digest orders.csv trades.csv\n",
+    ),
+    (
+        DeskCommand::Orders,
+        "orders START COUNT\n",
+        "Example: desk orders 7 100000 >orders.csv\n",
+    ),
+    (
+        DeskCommand::Convert,
+        "convert orders|trades csv|fix PATH csv|fix\n",
+        "Example: desk convert trades csv trades.csv fix >trades.fix\n",
     ),
     (
         DeskCommand::Plain,
@@ -65,6 +77,10 @@ fn whole_help_has_each_command_after_an_empty_line(rt: HostRuntime) -> Result<()
     append_help(Some(DeskCommand::Session), &mut joined)?;
     joined.push(b'\n')?;
     append_help(Some(DeskCommand::Digest), &mut joined)?;
+    joined.push(b'\n')?;
+    append_help(Some(DeskCommand::Orders), &mut joined)?;
+    joined.push(b'\n')?;
+    append_help(Some(DeskCommand::Convert), &mut joined)?;
     joined.push(b'\n')?;
     append_help(Some(DeskCommand::Plain), &mut joined)?;
     joined.push(b'\n')?;

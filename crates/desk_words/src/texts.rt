@@ -13,6 +13,8 @@ pub fn desk_usage_text() -> &'static [u8]
     b"usage: audit RULE ORDERS TRADES \
       | session PHASES ORDERS TRADES \
       | digest ORDERS TRADES \
+      | orders START COUNT \
+      | convert orders|trades csv|fix PATH csv|fix \
       | plain DAY \
       | contents ORDERS TRADES \
       | help [COMMAND]\n"
@@ -86,6 +88,37 @@ fn digest_help() -> &'static [u8]
 "
 }
 
+/// What `orders` does.
+#[tactic(auto, unfolding(crate::specs::Texts::orders_help))]
+fn orders_help() -> &'static [u8]
+    ensures { result.now ≡ text.orders_help }
+{
+    b"orders START COUNT
+    Writes a generated order log of one symbol, GEN, the same at each run, to feed an
+    engine with and to audit the trades that come out. Each tenth record is a cancel,
+    every other one an order with a limit. No log is read.
+    START        from 1 to 2147483646: where the generator begins
+    COUNT        how many records, from 1 to 1000000
+    --form FORM  the form of the log: csv, as without it, or fix
+    Example: desk orders 7 100000 >orders.csv
+"
+}
+
+/// What `convert` does.
+#[tactic(auto, unfolding(crate::specs::Texts::convert_help))]
+fn convert_help() -> &'static [u8]
+    ensures { result.now ≡ text.convert_help }
+{
+    b"convert orders|trades csv|fix PATH csv|fix
+    Writes the records of a log in the second form: canonical CSV, or FIX messages. What
+    is written has the same records, so it has the same verdicts.
+    orders|trades  which log it is
+    csv|fix        the form of the log, and behind PATH the form to write it in
+    PATH           the path of the log
+    Example: desk convert trades csv trades.csv fix >trades.fix
+"
+}
+
 /// What `plain` does.
 #[tactic(auto, unfolding(crate::specs::Texts::plain_help))]
 fn plain_help() -> &'static [u8]
@@ -128,8 +161,8 @@ fn help_help() -> &'static [u8]
 {
     b"help [COMMAND]
     Writes what each command does, or what COMMAND does: audit, session, digest,
-    plain, contents or help. --help alone does as help, and --version writes the
-    version of the program and the kit that it is proved with.
+    orders, convert, plain, contents or help. --help alone does as help, and
+    --version writes the version of the program and the kit that it is proved with.
     Example: desk help audit
 "
 }
@@ -142,6 +175,8 @@ fn command_help(command: DeskCommand) -> &'static [u8]
         DeskCommand::Audit => audit_help(),
         DeskCommand::Session => session_help(),
         DeskCommand::Digest => digest_help(),
+        DeskCommand::Orders => orders_help(),
+        DeskCommand::Convert => convert_help(),
         DeskCommand::Plain => plain_help(),
         DeskCommand::Contents => contents_help(),
         DeskCommand::Help => help_help(),
@@ -166,6 +201,8 @@ fn append_whole_help(out: &mut Vec<u8>) -> Result<(), NoMemory>
     out.extend_from_slice(audit_help())?;
     append_after_empty_line(session_help(), out)?;
     append_after_empty_line(digest_help(), out)?;
+    append_after_empty_line(orders_help(), out)?;
+    append_after_empty_line(convert_help(), out)?;
     append_after_empty_line(plain_help(), out)?;
     append_after_empty_line(contents_help(), out)?;
     append_after_empty_line(help_help(), out)

@@ -3,7 +3,7 @@ use crate::commands::DeskCommand;
 use crate::dress_words::DayDress;
 use crate::requests::{DayLogs, DeskRequest, read_desk_words};
 use audit_base::faults::NoMemory;
-use audit_base::terms::{Form, Rule};
+use audit_base::terms::{Form, Rule, Which};
 use command_words::paths::PathText;
 use command_words::requests::WordsFault;
 use day_symbols::shares::Share;
@@ -272,6 +272,131 @@ fn check_digests(alloc: Global, rows: &[DigestRow]) -> Result<(), RowFault> {
     Ok(())
 }
 
+/// A line that asks for a generated log.
+struct GeneratedRow {
+    line: &'static str,
+    start: u32,
+    count: u32,
+    form: Form,
+}
+
+const GENERATED: [GeneratedRow; 5] = [
+    GeneratedRow {
+        line: "orders 7 4",
+        start: 7,
+        count: 4,
+        form: Form::Csv,
+    },
+    GeneratedRow {
+        line: "orders 1 1 --form csv",
+        start: 1,
+        count: 1,
+        form: Form::Csv,
+    },
+    GeneratedRow {
+        line: "orders 7 1000 --form fix",
+        start: 7,
+        count: 1000,
+        form: Form::Fix,
+    },
+    GeneratedRow {
+        line: "orders 2147483646 1000000",
+        start: 2_147_483_646,
+        count: 1_000_000,
+        form: Form::Csv,
+    },
+    GeneratedRow {
+        line: "orders 0000000007 0000000004",
+        start: 7,
+        count: 4,
+        form: Form::Csv,
+    },
+];
+
+/// Whether the generated log of the row is asked for.
+fn is_generated_of(row: &GeneratedRow, asked: &Result<DeskRequest, WordsFault>) -> bool {
+    match asked {
+        Ok(DeskRequest::Orders { start, count, form }) => {
+            *start == row.start && *count == row.count && *form == row.form
+        }
+        _ => false,
+    }
+}
+
+fn check_generated(alloc: Global, rows: &[GeneratedRow]) -> Result<(), RowFault> {
+    for row in rows {
+        let words = words_of(alloc, row.line)?;
+        let asked = read_desk_words(alloc, &words);
+        check_row(alloc, row.line, is_generated_of(row, &asked))?;
+    }
+    Ok(())
+}
+
+/// A line that asks for the records of the log `p` in another form.
+struct ConvertRow {
+    line: &'static str,
+    log: Which,
+    from: Form,
+    into: Form,
+}
+
+const CONVERTS: [ConvertRow; 5] = [
+    ConvertRow {
+        line: "convert orders csv p fix",
+        log: Which::Orders,
+        from: Form::Csv,
+        into: Form::Fix,
+    },
+    ConvertRow {
+        line: "convert orders fix p csv",
+        log: Which::Orders,
+        from: Form::Fix,
+        into: Form::Csv,
+    },
+    ConvertRow {
+        line: "convert orders csv p csv",
+        log: Which::Orders,
+        from: Form::Csv,
+        into: Form::Csv,
+    },
+    ConvertRow {
+        line: "convert trades csv p fix",
+        log: Which::Trades,
+        from: Form::Csv,
+        into: Form::Fix,
+    },
+    ConvertRow {
+        line: "convert trades fix p fix",
+        log: Which::Trades,
+        from: Form::Fix,
+        into: Form::Fix,
+    },
+];
+
+/// Whether the conversion of the row is asked for.
+fn is_convert_of(row: &ConvertRow, asked: &Result<DeskRequest, WordsFault>) -> bool {
+    match asked {
+        Ok(
+            DeskRequest::Convert {
+                log,
+                from,
+                path,
+                into,
+            },
+        ) => { *log == row.log && *from == row.from && *into == row.into && path.as_str() == "p" }
+        _ => false,
+    }
+}
+
+fn check_converts(alloc: Global, rows: &[ConvertRow]) -> Result<(), RowFault> {
+    for row in rows {
+        let words = words_of(alloc, row.line)?;
+        let asked = read_desk_words(alloc, &words);
+        check_row(alloc, row.line, is_convert_of(row, &asked))?;
+    }
+    Ok(())
+}
+
 /// How the day of a row is dressed: framed, or on lines with a text for SOH or none.
 enum RowDress {
     Framed,
@@ -405,12 +530,14 @@ fn check_contents(alloc: Global, rows: &[DayRow]) -> Result<(), RowFault> {
 }
 
 /// Lines that ask for help, and of which command.
-const HELPS: [(&str, Option<DeskCommand>); 8] = [
+const HELPS: [(&str, Option<DeskCommand>); 10] = [
     ("help", None),
     ("--help", None),
     ("help audit", Some(DeskCommand::Audit)),
     ("help session", Some(DeskCommand::Session)),
     ("help digest", Some(DeskCommand::Digest)),
+    ("help orders", Some(DeskCommand::Orders)),
+    ("help convert", Some(DeskCommand::Convert)),
     ("help plain", Some(DeskCommand::Plain)),
     ("help contents", Some(DeskCommand::Contents)),
     ("help help", Some(DeskCommand::Help)),
@@ -436,7 +563,7 @@ const OTHER_WORDS: [&str; 18] = [
     "offences uniform Z o t",
     "page uniform Z o t",
     "digests o t",
-    "orders 7 4",
+    "order 7 4",
     "plains d",
     "content o t",
     "expect uniform Z o",
@@ -542,6 +669,43 @@ const DIGEST_WORDS: [&str; 10] = [
     "digest o ",
 ];
 
+/// Lines of `orders` whose numbers or option are wrong.
+const ORDERS_WORDS: [&str; 17] = [
+    "orders",
+    "orders 7",
+    "orders 7 0",
+    "orders 0 7",
+    "orders 7 1000001",
+    "orders 2147483647 7",
+    "orders 7 x",
+    "orders -7 7",
+    "orders 7 00000000007",
+    "orders 7 4 more",
+    "orders 7 4 fix",
+    "orders 7 4 --form",
+    "orders 7 4 --form FIX",
+    "orders 7 4 --form=fix",
+    "orders 7 4 --form fix --form fix",
+    "orders --form fix 7 4",
+    "orders 7 4 --table",
+];
+
+/// Lines of `convert` whose words are wrong.
+const CONVERT_WORDS: [&str; 12] = [
+    "convert",
+    "convert orders",
+    "convert orders csv",
+    "convert orders csv p",
+    "convert orders csv p fix more",
+    "convert deals csv p fix",
+    "convert orders xml p fix",
+    "convert orders csv p xml",
+    "convert orders csv -p fix",
+    "convert orders csv  fix",
+    "convert csv orders p fix",
+    "convert orders csv fix p",
+];
+
 /// Lines of `plain` whose path or options are wrong.
 const PLAIN_WORDS: [&str; 20] = [
     "plain",
@@ -609,6 +773,18 @@ fn days_of_phases(rt: HostRuntime) -> Result<(), Fail> {
 fn digests_of_two_logs(rt: HostRuntime) -> Result<(), Fail> {
     check_digests(rt.alloc(), &DIGESTS)?;
     Ok(check_usage(rt.alloc(), &DIGEST_WORDS)?)
+}
+
+#[test]
+fn generated_logs(rt: HostRuntime) -> Result<(), Fail> {
+    check_generated(rt.alloc(), &GENERATED)?;
+    Ok(check_usage(rt.alloc(), &ORDERS_WORDS)?)
+}
+
+#[test]
+fn logs_in_another_form(rt: HostRuntime) -> Result<(), Fail> {
+    check_converts(rt.alloc(), &CONVERTS)?;
+    Ok(check_usage(rt.alloc(), &CONVERT_WORDS)?)
 }
 
 #[test]

@@ -35,13 +35,15 @@ const FILE: [Part; 6] = [
     Part::Path,
 ];
 
+const CONVERT_INTO: [Part; 4] = [Part::Log, Part::Form, Part::Path, Part::Form];
+
 const LIST: [Part; 2] = [Part::Symbol, Part::Result];
 
 const SHOW: [Part; 1] = [Part::Label];
 
 const AUDITOR_COMMANDS: &str = "audit, expect, convert, generate, certify, verify, session";
 
-const DESK_COMMANDS: &str = "audit, session, digest, plain, contents, help";
+const DESK_COMMANDS: &str = "audit, session, digest, orders, convert, plain, contents, help";
 
 const CASEBOOK_COMMANDS: &str = "file, list, show";
 
@@ -101,7 +103,7 @@ pub fn print_auditor_usage(rt: &HostRuntime, words: &[String]) {
     }
 }
 
-/// The parts of a command of `desk` that reads logs, after its word.
+/// The parts of a command of `desk` about logs, after its word.
 fn desk_parts(command: &str) -> Option<&'static [Part]> {
     if command == "audit" {
         Some(&DAY_AUDIT)
@@ -109,6 +111,10 @@ fn desk_parts(command: &str) -> Option<&'static [Part]> {
         Some(&DAY_SESSION)
     } else if command == "digest" {
         Some(&DIGEST)
+    } else if command == "orders" {
+        Some(&GENERATE)
+    } else if command == "convert" {
+        Some(&CONVERT_INTO)
     } else if command == "plain" {
         Some(&PLAIN)
     } else if command == "contents" {

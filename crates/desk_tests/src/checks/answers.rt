@@ -8,7 +8,7 @@ use log_source::shelf::Shelf;
 use std::alloc::Global;
 
 /// More bytes than the text of any row has.
-const ROOM: usize = 4096;
+const ROOM: usize = 16_384;
 
 /// What a command answered, and the sink that it wrote to.
 #[derive(Drop)]

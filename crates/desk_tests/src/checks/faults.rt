@@ -58,7 +58,7 @@ pub(crate) fn check_shelf_faults(alloc: Global, rows: &[ShelfRow]) -> Result<(),
 }
 
 /// What a row answers into a sink with this room whose writes of these numbers fail.
-fn answer_in_writes(
+pub(crate) fn answer_in_writes(
     alloc: Global,
     row: &Row,
     room: usize,
@@ -71,7 +71,7 @@ fn answer_in_writes(
 
 /// Checks that a call wrote this many bytes of the row's text and answered that it could not
 /// write all of them, where the text has more, and else the row's answer.
-fn check_written(
+pub(crate) fn check_written(
     alloc: Global,
     row: &Row,
     answered: &Answer,
@@ -98,6 +98,14 @@ fn check_each_room(alloc: Global, row: &Row) -> Result<(), RowFault> {
     for room in 0..=row.report.len() {
         let answered = answer_in_writes(alloc, row, room, &[])?;
         check_written(alloc, row, &answered, room)?;
+    }
+    Ok(())
+}
+
+/// Checks each of these rows with too little room, and with enough.
+pub(crate) fn check_rooms(alloc: Global, rows: &[Row]) -> Result<(), RowFault> {
+    for row in rows {
+        check_each_room(alloc, row)?;
     }
     Ok(())
 }

@@ -1,4 +1,4 @@
-use Rattle.desk_words.specs.declared.requests.DeskRequest.TheVariants.{Audit, Contents, Session}
+use Rattle.desk_words.specs.declared.requests.DeskRequest.TheVariants.{Audit, Contents, Convert, Session}
 use Rattle.desk_run.proofs.DayLemmas.{decides_within}
 use Rattle.desk_run.proofs.commands.answer_request.Goals as goal
 
@@ -17,11 +17,14 @@ returns-in-Session-clause-decides g c =
 pub returns-in-Digest-clause-decides : goal.returns-in-Digest-clause-decides
 returns-in-Digest-clause-decides g c = rw c.in-Digest.is c.answer_digest.ensures.decides
 
-pub returns-in-Plain-clause-decides : goal.returns-in-Plain-clause-decides
-returns-in-Plain-clause-decides g c = rw c.in-Plain.is c.answer_plain.ensures.decides
-
 pub returns-in-Contents-clause-decides : goal.returns-in-Contents-clause-decides
 returns-in-Contents-clause-decides g c =
     let decides = rw (c.day_source-orders-in-Contents.ensures.name, c.day_source-orders-in-Contents.ensures.form, c.day_source-trades-in-Contents.ensures.name, c.day_source-trades-in-Contents.ensures.form) at c.answer_contents.ensures.decides in
     rw c.in-Contents.is (decides_within g.F.Shelf c.args.shelf.now c.answer_contents.new.shelf c.day_source-orders-in-Contents.result c.day_source-orders-in-Contents.ensures.limit
     (Contents c.in-Contents.logs) c.answer_contents.result decides)
+
+pub returns-in-Convert-clause-decides : goal.returns-in-Convert-clause-decides
+returns-in-Convert-clause-decides g c =
+    let decides = rw (c.day_source-source.ensures.name, c.day_source-source.ensures.form) at c.answer_convert.ensures.decides in
+    rw c.in-Convert.is (decides_within g.F.Shelf c.args.shelf.now c.answer_convert.new.shelf c.day_source-source.result c.day_source-source.ensures.limit
+    (Convert c.in-Convert.log c.in-Convert.from c.in-Convert.path c.in-Convert.into) c.answer_convert.result decides)

@@ -1,4 +1,3 @@
-use Rattle.std.proofs.Common.{inr}
 use Rattle.day_contents.specs.Items.{trade_log_items}
 use Rattle.desk_run.specs.Contents.{IsAnswerAfterOrders}
 use Rattle.desk_run.proofs.ContentsLemmas.{unread_decides, unread_within}

@@ -1,5 +1,5 @@
 use Rattle.std.proofs.Common.{◌∙◌, refl, sym}
-use Rattle.audit_base.specs.declared.terms.Which.TheVariants.{Orders, Trades}
+use Rattle.audit_base.specs.declared.terms.Which.TheVariants.{Orders}
 use Rattle.command_run.specs.InTurn.{ReadsInTurn}
 use Rattle.desk_run.proofs.ContentsLemmas.{bad_orders, first_later, first_within, good_orders, orders_decide, status_of_items, trades_decide, unread_within}
 use Rattle.desk_run.specs.Contents.{request_of_contents}

@@ -1,0 +1,69 @@
+-- What `plain` has written of a day by the end of its reading.
+use Rattle.std.specs.Prelude.{ℕ, List, Option, Result, Ok, Err}
+use Rattle.std.specs.Io.KnownBytes.{Appends}
+use Rattle.audit_base.specs.declared.terms.Which.TheVariants.{Orders}
+use Rattle.command_run.specs.declared.answers.Answer.{Answer}
+use Rattle.command_run.specs.Early.{ReadsFront}
+use Rattle.dressed_logs.specs.declared.faults.BadMessage.{BadMessage}
+use Rattle.dressed_logs.specs.Fronts.{BeginsReadings}
+use Rattle.log_source.specs.Sinks.{AppendsPart, HasFailureCause, SinkState}
+use Rattle.log_verdict.specs.BothLogs.{IsLogStop, StaysWithin}
+use Rattle.log_verdict.specs.Collecting.{step_of}
+use Rattle.log_verdict.specs.Steps.{BeginsWithin, EndsWithin, IsRead, Reading}
+use Rattle.plain_logs.specs.declared.day_ends.DayEnd.{DayEnd}
+use Rattle.plain_logs.specs.declared.day_ends.PlainFault.{PlainFault}
+use Rattle.plain_logs.specs.declared.day_ends.PlainFault.TheVariants as plain
+use Rattle.plain_logs.specs.DayFeeds.{EndsReading}
+use Rattle.plain_logs.specs.PlainTexts.{plain_text}
+use Rattle.desk_run.specs.Digesting.{stop_of_take}
+
+-- A front of the day was read, and what is read of every day that begins with it begins with these
+-- bodies, whose text was written so.
+pub record WritesOfFront (r : Reading)
+    (reads : List ℕ → List (List ℕ) → Option BadMessage → Type 0) (name : List ℕ)
+    (writes : List ℕ → Type 0) : Type 0 where
+  pub front : List ℕ
+  pub bodies : List (List ℕ)
+  pub read : ReadsFront r (step_of r Orders name) front
+  pub begins : BeginsReadings reads front bodies
+  pub wrote : writes (plain_text bodies)
+
+-- The day was read to its end, the text of its first bodies was written, and this is its end.
+pub record WritesToEnd (r : Reading)
+    (reads : List ℕ → List (List ℕ) → Option BadMessage → Type 0) (name : List ℕ)
+    (old new : SinkState) (end : DayEnd) : Type 0 where
+  pub bytes : List ℕ
+  pub bodies : List (List ℕ)
+  pub read : IsRead r (step_of r Orders name) bytes
+  pub begins : BeginsReadings reads bytes bodies
+  pub wrote : Appends old.wrote new.wrote (plain_text bodies)
+  pub ends : EndsReading reads bytes bodies end
+
+-- The sink failed at a text: a part of it was written.
+pub record FailsAt (old new : SinkState) (text : List ℕ) : Type 0 where
+  pub part : AppendsPart old.wrote new.wrote text
+  pub cause : HasFailureCause old new
+
+-- Reading stopped for this cause, and what was read until then was written.
+pub record WritesToStop (r : Reading)
+    (reads : List ℕ → List (List ℕ) → Option BadMessage → Type 0) (name : List ℕ)
+    (old new : SinkState) (stops : Type 0) : Type 0 where
+  pub cause : stops
+  pub early : WritesOfFront r reads name (Appends old.wrote new.wrote)
+
+-- what was written of a day, by how its writing ended
+abbrev pub WritesDay : Reading → (List ℕ → List (List ℕ) → Option BadMessage → Type 0)
+    → List ℕ → SinkState → SinkState → Result DayEnd PlainFault → Type 0
+WritesDay r reads name old new (Ok end) = WritesToEnd r reads name old new end
+WritesDay r reads name old new (Err (plain.Log why)) =
+    WritesToStop r reads name old new (IsLogStop r Orders name (stop_of_take Orders why))
+WritesDay r reads name old new (Err plain.Sink) =
+    WritesOfFront r reads name (FailsAt old new)
+
+-- where both slots begin within the limit, they end so, unless the day is too long or the sink
+-- failed
+abbrev pub WritesWithin : Reading → Result DayEnd PlainFault → Type 0
+WritesWithin r (Ok end) = BeginsWithin r → EndsWithin r
+WritesWithin r (Err (plain.Log why)) =
+    StaysWithin {T = Answer} r (Err (stop_of_take Orders why))
+WritesWithin r (Err plain.Sink) = Unit {0}

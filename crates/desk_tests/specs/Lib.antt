@@ -1,0 +1,2 @@
+-- a shelf of logs of a given length
+pub mod LongShelves
