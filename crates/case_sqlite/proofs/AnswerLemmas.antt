@@ -1,5 +1,5 @@
 -- The cases in the rows of an answer, row by row.
-use Rattle.std.proofs.Common.{◌≡◌, map, ap₂, ℕ, zero, suc, ◌+◌, ◌<◌, Bool, List, [], ◌∷◌, ◌++◌, length, take, get_or, Some, None, Ok, refl, sym, ap, ◌∙◌, subst, All, arith}
+use Rattle.std.proofs.Common.{◌≡◌, map, ap₂, ℕ, zero, suc, ◌+◌, ◌<◌, ◌≤◌, Bool, List, [], ◌∷◌, ◌++◌, length, take, get_or, Some, None, Ok, refl, sym, ap, ◌∙◌, subst, All, arith}
 use Rattle.std.specs.Prelude.{Option, Result, option_map, option_and_then, IfSome, IfOk, IsTrue}
 use Rattle.std.specs.Option.{ok_or}
 use Rattle.std.proofs.lemmas.List.{take_more}
@@ -12,10 +12,9 @@ use Rattle.std.proofs.lemmas.List.Elements.{All-nil, All-cons}
 use Rattle.audit_base.specs.Least.{only_if}
 use Rattle.case_keeper.specs.declared.case.Case.{Case}
 use Rattle.sqlite_value.specs.Order.{Row}
-use Rattle.std.specs.Option.{option_to_list}
-use Rattle.case_sqlite.specs.CaseRows.{case_columns}
+use Rattle.case_sqlite.specs.CaseRows.{case_columns, rows_of_case}
 use Rattle.case_sqlite.proofs.RowLemmas.{form_told}
-use Rattle.case_sqlite.specs.Readings.{case_form, case_that, cases_that, one_case_that}
+use Rattle.case_sqlite.specs.Readings.{case_form, case_that, cases_that}
 
 abbrev before : Case → Option (List Case) → Option (List Case)
 before case = option_map (λ cases. case ∷ cases)
@@ -72,20 +71,6 @@ all_pass test (row ∷ rows) cases e =
     rest c is_c (Some more) is_o behind pass =
         subst (All (λ case. IsTrue (test case))) (same_Some (c ∷ more) cases behind) (All-cons (λ case. IsTrue (test case)) c more (told_passes test row c is_c) (pass more is_o))
 
--- the rows with a label give a case with this label
-pub one_has_label : (label : List ℕ) (rows : List Row) (result : Result (Option Case) KeepFault) → result ≡ one_case_that (has_label label) rows
-    → IfOk result (λ found. IfSome found (λ case. case.label ≡ label))
-one_has_label label rows result e = subst (λ r. IfOk r (λ found. IfSome found (λ case. case.label ≡ label))) (sym e) (told rows)
-  where
-    one : (row : Row) (o : Option Case) → case_that (has_label label) row ≡ o → IfOk (ok_or (option_map Some o) Failed) (λ found. IfSome found (λ case. case.label ≡ label))
-    one row None is = tt
-    one row (Some case) is = (bytes_eq-Decides case.label label).0 (told_passes (has_label label) row case is)
-
-    told : (rows : List Row) → IfOk (one_case_that (has_label label) rows) (λ found. IfSome found (λ case. case.label ≡ label))
-    told [] = tt
-    told (row ∷ []) = one row (case_that (has_label label) row) refl
-    told (row ∷ next ∷ rows) = tt
-
 -- a row with a case has its columns
 told_columns : (test : Case → Bool) (row : Row) (case : Case) → case_that test row ≡ Some case → row ≡ case_columns case
 told_columns test row case e =
@@ -105,17 +90,15 @@ all_rows test (row ∷ rows) cases e =
     rest c is_c (Some more) is_o behind same =
         ap₂ (λ r rs. r ∷ rs) (told_columns test row c is_c) (same more is_o) ∙ ap (map case_columns) (same_Some (c ∷ more) cases behind)
 
--- the rows that give a case, or none, are its columns, or none
-pub one_row : (test : Case → Bool) (rows : List Row) (found : Option Case) → Ok found ≡ one_case_that test rows → rows ≡ map case_columns (option_to_list found)
-one_row test [] found e = ap (λ o. map case_columns (option_to_list o)) (sym (ok_same found None e))
-  where
-    ok_same : (a b : Option Case) → ◌≡◌ {A = Result (Option Case) KeepFault} (Ok a) (Ok b) → a ≡ b
-    ok_same a b e = cc
-one_row test (row ∷ []) found e = one (case_that test row) refl e
-  where
-    one : (o : Option Case) → case_that test row ≡ o → Ok found ≡ ok_or (option_map Some o) Failed → row ∷ [] ≡ map case_columns (option_to_list found)
-    one None is e = absurd cc
-    one (Some case) is e =
-        let same : found ≡ Some case = cc in
-        ap (λ r. r ∷ []) (told_columns test row case is) ∙ ap (λ o. map case_columns (option_to_list o)) (sym same)
-one_row test (row ∷ next ∷ rows) found e = absurd cc
+-- the one row with a label has the columns of its case, which has the label
+pub one_told : (label : List ℕ) (row : Row) (case : Case) → Some case ≡ case_that (has_label label) row → (row ∷ [] ≡ rows_of_case (Some case)) × (case.label ≡ label)
+one_told label row case e = (
+  ap (λ r. r ∷ []) (told_columns (has_label label) row case (sym e)),
+  (bytes_eq-Decides case.label label).0 (told_passes (has_label label) row case (sym e)),
+)
+
+-- a list of one row
+pub one_row : (rows : List Row) (row : Row) → 1 ≤ length rows → length rows < 2 → row ≡ get_or rows 0 row → rows ≡ row ∷ []
+one_row [] row some few is = absurd (omega arith)
+one_row (first ∷ []) row some few is = ap (λ r. r ∷ []) (sym is)
+one_row (first ∷ second ∷ rows) row some few is = absurd (omega arith)

@@ -2,4 +2,4 @@ mod AnswerLemmas
 mod CodeLemmas
 mod KeeperLemmas
 mod RowLemmas
-mod RunLemmas
+pub mod RunLemmas

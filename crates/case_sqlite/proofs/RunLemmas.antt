@@ -20,10 +20,6 @@ pub on_err_then : {T E P Q : Type 0} (result : Result T E) → OnErr result P �
 on_err_then (Ok x) h f = tt
 on_err_then (Err e) h f = f h
 
-pub if_ok_any : {T E : Type 0} {P : T → Type 0} (result : Result T E) → ((x : T) → result ≡ Ok x → P x) → IfOk result P
-if_ok_any (Ok x) f = f x refl
-if_ok_any (Err e) f = tt
-
 -- what holds of a value holds of the value that it is
 pub moved : {X : Type 0} (P : X → Type 0) (a b : X) → a ≡ b → P a → P b
 moved P a b same h = subst P same h

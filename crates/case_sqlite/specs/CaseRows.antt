@@ -1,5 +1,6 @@
 -- The rows of the table of cases: which row a case has, and what a row says.
-use Rattle.std.specs.Prelude.{◌≡◌, ℕ, pos, ◌<◌, ◌≤◌, ◌^◌, [], ◌∷◌, Option, None, Some, IfSome, MatchOption, IsTrue}
+use Rattle.std.specs.Prelude.{◌≡◌, ℕ, pos, ◌<◌, ◌≤◌, ◌^◌, List, [], ◌∷◌, map, Option, None, Some, IfSome, MatchOption, IsTrue}
+use Rattle.std.specs.Option.{option_to_list}
 use Rattle.audit_base.specs.Names.{is_name}
 use Rattle.case_keeper.specs.declared.case.Case.{Case}
 use Rattle.case_keeper.specs.declared.case.Offence.{Offence}
@@ -25,6 +26,10 @@ abbrev pub case_columns : Case → Row
 case_columns case =
     Text case.label ∷ integer_value (rule_number case.rule) ∷ Text case.symbol
     ∷ offence_columns case.offence
+
+-- the row of a case that was found, or no row
+abbrev pub rows_of_case : Option Case → List Row
+rows_of_case found = map case_columns (option_to_list found)
 
 -- the place of an offence is that of a record, from 1
 abbrev pub OffenceHasPlace : Case → Type 0

@@ -1,6 +1,5 @@
 -- What the calls of a keeper run in its database.
 use Rattle.std.specs.Prelude.{◌≡◌, ◌⊎◌, ℕ, ◌≤◌, true, List, [], map, Option, Ok, IsTrue, MatchBool}
-use Rattle.std.specs.Option.{option_to_list}
 use Rattle.case_keeper.specs.declared.case.Case.{Case}
 use Rattle.case_keeper.specs.declared.case.Filter.{Filter}
 use Rattle.sqlite.specs.Held.{Held, state}
@@ -9,7 +8,7 @@ use Rattle.sqlite_trees.specs.Tree.{Trees}
 use Rattle.sqlite_trees.specs.View.{doubt}
 use Rattle.sqlite_trees.specs.declared.store.Store.{Ghosts}
 use Rattle.sqlite_value.specs.Order.{Row}
-use Rattle.case_sqlite.specs.CaseRows.{case_columns}
+use Rattle.case_sqlite.specs.CaseRows.{case_columns, rows_of_case}
 use Rattle.case_sqlite.specs.SqlKeepers.{connection_of}
 use Rattle.case_sqlite.specs.Statements.{make_text, insert_text, find_text, list_text, label_values, filter_values}
 use Rattle.case_sqlite.specs.declared.sql_keeper.SqlKeeper.{SqlKeeper}
@@ -67,8 +66,7 @@ module _ {S : Type 0} (g : Ghosts S) where
   -- what is found is the one row that the table shows for the label, nothing where it shows none
   abbrev pub FindsRow : SqlKeeper S → SqlKeeper S → List ℕ → Option Case → Type 0
   FindsRow old new label found =
-      ShowsRows find_text (label_values label) old new
-      (map case_columns (option_to_list found))
+      ShowsRows find_text (label_values label) old new (rows_of_case found)
 
   -- the cases that are listed are all rows that the table shows for the filter, in the order of
   -- their numbers

@@ -1,6 +1,7 @@
 //! The cases in the rows of an answer. Each row is tested again, whatever the query asked for.
-ghost use Rattle.std.specs.Prelude.{◌≡◌, IfOk, option_map};
+ghost use Rattle.std.specs.Prelude.{◌≡◌, IfOk, IfSome, option_map};
 ghost use Rattle.case_keeper.specs.Cases.{has_label, passes_filter};
+ghost use Rattle.case_sqlite.specs.CaseRows.{rows_of_case};
 ghost use Rattle.case_sqlite.specs.Readings.{case_that, cases_that, one_case_that};
 
 use crate::case_rows::read_case;
@@ -37,8 +38,10 @@ fn case_passing(row: &Row, filter: &Filter) -> Option<Case>
 
 /// What the rows with a label say: no case where there is none, else the case of the one row.
 /// It fails where that row is no case or has another label, and where there are two.
-pub(crate) fn one_with_label(rows: &[Row], label: &Name) -> Result<Option<Case>, KeepFault>
-    ensures { result ≡ one_case_that (has_label label.now) rows.now }
+pub fn one_with_label(rows: &[Row], label: &Name) -> Result<Option<Case>, KeepFault>
+    ensures rows { IfOk result (λ found. rows.now ≡ rows_of_case found) }
+    ensures labelled { IfOk result (λ found. IfSome found (λ case. case.label ≡ label.now)) }
+    ensures form { result ≡ one_case_that (has_label label.now) rows.now }
 {
     match rows {
         [] => Ok(None),

@@ -117,7 +117,7 @@ pub fn read_case(row: &Row) -> Option<Case>
 }
 
 /// Whether the place of an offence is that of a record, from 1.
-pub(crate) fn has_place(case: &Case) -> bool
+pub fn has_place(case: &Case) -> bool
     ensures { MatchBool result (OffenceHasPlace case.now) (¬ OffenceHasPlace case.now) }
 {
     match case.offence {

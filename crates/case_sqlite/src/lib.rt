@@ -4,7 +4,7 @@
 //! refusal is counted.
 #![tactic(auto)]
 
-mod answers;
+pub mod answers;
 pub mod case_rows;
 mod codes;
 pub mod faults;

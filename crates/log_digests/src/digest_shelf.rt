@@ -59,6 +59,14 @@ impl<'a, F: Shelf> DigestShelf<'a, F> {
             Which::Trades => self.trades.digest_so_far(),
         }
     }
+
+    /// The shelf below, as the reading of its logs left it.
+    pub fn into_shelf(self) -> F
+        ensures { (which : Which) →
+            F.slot result which ≡ ⟦<DigestShelf<'a, F> as Shelf>⟧.slot self.entry which }
+    {
+        self.shelf
+    }
 }
 
 impl<'a, F: Shelf> Shelf for DigestShelf<'a, F> {
