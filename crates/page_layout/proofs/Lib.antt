@@ -1,0 +1,3 @@
+mod AxisLemmas
+mod TickLemmas
+mod RoundLemmas
