@@ -10,7 +10,7 @@ mod endings;
 pub mod expecting;
 mod filling;
 mod fills;
-mod incoming_deals;
+pub mod incoming_deals;
 mod leaving;
 mod market;
 mod matching;

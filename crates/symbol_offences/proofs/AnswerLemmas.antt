@@ -1,0 +1,305 @@
+-- The answer to what two logs give is the answer to the records that give it.
+use Rattle.std.proofs.Common.{◌≡◌, ◌++◌, ◌∙◌, refl, sym, ap, subst, arith, ℕ, Bool, true, false, List, [], ◌∷◌, Option, Some, None, Result, Ok, Err, length}
+use Rattle.std.specs.Prelude.{◌&&◌, ◌||◌, filter_map, map, slice_get, IfOk}
+use Rattle.std.specs.List.{enumerate_from, range_with_len}
+use Rattle.std.proofs.lemmas.Option.{none-some, same_Some}
+use Rattle.std.proofs.lemmas.Result.{IfOk-weaker}
+use Rattle.audit_base.specs.Moments.{Moment}
+use Rattle.audit_base.specs.declared.faults.NoMemory.{NoMemory}
+use Rattle.audit_base.specs.declared.faults.BadPlace.{BadPlace}
+use Rattle.audit_base.specs.declared.findings.Finding.{Finding}
+use Rattle.audit_base.specs.declared.orders.Deal.{Deal}
+use Rattle.audit_base.specs.declared.orders.Order.{Order}
+use Rattle.audit_base.specs.declared.records.OrderRecord.{OrderRecord}
+use Rattle.audit_base.specs.declared.records.OrderRecord.TheVariants.{New, Cancel, Replace}
+use Rattle.audit_base.specs.declared.records.TradeRecord.{TradeRecord}
+use Rattle.audit_base.specs.declared.terms.Rule.{Rule}
+use Rattle.audit_base.specs.declared.terms.Rule.TheVariants as rule
+use Rattle.audit_base.specs.declared.terms.Which.{Which}
+use Rattle.audit_base.specs.Histories.{entry_finding, history, history_finding, order_list, order_of_entry}
+use Rattle.audit_base.specs.Least.{first_answer, least_answer}
+use Rattle.audit_base.specs.Trades.{deal_of_trade, deals_of_symbol, trades_finding, trades_of_symbol}
+use Rattle.audit_base.specs.Verdicts.{finding_before_rule, instant_finding_of_rule, paired_trades, pairing_finding}
+use Rattle.audit_base.proofs.LeastLemmas.{none-below, none_some}
+use Rattle.audit_report.specs.declared.statuses.Status.{Status}
+use Rattle.audit_report.specs.declared.statuses.Status.TheVariants as status
+use Rattle.audit_report.specs.declared.verdicts.Accepted.{Accepted}
+use Rattle.audit_report.specs.declared.verdicts.Verdict.{Verdict}
+use Rattle.audit_report.specs.declared.verdicts.Verdict.TheVariants as verdict
+use Rattle.command_run.specs.declared.answers.Answer.{Answer}
+use Rattle.command_run.specs.Deciding.{IsAnswerOfKind}
+use Rattle.command_run.specs.VerdictAnswers.{IsAnswerWith, IsVerdictAnswer}
+use Rattle.further_checks.specs.declared.findings.FurtherChecks.{FurtherChecks}
+use Rattle.further_checks.specs.declared.findings.FurtherFinding.{FurtherFinding}
+use Rattle.further_checks.specs.FurtherRules.{further_finding, further_findings, times_of_symbol}
+use Rattle.further_checks.specs.FurtherTexts.{further_text}
+use Rattle.matching_core.specs.declared.deals_draft.ResolvedTrades.{ResolvedTrades}
+use Rattle.record_verdict.specs.declared.before_rule.BeforeRule.{BeforeRule}
+use Rattle.record_verdict.specs.declared.before_rule.BeforeRule.TheVariants as before_rule
+use Rattle.record_verdict.specs.BeforeRule.{IsBeforeRule, IsResolvedWithoutFinding}
+use Rattle.record_verdict.specs.RecordVerdicts.{IsOutcomeByFinding, IsRecordVerdict}
+use Rattle.record_verdict.specs.Scopes.{admission_of, finding_before_rule_in_scope, scope_of, unadmitted_order_finding}
+use Rattle.record_verdict.specs.Stages.{IsVerdictAfterStages}
+use Rattle.symbol_offences.specs.declared.questions.OffenceQuestion.{OffenceQuestion}
+use Rattle.symbol_offences.specs.declared.symbol_logs.QuotedRecords.{QuotedRecords}
+use Rattle.symbol_offences.specs.declared.symbol_logs.SymbolLogs.{SymbolLogs}
+use Rattle.symbol_offences.specs.OffenceAnswers.{has_none, is_absent, IsAnswerByPresence, IsAnswerByVerdict, IsAnswerToAccepted, IsAnswerToRejected, IsOffencesOfRecords}
+use Rattle.symbol_offences.specs.OffenceLines.{failure_lines}
+use Rattle.symbol_offences.specs.Questions.{asked_rule, asks_further, audit_question, keeping_for, kept_if}
+use Rattle.symbol_offences.specs.SymbolLogs.{IsSymbolLogs, quoted_records}
+use Rattle.symbol_offences.specs.Telling.{are_none, IsAnswerByDeals, IsAnswerBySome, IsAnswerToLogs}
+
+-- What is found before the rule is what a reading in the scope of the rule finds.
+
+same-admission : (the_rule : Rule) (orders : List Order) → unadmitted_order_finding (admission_of the_rule) orders ≡ instant_finding_of_rule the_rule orders
+same-admission rule.Matching orders = refl
+same-admission rule.Fair orders = refl
+same-admission rule.Uniform orders = refl
+same-admission rule.Maximum orders = refl
+same-admission rule.Continuous orders = refl
+
+same-before : (q : OffenceQuestion) (entries : List OrderRecord) (paired : Result (List TradeRecord) Finding)
+    → finding_before_rule_in_scope (scope_of (audit_question q)) entries paired ≡ finding_before_rule (asked_rule q) q.symbol entries paired
+same-before q entries paired =
+    ap (λ (o : Option Finding). first_answer (history_finding q.symbol entries ∷ o ∷ pairing_finding paired ∷ trades_finding (order_list q.symbol entries) q.symbol (paired_trades paired) ∷ []))
+    (same-admission (asked_rule q) (order_list q.symbol entries))
+
+-- Where the symbol is absent.
+
+none-is : {A : Type 0} (xs : List A) → has_none xs ≡ true → xs ≡ []
+none-is [] is = refl
+none-is (x ∷ xs) is = cc
+
+none-mapped : {A B : Type 0} (f : A → B) (xs : List A) → has_none (map f xs) ≡ has_none xs
+none-mapped f [] = refl
+none-mapped f (x ∷ xs) = refl
+
+both-true : (a b : Bool) → (a && b) ≡ true → (a ≡ true) × (b ≡ true)
+both-true true true e = (refl, refl)
+both-true true false e = cc
+both-true false b e = cc
+
+-- the orders of a history of which these are the records
+abbrev orders_of_history : List (ℕ × OrderRecord) → List Order
+orders_of_history h = filter_map (λ e. order_of_entry h (e.0, e.1.0, e.1.1)) (enumerate_from 0 h)
+
+-- no order is found in no records, and nothing else
+empty-history : (the_rule : Rule) (symbol : List ℕ) (trades : List TradeRecord) (h : List (ℕ × OrderRecord)) → h ≡ [] → trades_of_symbol symbol trades ≡ []
+    → first_answer (least_answer (entry_finding h) (length h) ∷ instant_finding_of_rule the_rule (orders_of_history h) ∷ None ∷ trades_finding (orders_of_history h) symbol trades ∷ []) ≡ None
+unfolding trades_finding
+empty-history the_rule symbol trades h none untraded = rw (none, untraded) (by-rule the_rule)
+  where
+    by-rule : (r : Rule) → ◌≡◌ {A = Option Finding} (first_answer (None ∷ instant_finding_of_rule r [] ∷ None ∷ None ∷ [])) None
+    by-rule rule.Matching = refl
+    by-rule rule.Fair = refl
+    by-rule rule.Uniform = refl
+    by-rule rule.Maximum = refl
+    by-rule rule.Continuous = refl
+
+-- where something is found before the rule, the symbol is not absent
+found-present : (the_rule : Rule) (symbol : List ℕ) (entries : List OrderRecord) (paired : Result (List TradeRecord) Finding) (finding : Finding) → finding_before_rule the_rule symbol entries paired ≡ Some finding
+    → is_absent symbol entries paired ≡ false
+found-present the_rule symbol entries (Err alone) finding found = refl
+found-present the_rule symbol entries (Ok trades) finding found = by-absent (is_absent symbol entries (Ok trades)) refl
+  where
+    by-absent : (b : Bool) → is_absent symbol entries (Ok trades) ≡ b → b ≡ false
+    by-absent false e = refl
+    by-absent true e =
+        let both = both-true (has_none (history symbol entries)) (has_none (trades_of_symbol symbol trades)) e in
+        none_some (finding_before_rule the_rule symbol entries (Ok trades)) finding
+        (empty-history the_rule symbol trades (history symbol entries) (none-is (history symbol entries) both.0) (none-is (trades_of_symbol symbol trades) both.1)) found
+
+-- the first record of a history without a finding is an order
+first-is-order : (h : List (ℕ × OrderRecord)) → least_answer (entry_finding h) (length h) ≡ None → has_none (orders_of_history h) ≡ has_none h
+first-is-order [] clean = refl
+first-is-order ((place, New key time symbol side quantity price life) ∷ rest) clean = refl
+first-is-order ((place, Replace key time symbol target side quantity price) ∷ rest) clean = refl
+first-is-order ((place, Cancel key time symbol target) ∷ rest) clean =
+    let h : List (ℕ × OrderRecord) = (place, Cancel key time symbol target) ∷ rest in
+    none_some (entry_finding h 0) _ (none-below (entry_finding h) (length h) clean 0 (omega arith)) refl
+
+none-dealt : (orders : List Order) (symbol : List ℕ) (trades : List TradeRecord) → has_none (deals_of_symbol orders symbol trades) ≡ has_none (trades_of_symbol symbol trades)
+unfolding deals_of_symbol
+none-dealt orders symbol trades = none-mapped (deal_of_trade orders) (trades_of_symbol symbol trades)
+
+history-clean : (a b c d : Option Finding) → first_answer (a ∷ b ∷ c ∷ d ∷ []) ≡ None → (a ≡ None) × (c ≡ None)
+history-clean None b None d e = (refl, refl)
+history-clean None None (Some x) d e = cc
+history-clean None (Some x) (Some y) d e = cc
+history-clean (Some x) b c d e = cc
+
+-- where nothing is found before the rule, the symbol is absent exactly where there is no order and no deal
+sound-absent : (the_rule : Rule) (symbol : List ℕ) (entries : List OrderRecord) (paired : Result (List TradeRecord) Finding) → finding_before_rule the_rule symbol entries paired ≡ None
+    → are_none (order_list symbol entries) (deals_of_symbol (order_list symbol entries) symbol (paired_trades paired)) ≡ is_absent symbol entries paired
+sound-absent the_rule symbol entries paired none = by-pairing paired (clean.1)
+  where
+    clean : (history_finding symbol entries ≡ None) × (pairing_finding paired ≡ None)
+    clean = history-clean (history_finding symbol entries) (instant_finding_of_rule the_rule (order_list symbol entries)) (pairing_finding paired) (trades_finding (order_list symbol entries) symbol (paired_trades paired)) none
+
+    by-pairing : (p : Result (List TradeRecord) Finding) → pairing_finding p ≡ None
+        → are_none (order_list symbol entries) (deals_of_symbol (order_list symbol entries) symbol (paired_trades p)) ≡ is_absent symbol entries p
+    by-pairing (Ok trades) e = λ i. first-is-order (history symbol entries) clean.0 i && none-dealt (order_list symbol entries) symbol trades i
+    by-pairing (Err finding) e = cc
+
+-- The further checks.
+
+none-answered : {A : Type 0} (answer : ℕ → Option A) → ((n : ℕ) → answer n ≡ None) → (ns : List ℕ) → filter_map answer ns ≡ []
+none-answered answer none [] = refl
+none-answered answer none (n ∷ ns) = rw (none n, none-answered answer none ns) refl
+
+either-false : (a b : Bool) → (a || b) ≡ false → (a ≡ false) × (b ≡ false)
+either-false false false e = (refl, refl)
+either-false false true e = cc
+either-false true b e = cc
+
+-- where none is asked for, no trade fails one
+pub none-fails : (checks : FurtherChecks) (orders : List Order) (deals : List Deal) (times : List Moment) → asks_further checks ≡ false → further_findings checks orders deals times ≡ []
+unfolding further_findings
+none-fails checks orders deals times e =
+    let neither = either-false checks.resting_price checks.trade_times e in
+    none-answered (further_finding checks orders deals times) (λ n. rw (neither.0, neither.1) refl) (range_with_len 0 (length deals))
+
+-- and the answer is that of the audit
+pub as-accepted : (quoted : QuotedRecords) (accepted : Accepted) (found : List FurtherFinding) (result : Result Answer NoMemory) → found ≡ []
+    → IfOk result (IsAnswerOfKind (IsVerdictAnswer (verdict.Accepted accepted))) → IfOk result (IsAnswerOfKind (IsAnswerToAccepted quoted accepted found))
+as-accepted quoted accepted found result none told =
+    subst (λ (f : List FurtherFinding). IfOk result (IsAnswerOfKind (IsAnswerToAccepted quoted accepted f))) (sym none)
+    (IfOk-weaker result _ _ (λ answer is. record { status_is = is.status_is; text_is = is.text_is }) told)
+
+pub no-first : (found : List FurtherFinding) → slice_get found 0 ≡ None → found ≡ []
+no-first [] none = refl
+no-first (f ∷ rest) none = cc
+
+-- where there is a first one, the answer has its text and the lines of all
+pub as-failing : (quoted : QuotedRecords) (accepted : Accepted) (first : FurtherFinding) (found : List FurtherFinding) (answer : Answer) (text : List ℕ) → slice_get found 0 ≡ Some first
+    → IsAnswerOfKind (IsAnswerWith status.Rejected text) answer → text ≡ further_text first ++ failure_lines quoted found → IsAnswerOfKind (IsAnswerToAccepted quoted accepted found) answer
+as-failing quoted accepted first [] answer text got told is = absurd (none-some first got)
+as-failing quoted accepted first (f ∷ rest) answer text got told is =
+    record { status_is = told.status_is; text_is = told.text_is ∙ is ∙ ap (λ (x : FurtherFinding). further_text x ++ failure_lines quoted (f ∷ rest)) (sym (same_Some f first got)) }
+
+-- times are looked at only where they are kept
+kept-times : (checks : FurtherChecks) (orders : List Order) (deals : List Deal) (times : List Moment)
+    → further_findings checks orders deals (kept_if (asks_further checks) times) ≡ further_findings checks orders deals times
+kept-times checks orders deals times = by-asked (asks_further checks) refl
+  where
+    by-asked : (b : Bool) → asks_further checks ≡ b → further_findings checks orders deals (kept_if b times) ≡ further_findings checks orders deals times
+    by-asked true e = refl
+    by-asked false e = none-fails checks orders deals [] e ∙ sym (none-fails checks orders deals times e)
+
+-- The answer to records.
+
+-- by whether the symbol is absent
+by-presence : (absent b : Bool) → absent ≡ b → (q : OffenceQuestion) (entries : List OrderRecord) (paired : Result (List TradeRecord) Finding) (the_status : Status) (text : List ℕ)
+    → IsAnswerByPresence b q entries paired the_status text → IsAnswerByPresence absent q entries paired the_status text
+by-presence absent b same q entries paired the_status text is = subst (λ (x : Bool). IsAnswerByPresence x q entries paired the_status text) (sym same) is
+
+-- a finding before the rule
+pub found-answer : (q : OffenceQuestion) (entries : List OrderRecord) (paired : Result (List TradeRecord) Finding) (logs : SymbolLogs) (finding : Finding) (v : Verdict) (the_status : Status) (text : List ℕ)
+    → IsSymbolLogs (scope_of (audit_question q)) (keeping_for q) entries paired logs → logs.given ≡ before_rule.Found finding → v ≡ verdict.Rejected finding → IsRecordVerdict (audit_question q) entries paired v
+    → IsAnswerToRejected logs.quoted [] finding (finding ∷ []) the_status text → IsOffencesOfRecords q entries paired the_status text
+found-answer q entries paired logs finding v the_status text is given rejected has told =
+    by-presence (is_absent q.symbol entries paired) false (found-present (asked_rule q) q.symbol entries paired finding found) q entries paired the_status text
+    (record {
+      the_verdict = verdict.Rejected finding;
+      is = subst (λ (w : Verdict). IsRecordVerdict (audit_question q) entries paired w) rejected has;
+      answer = rw found (subst (λ (r : QuotedRecords). IsAnswerToRejected r [] finding (finding ∷ []) the_status text) is.quoted told);
+    })
+  where
+    found : finding_before_rule (asked_rule q) q.symbol entries paired ≡ Some finding
+    found = sym (same-before q entries paired) ∙ subst (λ (b : BeforeRule). IsBeforeRule (scope_of (audit_question q)) entries paired b) given is.before
+
+-- the records of two logs have no verdict that a log is malformed
+malformed-apart : (q : OffenceQuestion) (entries : List OrderRecord) (paired : Result (List TradeRecord) Finding) (log : Which) (bad : BadPlace) → IsRecordVerdict (audit_question q) entries paired (verdict.Malformed log bad) → ⊥
+malformed-apart q entries paired log bad is = by-found is.found is.outcome
+  where
+    by-found : (found : Option Finding) → IsOutcomeByFinding (audit_question q) (order_list q.symbol entries) (deals_of_symbol (order_list q.symbol entries) q.symbol (paired_trades paired)) found (verdict.Malformed log bad) → ⊥
+    by-found None outcome = outcome
+    by-found (Some finding) outcome = cc
+
+-- sound trades
+module _ (q : OffenceQuestion) (entries : List OrderRecord) (paired : Result (List TradeRecord) Finding) (the_status : Status) (text : List ℕ) (clean : finding_before_rule (asked_rule q) q.symbol entries paired ≡ None) where
+  orders : List Order
+  orders = order_list q.symbol entries
+
+  deals : List Deal
+  deals = deals_of_symbol (order_list q.symbol entries) q.symbol (paired_trades paired)
+
+  quoted : QuotedRecords
+  quoted = quoted_records q.records q.symbol entries paired
+
+  by-deals : (v : Verdict) → IsRecordVerdict (audit_question q) entries paired v
+      → IsAnswerByDeals q (order_list q.symbol entries) (deals_of_symbol (order_list q.symbol entries) q.symbol (paired_trades paired))
+      (kept_if (asks_further q.checks) (times_of_symbol q.symbol (paired_trades paired))) (quoted_records q.records q.symbol entries paired) v the_status text
+      → IsAnswerByVerdict q entries paired v the_status text
+  by-deals (verdict.Accepted accepted) has told =
+      subst (λ (found : List FurtherFinding). IsAnswerToAccepted (quoted_records q.records q.symbol entries paired) accepted found the_status text)
+      (kept-times q.checks (order_list q.symbol entries) (deals_of_symbol (order_list q.symbol entries) q.symbol (paired_trades paired)) (times_of_symbol q.symbol (paired_trades paired))) told
+  by-deals (verdict.Rejected first) has told = rw clean told
+  by-deals (verdict.Malformed log bad) has told = absurd (malformed-apart q entries paired log bad has)
+
+  by-some : (b : Bool) (v : Verdict) → IsRecordVerdict (audit_question q) entries paired v
+      → IsAnswerBySome b q (order_list q.symbol entries) (deals_of_symbol (order_list q.symbol entries) q.symbol (paired_trades paired))
+      (kept_if (asks_further q.checks) (times_of_symbol q.symbol (paired_trades paired))) (quoted_records q.records q.symbol entries paired) v the_status text
+      → IsAnswerByPresence b q entries paired the_status text
+  by-some true v has told = told
+  by-some false v has told = record { the_verdict = v; is = has; answer = by-deals v has told }
+
+pub sound-answer : (q : OffenceQuestion) (entries : List OrderRecord) (paired : Result (List TradeRecord) Finding) (logs : SymbolLogs) (sound : ResolvedTrades) (v : Verdict) (the_status : Status) (text : List ℕ)
+    → IsSymbolLogs (scope_of (audit_question q)) (keeping_for q) entries paired logs → logs.given ≡ before_rule.Sound sound → IsRecordVerdict (audit_question q) entries paired v
+    → IsAnswerBySome (are_none sound.history sound.deals.items) q sound.history sound.deals.items logs.times.items logs.quoted v the_status text
+    → IsOffencesOfRecords q entries paired the_status text
+sound-answer q entries paired logs sound v the_status text is given has told =
+    by-presence (is_absent q.symbol entries paired) (are_none orders deals) (sym (sound-absent (asked_rule q) q.symbol entries paired clean)) q entries paired the_status text
+    (by-some q entries paired the_status text clean (are_none orders deals) v has moved)
+  where
+    resolved : IsResolvedWithoutFinding (scope_of (audit_question q)) entries paired sound
+    resolved = subst (λ (b : BeforeRule). IsBeforeRule (scope_of (audit_question q)) entries paired b) given is.before
+
+    clean : finding_before_rule (asked_rule q) q.symbol entries paired ≡ None
+    clean = sym (same-before q entries paired) ∙ resolved.none
+
+    orders : List Order
+    orders = order_list q.symbol entries
+
+    deals : List Deal
+    deals = deals_of_symbol (order_list q.symbol entries) q.symbol (paired_trades paired)
+
+    moved : IsAnswerBySome (are_none orders deals) q orders deals (kept_if (asks_further q.checks) (times_of_symbol q.symbol (paired_trades paired))) (quoted_records q.records q.symbol entries paired) v the_status text
+    moved =
+        subst (λ (r : QuotedRecords). IsAnswerBySome (are_none orders deals) q orders deals (kept_if (asks_further q.checks) (times_of_symbol q.symbol (paired_trades paired))) r v the_status text) is.quoted
+        (subst (λ (ts : List Moment). IsAnswerBySome (are_none orders deals) q orders deals ts logs.quoted v the_status text) is.times
+        (subst (λ (ds : List Deal). IsAnswerBySome (are_none orders ds) q orders ds logs.times.items logs.quoted v the_status text) resolved.deals
+        (subst (λ (os : List Order). IsAnswerBySome (are_none os sound.deals.items) q os sound.deals.items logs.times.items logs.quoted v the_status text) resolved.orders told)))
+
+-- The answer to what two logs give.
+
+found-apart : (finding : Finding) (log : Which) (bad : BadPlace) (given : BeforeRule) → given ≡ before_rule.Found finding → given ≡ before_rule.Malformed log bad → ⊥
+found-apart finding log bad given is other = cc (is, other)
+
+sound-apart : (sound : ResolvedTrades) (log : Which) (bad : BadPlace) (given : BeforeRule) → given ≡ before_rule.Sound sound → given ≡ before_rule.Malformed log bad → ⊥
+sound-apart sound log bad given is other = cc (is, other)
+
+module _ (q : OffenceQuestion) (logs : SymbolLogs) (v : Verdict) (answer : Answer) (stages : IsVerdictAfterStages (audit_question q) logs.given v) where
+  -- a bad place
+  pub malformed-told : (log : Which) (bad : BadPlace) → logs.given ≡ before_rule.Malformed log bad → IsAnswerOfKind (IsVerdictAnswer v) answer → IsAnswerToLogs q logs answer
+  malformed-told log bad given told = record {
+    of_place = λ l b e. subst (λ (w : Verdict). IsAnswerOfKind (IsVerdictAnswer w) answer) (stages.of_place l b e) told;
+    of_records = λ entries paired is. absurd (subst (λ (b : BeforeRule). IsBeforeRule (scope_of (audit_question q)) entries paired b) given is.before);
+  }
+
+  -- a finding before the rule
+  pub found-told : (finding : Finding) → logs.given ≡ before_rule.Found finding → IsAnswerOfKind (IsAnswerToRejected logs.quoted [] finding (finding ∷ [])) answer → IsAnswerToLogs q logs answer
+  found-told finding given told = record {
+    of_place = λ l b e. absurd (found-apart finding l b logs.given given e);
+    of_records = λ entries paired is.
+        found-answer q entries paired logs finding v answer.status answer.text.items is given (stages.of_finding finding given) (stages.of_records entries paired is.before) told;
+  }
+
+  -- sound trades
+  pub sound-told : (sound : ResolvedTrades) → logs.given ≡ before_rule.Sound sound
+      → IsAnswerOfKind (IsAnswerBySome (are_none sound.history sound.deals.items) q sound.history sound.deals.items logs.times.items logs.quoted v) answer → IsAnswerToLogs q logs answer
+  sound-told sound given told = record {
+    of_place = λ l b e. absurd (sound-apart sound l b logs.given given e);
+    of_records = λ entries paired is.
+        sound-answer q entries paired logs sound v answer.status answer.text.items is given (stages.of_records entries paired is.before) told;
+  }

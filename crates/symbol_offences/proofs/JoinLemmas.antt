@@ -1,0 +1,148 @@
+-- Two logs read one after the other: how what is known of one log goes over to both.
+use Rattle.std.proofs.Common.{◌<◌, ◌≡◌, ◌≤◌, ◌⊎◌, ◌∙◌, sym, subst, refl, inl, inr, ⊎_elim, true, ℕ, List, length, Option, None, Result, Ok, Err, IsOk}
+use Rattle.std.specs.Prelude.{IsSomeAnd, MatchResult}
+use Rattle.audit_base.specs.declared.faults.BadPlace.{BadPlace}
+use Rattle.audit_base.specs.declared.findings.Finding.{Finding}
+use Rattle.audit_base.specs.declared.records.OrderRecord.{OrderRecord}
+use Rattle.audit_base.specs.declared.records.TradeRecord.{TradeRecord}
+use Rattle.audit_base.specs.declared.terms.Which.{Which}
+use Rattle.audit_base.specs.declared.terms.Which.TheVariants.{Orders, Trades}
+use Rattle.log_source.specs.declared.shelf.Shelf.{Ghosts as Shelf}
+use Rattle.log_source.specs.Calls.{count_after}
+use Rattle.log_source.specs.Sources.{Slot, RoseOrIsFull}
+use Rattle.log_verdict.specs.declared.reading.Unread.{Unread}
+use Rattle.log_verdict.specs.declared.reading.Unread.TheVariants as unread
+use Rattle.log_verdict.specs.declared.sources.Source.{Source}
+use Rattle.log_verdict.specs.declared.stops.Stop.{Stop}
+use Rattle.log_verdict.specs.declared.stops.Stop.TheVariants as stop
+use Rattle.log_verdict.specs.BothLogs.{IsLogStop, IsStopOfTwoLogs, ReadsAfterOrders, ReadsLogs, ReadsTrades, StaysWithin, StaysWithinAt}
+use Rattle.log_verdict.specs.Collecting.{step_of, IsReadAs}
+use Rattle.log_verdict.specs.LogVerdicts.{records_of_order_log, trades_of_trade_log}
+use Rattle.log_verdict.specs.Steps.{Reading, IsReadFault, IsTooLong, KeepsShelfLogs, EndsWithin, FaultsNeverFall}
+use Rattle.symbol_offences.specs.declared.symbol_logs.SymbolLogs.{SymbolLogs}
+use Rattle.symbol_offences.specs.ReadingLogs.{AnswersUnread}
+
+-- a reading of the whole, from the reading of a part before and one after
+abbrev pub joined : Reading → Reading → Reading
+joined first second = record { limit = first.limit; tells = first.tells; log_of = first.log_of; before = first.before; after = second.after }
+
+-- What one reading knows of the other: the same shelf, where the first ended.
+pub record Follows (first second : Reading) : Type 0 where
+  pub limit : second.limit ≡ first.limit
+  pub tells : second.tells ≡ first.tells
+  pub logs : (log : Which) (name : List ℕ) → second.log_of log name ≡ first.log_of log name
+  pub trades : second.before Trades ≡ first.before Trades
+  pub orders : second.after Orders ≡ first.after Orders
+
+-- two parts of a call that keep the logs keep them in the whole
+pub keeps-both : {S : Type 0} (shelf : Shelf S) (a b c : S) → KeepsShelfLogs shelf a b → KeepsShelfLogs shelf b c → KeepsShelfLogs shelf a c
+keeps-both shelf a b c x y = record { tells = y.tells ∙ x.tells; logs = λ log name. y.logs log name ∙ x.logs log name }
+
+ends-within : (r : Reading) → (r.after Orders).taken ≤ r.limit → (r.after Trades).taken ≤ r.limit → EndsWithin r
+ends-within r orders trades Orders = orders
+ends-within r orders trades Trades = trades
+
+module _ (first second : Reading) (after : Follows first second) where
+  -- the order log stays read while the trade log is
+  stays-read : (name : List ℕ) (says says' : List ℕ → Type 0) → ((bytes : List ℕ) → says bytes → says' bytes) → IsReadAs first Orders name says → IsReadAs (joined first second) Orders name says'
+  stays-read name says says' so is = record {
+    bytes = is.bytes;
+    read = record {
+      once = rw after.orders is.read.once;
+      started = rw after.orders is.read.started;
+      at_end = rw after.orders is.read.at_end;
+      within = is.read.within;
+      taken = rw after.orders is.read.taken;
+      known = is.read.known;
+    };
+    holds = so is.bytes is.holds;
+  }
+
+  once-after : (second.after Trades).starts ≡ count_after (second.before Trades).starts → (second.after Trades).starts ≡ count_after (first.before Trades).starts
+  once-after once = subst (λ (s : Slot). (second.after Trades).starts ≡ count_after s.starts) after.trades once
+
+  -- the trade log is read in the whole as in the part
+  read-after : (name : List ℕ) (says : List ℕ → Type 0) → IsReadAs second Trades name says → IsReadAs (joined first second) Trades name says
+  read-after name says is = record {
+    bytes = is.bytes;
+    read = record {
+      once = once-after is.read.once;
+      started = is.read.started;
+      at_end = is.read.at_end;
+      within = subst (λ (n : ℕ). length is.bytes ≤ n) after.limit is.read.within;
+      taken = is.read.taken;
+      known = λ t. sym (after.logs Trades name) ∙ is.read.known (after.tells ∙ t);
+    };
+    holds = is.holds;
+  }
+
+  fault-after : (name : List ℕ) → IsReadFault second (step_of second Trades name) → IsReadFault (joined first second) (step_of (joined first second) Trades name)
+  fault-after name is = record { once = once-after is.once; cause = by-cause is.cause }
+    where
+      by-cause : RoseOrIsFull (second.before Trades).faults (second.after Trades).faults ⊎ ((second.tells ≡ true) × (second.log_of Trades name ≡ None))
+          → RoseOrIsFull (first.before Trades).faults (second.after Trades).faults ⊎ ((first.tells ≡ true) × (first.log_of Trades name ≡ None))
+      by-cause (inl rose) = inl (rw (← after.trades) rose)
+      by-cause (inr (t, none)) = inr (sym after.tells ∙ t, sym (after.logs Trades name) ∙ none)
+
+  long-after : (name : List ℕ) → IsTooLong second (step_of second Trades name) → IsTooLong (joined first second) (step_of (joined first second) Trades name)
+  long-after name is = record {
+    once = once-after is.once;
+    taken = subst (λ (n : ℕ). n < (second.after Trades).taken) after.limit is.taken;
+    longer = λ t. subst (λ (n : ℕ). IsSomeAnd (first.log_of Trades name) (λ bytes. n < length bytes)) after.limit
+        (subst (λ (o : Option (List ℕ)). IsSomeAnd o (λ bytes. second.limit < length bytes)) (after.logs Trades name) (is.longer (after.tells ∙ t)));
+  }
+
+  -- what is known after the order log is known of both
+  pub gives-after : {T : Type 0} (P : List OrderRecord → Result (List TradeRecord) Finding → T → Type 0) (B : Which → BadPlace → T → Type 0) (orders trades : Source) (entries : List OrderRecord) (result : Result T Stop)
+      → IsReadAs first Orders orders.name.now (λ bytes. records_of_order_log orders.form bytes ≡ Ok entries)
+      → MatchResult result (λ t. ReadsTrades second trades (λ paired. P entries paired t) (λ bad. B Trades bad t)) (IsLogStop second Trades trades.name.now)
+      → MatchResult result (λ t. ReadsLogs (joined first second) orders trades (λ es paired. P es paired t) (λ log bad. B log bad t)) (IsStopOfTwoLogs (joined first second) orders trades)
+  gives-after P B orders trades entries (Ok t) read is =
+      stays-read orders.name.now (λ bytes. records_of_order_log orders.form bytes ≡ Ok entries) (λ bytes. ReadsAfterOrders (joined first second) trades (λ es paired. P es paired t) (λ log bad. B log bad t) (records_of_order_log orders.form bytes))
+      (λ bytes e. rw e (read-after trades.name.now _ is)) read
+  gives-after P B orders trades entries (Err (stop.ReadFault log)) read (is, fault) =
+      rw is (record {
+        in_turn = stays-read orders.name.now (λ bytes. records_of_order_log orders.form bytes ≡ Ok entries) (λ bytes. IsOk (records_of_order_log orders.form bytes)) (λ bytes e. rw e refl) read;
+        fault = fault-after trades.name.now fault;
+      })
+  gives-after P B orders trades entries (Err (stop.TooLong log)) read (is, long) =
+      rw is (record {
+        in_turn = stays-read orders.name.now (λ bytes. records_of_order_log orders.form bytes ≡ Ok entries) (λ bytes. IsOk (records_of_order_log orders.form bytes)) (λ bytes e. rw e refl) read;
+        long = long-after trades.name.now long;
+      })
+  gives-after P B orders trades entries (Err stop.Memory) read is = tt
+
+  pub later-after : (first.before Orders).faults ≤ (first.after Orders).faults → (second.before Trades).faults ≤ (second.after Trades).faults → FaultsNeverFall (joined first second)
+  later-after orders trades Orders = rw after.orders orders
+  later-after orders trades Trades = rw (← after.trades) trades
+
+  -- where the order log is within the limit, and the trade log stays so
+  pub stays-within : {T : Type 0} (result : Result T Stop) → (first.after Orders).taken ≤ first.limit
+      → ((second.before Trades).taken ≤ second.limit → StaysWithinAt second Trades result) → StaysWithin (joined first second) result
+  stays-within result orders stays begins =
+      ⊎_elim (λ stop. inl stop)
+      (λ trades. inr (ends-within (joined first second) (subst (λ (s : Slot). s.taken ≤ first.limit) (sym after.orders) orders)
+      (subst (λ (n : ℕ). (second.after Trades).taken ≤ n) after.limit trades)))
+      (stays (subst (λ (n : ℕ). (second.before Trades).taken ≤ n) (sym after.limit) (subst (λ (s : Slot). s.taken ≤ first.limit) (sym after.trades) (begins Trades))))
+
+-- where the order log was not read into records
+pub unread-within : (r : Reading) (why : Unread) (result : Result SymbolLogs Stop) → AnswersUnread Orders why result → ((why ≡ unread.TooLong → ⊥) → (r.after Orders).taken ≤ r.limit)
+    → r.after Trades ≡ r.before Trades → StaysWithin r result
+unread-within r (unread.Bad bad) result is within same begins = inr (ends-within r (within (λ e. cc)) (subst (λ (s : Slot). s.taken ≤ r.limit) (sym same) (begins Trades)))
+unread-within r unread.ReadFault result is within same begins = inr (ends-within r (within (λ e. cc)) (subst (λ (s : Slot). s.taken ≤ r.limit) (sym same) (begins Trades)))
+unread-within r unread.TooLong result is within same begins = inl (rw is tt)
+unread-within r unread.Memory result is within same begins = inr (ends-within r (within (λ e. cc)) (subst (λ (s : Slot). s.taken ≤ r.limit) (sym same) (begins Trades)))
+
+-- what follows of records and of a bad place follows of logs that were read
+pub reads-on : (r : Reading) (orders trades : Source) (P P' : List OrderRecord → Result (List TradeRecord) Finding → Type 0) (B B' : Which → BadPlace → Type 0)
+    → ((entries : List OrderRecord) (paired : Result (List TradeRecord) Finding) → P entries paired → P' entries paired)
+    → ((log : Which) (bad : BadPlace) → B log bad → B' log bad) → ReadsLogs r orders trades P B → ReadsLogs r orders trades P' B'
+reads-on r orders trades P P' B B' records bads is = record { bytes = is.bytes; read = is.read; holds = of-orders (records_of_order_log orders.form is.bytes) is.holds }
+  where
+    of-trades : (entries : List OrderRecord) (said : Result (Result (List TradeRecord) Finding) BadPlace) → MatchResult said (P entries) (B Trades) → MatchResult said (P' entries) (B' Trades)
+    of-trades entries (Ok paired) holds = records entries paired holds
+    of-trades entries (Err bad) holds = bads Trades bad holds
+
+    of-orders : (said : Result (List OrderRecord) BadPlace) → ReadsAfterOrders r trades P B said → ReadsAfterOrders r trades P' B' said
+    of-orders (Ok entries) holds = record { bytes = holds.bytes; read = holds.read; holds = of-trades entries (trades_of_trade_log trades.form holds.bytes) holds.holds }
+    of-orders (Err bad) holds = (bads Orders bad holds.0, holds.1)

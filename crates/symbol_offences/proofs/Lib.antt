@@ -1,0 +1,7 @@
+mod JoinLemmas
+mod KeptLemmas
+mod TakenLemmas
+mod ReadLemmas
+mod PlaceLemmas
+mod TextLemmas
+mod AnswerLemmas

@@ -1,0 +1,7 @@
+use Rattle.std.proofs.Common.{refl}
+use Rattle.symbol_offences.proofs.TakenLemmas.{other-taken}
+use Rattle.symbol_offences.proofs.order_log.OrdersOfSymbolCollector.pass_over.Goals as goal
+
+pub returns : goal.returns
+returns g c = λ entries entry other has.
+    other-taken g.S.AskedOrders.symbol g.S.AskedOrders.keeps c.args.self.now _ entries entry has other refl refl refl refl refl

@@ -1,0 +1,51 @@
+use Rattle.std.proofs.Common.{sym, ap, subst, ◌∙◌, Err, Option}
+use Rattle.std.specs.Prelude.{unwrap_or}
+use Rattle.audit_base.specs.declared.findings.Finding.{Finding}
+use Rattle.log_verdict.specs.Steps.{reading_by}
+use Rattle.record_verdict.specs.declared.before_rule.BeforeRule.{BeforeRule}
+use Rattle.record_verdict.specs.declared.before_rule.BeforeRule.TheVariants as before_rule
+use Rattle.record_verdict.specs.BeforeRule.{IsJudgeable}
+use Rattle.symbol_offences.specs.TradeLog.{IsTradesOfSymbol}
+use Rattle.symbol_offences.proofs.ReadLemmas.{alone-logs, ready-of, trades-alone, trades-ended, trades-unread}
+use Rattle.symbol_offences.proofs.reading.read_trades.Goals as goal
+
+pub new-kept-requires-clause-symbol : goal.new-kept-requires-clause-symbol
+new-kept-requires-clause-symbol g c = ap (λ s. s.symbol) c.requires.scope
+
+pub new-kept-requires-clause-known : goal.new-kept-requires-clause-known
+new-kept-requires-clause-known g c = λ entries may. (c.requires.begun entries may).known
+
+pub end-requires-clause-begun : goal.end-requires-clause-begun
+end-requires-clause-begun g c = λ entries may. (c.requires.begun entries may).kept
+
+pub returns-in-Ok-Trades-clause-decides : goal.returns-in-Ok-Trades-clause-decides
+returns-in-Ok-Trades-clause-decides g c = λ entries may.
+    let read = rw c.in-Ok-Trades.field-0-is at c.in-Ok-Trades.ensures.read in
+    let ends = rw c.in-Ok-Trades.field-0-is at c.end.ensures.logs in
+    trades-ended (reading_by c.args.trades.now g.F.Shelf c.args.shelf.now c.collect_trades.new.shelf) g.M.AskedTrades.scope g.M.AskedTrades.keeping c.args.trades.now entries
+    (IsTradesOfSymbol g.M.AskedTrades.scope g.M.AskedTrades.keeping g.M.AskedTrades.may_have c.in-Ok-Trades.kept) c.end.result read
+    (λ ts has. ends entries ts may (c.requires.begun entries may).kept has)
+
+pub returns-in-Ok-Alone-clause-decides : goal.returns-in-Ok-Alone-clause-decides
+returns-in-Ok-Alone-clause-decides g c = λ entries may.
+    let read = rw c.in-Ok-Alone.field-0-is at c.in-Ok-Alone.ensures.read in
+    let given = rw c.in-Ok-Alone.field-0-is at c.logs_alone.ensures.given in
+    trades-alone (reading_by c.args.trades.now g.F.Shelf c.args.shelf.now c.collect_trades.new.shelf) g.M.AskedTrades.scope g.M.AskedTrades.keeping c.args.trades.now entries
+    c.in-Ok-Alone.finding c.logs_alone.result read
+    (alone-logs g.M.AskedTrades.scope g.M.AskedTrades.keeping entries c.args.begun c.args.records c.in-Ok-Alone.finding c.logs_alone.result (c.requires.begun entries may)
+    (given ∙ ap (λ (o : Option Finding). before_rule.Found (unwrap_or o c.in-Ok-Alone.finding)) c.finding_of-of_orders.ensures)
+    c.logs_alone.ensures.times c.logs_alone.ensures.orders c.logs_alone.ensures.trades)
+
+pub returns-in-Ok-Alone-clause-ready : goal.returns-in-Ok-Alone-clause-ready
+returns-in-Ok-Alone-clause-ready g c =
+    let told = rw c.in-Ok-Alone.field-0-is at c.logs_alone.ensures.given in
+    let given = told ∙ ap (λ (o : Option Finding). before_rule.Found (unwrap_or o c.in-Ok-Alone.finding)) c.finding_of-of_orders.ensures in
+    ready-of g.M.AskedTrades.scope g.M.AskedTrades.keeping c.requires.some.0 (Err c.in-Ok-Alone.finding) c.logs_alone.result
+    (alone-logs g.M.AskedTrades.scope g.M.AskedTrades.keeping c.requires.some.0 c.args.begun c.args.records c.in-Ok-Alone.finding c.logs_alone.result (c.requires.begun c.requires.some.0 c.requires.some.1)
+    given c.logs_alone.ensures.times c.logs_alone.ensures.orders c.logs_alone.ensures.trades)
+    (subst (λ (b : BeforeRule). IsJudgeable b) (sym given) tt)
+
+pub returns-in-Err-clause-decides : goal.returns-in-Err-clause-decides
+returns-in-Err-clause-decides g c = λ entries may.
+    trades-unread (reading_by c.args.trades.now g.F.Shelf c.args.shelf.now c.collect_trades.new.shelf) g.M.AskedTrades.scope g.M.AskedTrades.keeping c.args.trades.now entries
+    c.in-Err.unread c.answer_unread.result c.answer_unread.ensures.answers c.in-Err.ensures.read

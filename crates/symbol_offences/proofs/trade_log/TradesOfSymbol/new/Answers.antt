@@ -1,0 +1,15 @@
+use Rattle.std.proofs.Common.{refl, sym, ap, ◌∙◌, ℕ, List, []}
+use Rattle.symbol_offences.proofs.KeptLemmas.{no-trades_kept, no-times_kept}
+use Rattle.symbol_offences.proofs.trade_log.TradesOfSymbol.new.Goals as goal
+
+pub returns : goal.returns
+returns g c = record {
+  named = c.requires.symbol;
+  count = refl;
+  known_after = c.requires.known;
+  keeps_so = c.requires.keeping;
+  times_are = c.new.ensures.items ∙ sym (no-times_kept g.M.AskedTrades.keeping.times g.M.AskedTrades.scope.symbol);
+  records_are = c.new-2.ensures
+      ∙ ap (λ (s : List ℕ). record { symbol = s; trades = [] }) c.requires.symbol
+      ∙ sym (no-trades_kept g.M.AskedTrades.keeping.records g.M.AskedTrades.scope.symbol);
+}

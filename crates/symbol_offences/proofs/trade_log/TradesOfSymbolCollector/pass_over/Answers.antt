@@ -1,0 +1,7 @@
+use Rattle.std.proofs.Common.{refl}
+use Rattle.symbol_offences.proofs.TakenLemmas.{other-trade_taken}
+use Rattle.symbol_offences.proofs.trade_log.TradesOfSymbolCollector.pass_over.Goals as goal
+
+pub returns : goal.returns
+returns g c = λ trades trade other has.
+    other-trade_taken g.M.AskedTrades.scope g.M.AskedTrades.keeping g.M.AskedTrades.may_have c.args.self.now _ trades trade has other refl refl refl refl refl refl

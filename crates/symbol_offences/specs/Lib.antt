@@ -1,0 +1,11 @@
+-- What the public contracts cite.
+pub mod Questions
+pub mod OffenceAnswers
+pub mod OffenceLines
+pub mod Quotes
+pub mod SymbolLogs
+pub mod ReadingLogs
+-- What functions pass on to one another.
+pub mod OrderLog
+pub mod TradeLog
+pub mod Telling

@@ -1,0 +1,68 @@
+-- The answer to what two logs give of a symbol.
+use Rattle.std.specs.Prelude.{◌≡◌, ℕ, Bool, true, false, ◌&&◌, List, Result}
+use Rattle.std.specs.List.{flat_map}
+use Rattle.audit_base.specs.Moments.{Moment}
+use Rattle.audit_base.specs.declared.faults.BadPlace.{BadPlace}
+use Rattle.audit_base.specs.declared.findings.Finding.{Finding}
+use Rattle.audit_base.specs.declared.orders.Deal.{Deal}
+use Rattle.audit_base.specs.declared.orders.Order.{Order}
+use Rattle.audit_base.specs.declared.records.OrderRecord.{OrderRecord}
+use Rattle.audit_base.specs.declared.records.TradeRecord.{TradeRecord}
+use Rattle.audit_base.specs.declared.terms.Which.{Which}
+use Rattle.audit_report.specs.declared.statuses.Status.{Status}
+use Rattle.audit_report.specs.declared.statuses.Status.TheVariants as status
+use Rattle.audit_report.specs.declared.verdicts.Verdict.{Verdict}
+use Rattle.audit_report.specs.declared.verdicts.Verdict.TheVariants as verdict
+use Rattle.command_run.specs.declared.answers.Answer.{Answer}
+use Rattle.command_run.specs.Deciding.{IsAnswerOfKind}
+use Rattle.command_run.specs.VerdictAnswers.{IsAnswerWith, IsVerdictAnswer}
+use Rattle.further_checks.specs.FurtherRules.{further_findings}
+use Rattle.offence_list.specs.declared.offences.Offence.{Offence}
+use Rattle.offence_list.specs.ListedOffences.{finding_of_offence}
+use Rattle.offence_list.specs.Offences.{offences_of}
+use Rattle.record_verdict.specs.declared.before_rule.BeforeRule.TheVariants as before_rule
+use Rattle.record_verdict.specs.Scopes.{scope_of}
+use Rattle.symbol_offences.specs.declared.questions.OffenceQuestion.{OffenceQuestion}
+use Rattle.symbol_offences.specs.declared.symbol_logs.QuotedRecords.{QuotedRecords}
+use Rattle.symbol_offences.specs.declared.symbol_logs.SymbolLogs.{SymbolLogs}
+use Rattle.symbol_offences.specs.OffenceAnswers.{has_none, IsAnswerToAccepted, IsAnswerToRejected, IsOffencesOfRecords}
+use Rattle.symbol_offences.specs.OffenceLines.{absent_line, quoted_offence}
+use Rattle.symbol_offences.specs.Questions.{asked_rule, audit_question, keeping_for}
+use Rattle.symbol_offences.specs.SymbolLogs.{IsSymbolLogs}
+
+-- the lines of the offences of a list about these orders
+abbrev pub offences_quoted : List Order → QuotedRecords → List Offence → List ℕ
+offences_quoted orders quoted found =
+    flat_map (λ o. quoted_offence orders quoted (finding_of_offence orders o)) found
+
+-- the answer by the verdict on these orders and deals
+abbrev pub IsAnswerByDeals : OffenceQuestion → List Order → List Deal → List Moment → QuotedRecords
+    → Verdict → Status → List ℕ → Type 0
+IsAnswerByDeals q orders deals times quoted (verdict.Accepted accepted) =
+    IsAnswerToAccepted quoted accepted (further_findings q.checks orders deals times)
+IsAnswerByDeals q orders deals times quoted (verdict.Rejected first) =
+    IsAnswerToRejected quoted orders first (offences_of (asked_rule q) orders deals first)
+IsAnswerByDeals q orders deals times quoted (verdict.Malformed log bad) =
+    IsVerdictAnswer (verdict.Malformed log bad)
+
+-- there is no order and no deal
+abbrev pub are_none : List Order → List Deal → Bool
+are_none orders deals = has_none orders && has_none deals
+
+-- the answer by whether there is an order or a deal
+abbrev pub IsAnswerBySome : Bool → OffenceQuestion → List Order → List Deal → List Moment
+    → QuotedRecords → Verdict → Status → List ℕ → Type 0
+IsAnswerBySome true q orders deals times quoted the_verdict =
+    IsAnswerWith status.Rejected (absent_line q.symbol)
+IsAnswerBySome false q orders deals times quoted the_verdict =
+    IsAnswerByDeals q orders deals times quoted the_verdict
+
+-- The answer to what two logs give: their first bad place; and of whatever records give this, the
+-- answer to them.
+pub record IsAnswerToLogs (q : OffenceQuestion) (logs : SymbolLogs) (answer : Answer)
+    : Type 0 where
+  pub of_place : (log : Which) (bad : BadPlace) → logs.given ≡ before_rule.Malformed log bad
+      → IsAnswerOfKind (IsVerdictAnswer (verdict.Malformed log bad)) answer
+  pub of_records : (entries : List OrderRecord) (paired : Result (List TradeRecord) Finding)
+      → IsSymbolLogs (scope_of (audit_question q)) (keeping_for q) entries paired logs
+      → IsAnswerOfKind (IsOffencesOfRecords q entries paired) answer

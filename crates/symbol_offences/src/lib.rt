@@ -1,0 +1,22 @@
+//! Every offence of one symbol, from the two logs of a shelf to the text that tells them.
+//!
+//! Each log is read once, piece by piece: `order_log` and `trade_log` are handed its records and
+//! keep what the verdict needs, and beside it, where that is asked for, the times of the symbol's
+//! trades and the records themselves. `reading` reads one log after the other. `answers` judges
+//! what they give and tells it: an accepted log as an audit does, a rejected one with a line for
+//! each offence (`listing`), or for each trade that fails a further check (`further`), and behind
+//! each line the records that a letter quotes (`quotes`, `record_lines`, found by `places`). A
+//! symbol that no record has is told to be absent.
+#![tactic(auto)]
+
+pub mod answers;
+mod further;
+mod listing;
+pub mod order_log;
+mod places;
+pub mod questions;
+mod quotes;
+pub mod reading;
+mod record_lines;
+pub mod symbol_logs;
+pub mod trade_log;

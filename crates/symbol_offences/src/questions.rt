@@ -1,0 +1,72 @@
+//! What is asked of the records of a symbol.
+ghost use Rattle.std.specs.Prelude.{◌≡◌, false};
+ghost use Rattle.audit_base.specs.RuleKinds.{rule_of_call};
+ghost use Rattle.record_verdict.specs.RecordVerdicts.{question};
+ghost use Rattle.symbol_offences.specs.Questions.{asks_further, keeping_for};
+
+use audit_base::names::Name;
+use audit_base::terms::{CallRule, Rule};
+use further_checks::findings::FurtherChecks;
+use record_verdict::questions::Question;
+
+/// What is asked of the records of a symbol: every offence under a rule of a call, and of a symbol
+/// that the rule accepts every trade that fails a further check.
+#[derive(Clone, Copy, Debug)]
+pub struct OffenceQuestion {
+    pub rule: CallRule,
+    pub symbol: Name,
+    /// Whether the records that a letter quotes are written behind each offence.
+    pub records: bool,
+    /// Which of the further checks are asked for.
+    pub checks: FurtherChecks,
+}
+
+/// What is kept of a symbol beside what its verdict needs.
+#[derive(Clone, Copy, Debug)]
+pub struct Keeping {
+    /// Its records, of both logs.
+    pub records: bool,
+    /// The times of its trades.
+    pub times: bool,
+}
+
+/// A rule of a call as one of the five.
+fn rule_of(rule: CallRule) -> Rule
+    ensures { result ≡ rule_of_call rule }
+{
+    match rule {
+        CallRule::Matching => Rule::Matching,
+        CallRule::Fair => Rule::Fair,
+        CallRule::Greatest(rule) => rule.rule(),
+    }
+}
+
+/// Whether a further check is asked for.
+pub(crate) fn asks_further(checks: FurtherChecks) -> bool
+    ensures { result ≡ asks_further checks }
+{
+    checks.resting_price || checks.trade_times
+}
+
+impl OffenceQuestion {
+    /// The same as the question of an audit, without a table.
+    pub fn audit(&self) -> Question
+        ensures { result ≡ question (rule_of_call self.now.rule) self.now.symbol false }
+    {
+        Question {
+            rule: rule_of(self.rule),
+            symbol: self.symbol,
+            table: false,
+        }
+    }
+
+    /// What is kept for its answer.
+    pub(crate) fn keeping(&self) -> Keeping
+        ensures { result ≡ keeping_for self.now }
+    {
+        Keeping {
+            records: self.records,
+            times: asks_further(self.checks),
+        }
+    }
+}

@@ -1,0 +1,227 @@
+//! Reading the two logs of a symbol: each is handed record by record to what is kept of it.
+ghost use Rattle.std.specs.Prelude.{◌≡◌, ◌≤◌, [], List, IfOk, unwrap_or};
+ghost use Rattle.audit_base.specs.declared.records.OrderRecord.{OrderRecord as AnEntry};
+ghost use Rattle.audit_base.specs.declared.terms.Which.{Which};
+ghost use Rattle.log_source.specs.Collectors.{HasPlace};
+ghost use Rattle.log_source.specs.Sources.{longest_read};
+ghost use Rattle.record_verdict.specs.declared.before_rule.BeforeRule.TheVariants as before_rule;
+ghost use Rattle.log_verdict.specs.BothLogs.{HaveOneLimit, StaysWithin, StaysWithinAt};
+ghost use Rattle.log_verdict.specs.Collecting.{TouchesOnly};
+ghost use Rattle.log_verdict.specs.Steps.{reading_by, KeepsShelfLogs, FaultsNeverFall};
+ghost use Rattle.symbol_offences.specs.OrderLog.{IsOrdersOfSymbol};
+ghost use Rattle.symbol_offences.specs.ReadingLogs.{AnswersUnread, GivesAfterOrdersOrStop, GivesSymbolLogsOrStop, IsBadLog};
+ghost use Rattle.symbol_offences.specs.SymbolLogs.{IsReadyToTell};
+ghost use Rattle.symbol_offences.specs.TradeLog.{IsBegunWith, finding_of_orders};
+
+use crate::order_log::{AskedOrders, OrdersOfSymbol};
+use crate::questions::Keeping;
+use crate::symbol_logs::{QuotedRecords, SymbolLogs};
+use crate::trade_log::{AskedTrades, TradesOfSymbol};
+use audit_base::faults::BadPlace;
+use audit_base::findings::Finding;
+use audit_base::names::Name;
+use audit_base::terms::Which;
+use day_trades::symbol_trades::SymbolTrades;
+use kept_records::orders::KeptOrders;
+use kept_records::trades::KeptTrades;
+use log_source::shelf::Shelf;
+use log_verdict::reading::{Collected, Unread, collect_orders, collect_trades};
+use log_verdict::sources::Source;
+use log_verdict::stops::Stop;
+use record_verdict::before_rule::BeforeRule;
+use record_verdict::scopes::Scope;
+use std::alloc::Global;
+use std::marker::Brand;
+
+/// What is given of a symbol by a finding that decides, whatever its trades are: no trade is told,
+/// and these records of the order log.
+fn logs_of_finding(alloc: Global, finding: Finding, orders: KeptOrders) -> SymbolLogs
+    ensures given { result.given ≡ before_rule.Found finding }
+    ensures times { result.times.items ≡ [] }
+    ensures orders { result.quoted.orders ≡ orders }
+    ensures trades { result.quoted.trades ≡ record { symbol = orders.symbol; trades = [] } }
+{
+    let trades = KeptTrades::new(alloc, orders.symbol());
+    SymbolLogs {
+        given: BeforeRule::Found(finding),
+        times: Vec::new(alloc),
+        quoted: QuotedRecords { orders, trades },
+    }
+}
+
+/// What is given of a symbol by a log that is not in its grammar: its first bad place.
+fn logs_of_place(alloc: Global, symbol: Name, log: Which, bad: BadPlace) -> SymbolLogs
+    ensures given { IsBadLog log bad result }
+    ensures orders { result.quoted.orders.entries ≡ [] }
+    ensures trades { result.quoted.trades.trades ≡ [] }
+{
+    SymbolLogs {
+        given: BeforeRule::Malformed { log, bad },
+        times: Vec::new(alloc),
+        quoted: QuotedRecords {
+            orders: KeptOrders::new(alloc, symbol),
+            trades: KeptTrades::new(alloc, symbol),
+        },
+    }
+}
+
+/// What is answered where a log was not read into records.
+fn answer_unread(
+    alloc: Global,
+    symbol: Name,
+    keeping: Keeping,
+    log: Which,
+    unread: Unread,
+) -> Result<SymbolLogs, Stop>
+    ensures answers { AnswersUnread log unread result }
+    ensures ready { IfOk result (IsReadyToTell keeping) }
+{
+    match unread {
+        Unread::Bad(bad) => Ok(logs_of_place(alloc, symbol, log, bad)),
+        Unread::ReadFault => Err(Stop::ReadFault(log)),
+        Unread::TooLong => Err(Stop::TooLong(log)),
+        Unread::Memory => Err(Stop::Memory),
+    }
+}
+
+/// The finding about the orders of the symbol, if there is one.
+fn finding_of(known: &SymbolTrades) -> Option<Finding>
+    ensures { result ≡ finding_of_orders known.now }
+{
+    match known {
+        SymbolTrades::Found(finding) => Some(*finding),
+        SymbolTrades::Sound(_) => None,
+    }
+}
+
+/// What is given where a report has no partner: the finding about the orders decides, if there is
+/// one, or else that.
+fn logs_alone(
+    alloc: Global,
+    of_orders: &Option<Finding>,
+    alone: Finding,
+    orders: KeptOrders,
+) -> SymbolLogs
+    ensures given { result.given ≡ before_rule.Found (unwrap_or of_orders.now alone) }
+    ensures times { result.times.items ≡ [] }
+    ensures orders { result.quoted.orders ≡ orders }
+    ensures trades { result.quoted.trades ≡ record { symbol = orders.symbol; trades = [] } }
+{
+    match of_orders {
+        Some(finding) => logs_of_finding(alloc, *finding, orders),
+        None => logs_of_finding(alloc, alone, orders),
+    }
+}
+
+/// What both logs give of the symbol, where this is known of it after the order log: the trade log
+/// is read.
+fn read_trades<M: AskedTrades, F: Shelf>(
+    alloc: Global,
+    shelf: &mut F,
+    scope: &Scope,
+    keeping: Keeping,
+    trades: &Source<'_>,
+    begun: SymbolTrades,
+    records: KeptOrders,
+) -> Result<SymbolLogs, Stop>
+    requires limit { trades.now.limit ≤ longest_read }
+    requires scope { scope.now ≡ M.scope }
+    requires keeping { keeping ≡ M.keeping }
+    requires begun { (entries : List AnEntry) → M.may_have entries
+        → IsBegunWith M.scope M.keeping begun records entries }
+    requires some { (entries : List AnEntry) × M.may_have entries }
+    ensures logs { KeepsShelfLogs F.Shelf shelf.old shelf.new }
+    ensures only { TouchesOnly (reading_by trades.now F.Shelf shelf.old shelf.new) Which.Trades }
+    ensures decides { (entries : List AnEntry) → M.may_have entries
+        → GivesAfterOrdersOrStop (reading_by trades.now F.Shelf shelf.old shelf.new)
+        M.scope M.keeping trades.now entries result }
+    ensures ready { IfOk result (IsReadyToTell M.keeping) }
+    ensures within { StaysWithinAt (reading_by trades.now F.Shelf shelf.old shelf.new)
+        Which.Trades result }
+{
+    let of_orders = finding_of(&begun);
+    let kept = TradesOfSymbol::<M>::new(alloc, scope.symbol, keeping, begun);
+    match collect_trades::<F, TradesOfSymbol<M>>(alloc, shelf, trades, kept) {
+        Ok(Collected::Trades(kept)) => Ok(kept.end(records)),
+        Ok(Collected::Alone(finding)) => Ok(logs_alone(alloc, &of_orders, finding, records)),
+        Err(unread) => answer_unread(alloc, scope.symbol, keeping, Which::Trades, unread),
+    }
+}
+
+/// What both logs give of the symbol, where the order log has been read.
+fn after_orders<S: AskedOrders, F: Shelf>(
+    alloc: Global,
+    shelf: &mut F,
+    scope: &Scope,
+    keeping: Keeping,
+    trades: &Source<'_>,
+    orders: OrdersOfSymbol<S>,
+) -> Result<SymbolLogs, Stop>
+    requires limit { trades.now.limit ≤ longest_read }
+    requires symbol { scope.now.symbol ≡ S.symbol }
+    requires keeps { keeping.records ≡ S.keeps }
+    requires place { HasPlace (IsOrdersOfSymbol S.symbol S.keeps) orders }
+    ensures logs { KeepsShelfLogs F.Shelf shelf.old shelf.new }
+    ensures only { TouchesOnly (reading_by trades.now F.Shelf shelf.old shelf.new) Which.Trades }
+    ensures decides { (entries : List AnEntry) → IsOrdersOfSymbol S.symbol S.keeps orders entries
+        → GivesAfterOrdersOrStop (reading_by trades.now F.Shelf shelf.old shelf.new)
+        scope.now keeping trades.now entries result }
+    ensures ready { IfOk result (IsReadyToTell keeping) }
+    ensures within { StaysWithinAt (reading_by trades.now F.Shelf shelf.old shelf.new)
+        Which.Trades result }
+{
+    let OrdersOfSymbol {
+        history,
+        records,
+        ..
+    } = orders;
+    let begun = SymbolTrades::of(alloc, trades.seed, scope.admission, history);
+    read_trades::<Brand, F>(alloc, shelf, scope, keeping, trades, begun, records)
+}
+
+/// What both logs give of the symbol, by its orders.
+fn read_orders<S: AskedOrders, F: Shelf>(
+    alloc: Global,
+    shelf: &mut F,
+    scope: &Scope,
+    keeping: Keeping,
+    orders: &Source<'_>,
+    trades: &Source<'_>,
+) -> Result<SymbolLogs, Stop>
+    requires symbol { scope.now.symbol ≡ S.symbol }
+    requires keeps { keeping.records ≡ S.keeps }
+    requires limit { HaveOneLimit orders.now trades.now }
+    ensures logs { KeepsShelfLogs F.Shelf shelf.old shelf.new }
+    ensures later { FaultsNeverFall (reading_by orders.now F.Shelf shelf.old shelf.new) }
+    ensures decides { GivesSymbolLogsOrStop (reading_by orders.now F.Shelf shelf.old shelf.new)
+        scope.now keeping orders.now trades.now result }
+    ensures ready { IfOk result (IsReadyToTell keeping) }
+    ensures within { StaysWithin (reading_by orders.now F.Shelf shelf.old shelf.new) result }
+{
+    let kept = OrdersOfSymbol::<S>::new(alloc, orders.seed, scope.symbol, keeping.records);
+    match collect_orders::<F, OrdersOfSymbol<S>>(alloc, shelf, orders, kept) {
+        Ok(kept) => after_orders(alloc, shelf, scope, keeping, trades, kept),
+        Err(unread) => answer_unread(alloc, scope.symbol, keeping, Which::Orders, unread),
+    }
+}
+
+/// What two logs give of the symbol, or why that is not known. The order log is read first, and the
+/// trade log only where that is in its grammar; each is read once.
+pub fn read_symbol<F: Shelf>(
+    alloc: Global,
+    shelf: &mut F,
+    scope: &Scope,
+    keeping: Keeping,
+    orders: &Source<'_>,
+    trades: &Source<'_>,
+) -> Result<SymbolLogs, Stop>
+    requires limit { HaveOneLimit orders.now trades.now }
+    ensures logs { KeepsShelfLogs F.Shelf shelf.old shelf.new }
+    ensures later { FaultsNeverFall (reading_by orders.now F.Shelf shelf.old shelf.new) }
+    ensures decides { GivesSymbolLogsOrStop (reading_by orders.now F.Shelf shelf.old shelf.new)
+        scope.now keeping orders.now trades.now result }
+    ensures ready { IfOk result (IsReadyToTell keeping) }
+    ensures within { StaysWithin (reading_by orders.now F.Shelf shelf.old shelf.new) result }
+{
+    read_orders::<Brand, F>(alloc, shelf, scope, keeping, orders, trades)
+}

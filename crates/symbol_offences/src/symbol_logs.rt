@@ -1,0 +1,21 @@
+//! What two logs give of one symbol.
+use audit_base::stamps::Stamp;
+use kept_records::orders::KeptOrders;
+use kept_records::trades::KeptTrades;
+use record_verdict::before_rule::BeforeRule;
+
+/// The records of a symbol that a letter may quote; none where none are to be quoted.
+#[derive(Drop)]
+pub struct QuotedRecords {
+    pub orders: KeptOrders,
+    pub trades: KeptTrades,
+}
+
+/// What two logs give of one symbol: what its verdict is judged by, the times of its trades where
+/// they are asked for, and its records where they are quoted.
+#[derive(Drop)]
+pub struct SymbolLogs {
+    pub given: BeforeRule,
+    pub times: Vec<Stamp>,
+    pub quoted: QuotedRecords,
+}
