@@ -69,8 +69,9 @@ class Plan:
         """Returns the crate to begin now and its number of jobs, or None.
 
         As many checks run as there are processors, where memory allows. That with the longest way gets a job for each
-        processor, and the others half as many, or those that no crate asks for. This is more than there are
-        processors: a check is one process at its start and its end, and the others then take what it leaves free.
+        processor, which is more than there are: a check is one process at its start and its end, and the others then
+        take what it leaves free. The others get one job, or those that no crate asks for, since the same check takes
+        the more of the processors in all the more jobs share it.
         """
         ready = self.ready()
         if not ready or len(self.running) >= self.processors or self.alone & {*self.running}:
@@ -79,7 +80,7 @@ class Plan:
         if name in self.alone and self.running:
             return None
         spare = self.processors - len(self.running) - len(ready) + 1
-        jobs = max(1, self.processors // 2, spare)
+        jobs = max(1, spare)
         if all(self.way[name] >= self.way[it] for it in self.running):
             jobs = self.processors
         if name in self.alone:
