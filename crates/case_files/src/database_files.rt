@@ -34,7 +34,7 @@ pub(crate) fn open_when_free(rt: &HostRuntime, path: &str) -> Result<Files<File>
 
 /// Where a database that is open is, and which file it is.
 #[derive(Drop)]
-pub(crate) struct DatabasePlace {
+pub struct DatabasePlace {
     database: String,
     log: String,
     device: u64,
@@ -43,7 +43,7 @@ pub(crate) struct DatabasePlace {
 
 impl DatabasePlace {
     /// Where the database under this path is, with no link in its path.
-    pub(crate) fn of(rt: &HostRuntime, path: &str) -> io::Result<DatabasePlace> {
+    pub fn of(rt: &HostRuntime, path: &str) -> io::Result<DatabasePlace> {
         let real = fs::canonicalize(rt, path)?;
         let found = fs::symlink_metadata(rt, real.as_str())?;
         Ok(DatabasePlace {

@@ -3,6 +3,7 @@
 #![tactic(auto)]
 
 pub mod closing;
-mod database_files;
+pub mod database_files;
+pub mod databases;
 pub mod file_opener;
 pub mod program;

@@ -94,7 +94,11 @@ fn tell<F: Shelf>(
 ) {
     match status {
         CaseStatus::Usage => print_casebook_usage(rt, words),
-        CaseStatus::KeeperFault => print_database_fault(rt, words),
+        CaseStatus::KeeperFault => {
+            if let Some(path) = words.first() {
+                print_database_fault(rt, "casebook", path.as_str());
+            }
+        }
         CaseStatus::Memory => {
             let _told = eprintln!(rt; "casebook: memory ran out");
         }
@@ -123,10 +127,15 @@ fn answer(rt: HostRuntime) -> CaseStatus
     let Ok(words) = rt.words() else {
         return CaseStatus::Memory;
     };
-    let was_missing = is_database_missing(&rt, &words);
+    let was_missing = match words.first() {
+        Some(path) => is_database_missing(&rt, path.as_str()),
+        None => false,
+    };
     let mut opener = FileOpener::new(databases);
     let RunEnds { status, shelf, out } = run_over(&rt, files, io::writer(&rt), &mut opener);
-    print_made_database(&rt, &words, was_missing);
+    if let Some(path) = words.first() {
+        print_made_database(&rt, "casebook", path.as_str(), was_missing);
+    }
     tell(&rt, status, &words, &shelf, out.last());
     status
 }

@@ -9,7 +9,7 @@ use log_verdict::stops::Stop;
 pub enum Halt {
     /// The log could not be read.
     ReadFault(Which),
-    /// The log has more than 67,108,864 bytes.
+    /// The log has more bytes than it may have.
     TooLong(Which),
     Memory,
     /// The keeper of the cases failed.

@@ -12,13 +12,13 @@
 mod answers;
 pub mod books;
 mod commands;
-mod halts;
+pub mod halts;
 pub mod laws;
-mod lines;
+pub mod lines;
 pub mod map_opener;
 pub mod opener;
 pub mod running;
 pub mod statuses;
 mod verdicts;
 mod words;
-mod writing;
+pub mod writing;

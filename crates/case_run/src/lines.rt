@@ -11,28 +11,28 @@ use case_keeper::case::{Case, Offence};
 use std::alloc::Global;
 
 /// How the command line is used: a line.
-pub(crate) fn usage_text() -> &'static [u8]
+pub fn usage_text() -> &'static [u8]
     ensures { result.now ≡ text.casebook_usage_line }
 {
     b"usage: DATABASE file LABEL RULE SYMBOL FORM ORDERS TRADES | list [SYMBOL [RESULT]] | show LABEL, joined by then\n"
 }
 
 /// `keeperfault`.
-pub(crate) fn keeper_fault_text() -> &'static [u8]
+pub fn keeper_fault_text() -> &'static [u8]
     ensures { result.now ≡ text.keeper_fault_line }
 {
     b"keeperfault\n"
 }
 
 /// `known`.
-pub(crate) fn append_known_line(alloc: Global, out: &mut Vec<u8>) -> Result<(), NoMemory>
+pub fn append_known_line(alloc: Global, out: &mut Vec<u8>) -> Result<(), NoMemory>
     ensures { OnOk result (out.new.items ≡ out.old.items ++ text.known_line) }
 {
     append_line(alloc, b"known", &[], out)
 }
 
 /// `nocase,LABEL`.
-pub(crate) fn append_no_case_line(
+pub fn append_no_case_line(
     alloc: Global,
     label: &Name,
     out: &mut Vec<u8>,
@@ -43,7 +43,7 @@ pub(crate) fn append_no_case_line(
 }
 
 /// `case,LABEL,RULE,SYMBOL,accepted` or `case,LABEL,RULE,SYMBOL,PROPERTY,LOG,PLACE`.
-pub(crate) fn append_case_line(
+pub fn append_case_line(
     alloc: Global,
     case: &Case,
     out: &mut Vec<u8>,

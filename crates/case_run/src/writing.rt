@@ -10,7 +10,7 @@ use log_source::put::put_all;
 use log_source::sink::Sink;
 
 /// Writes the text and answers the status, or `WriteFault` where the sink fails.
-pub(crate) fn write_text<K: Sink>(out: &mut K, text: &[u8], status: CaseStatus) -> CaseStatus
+pub fn write_text<K: Sink>(out: &mut K, text: &[u8], status: CaseStatus) -> CaseStatus
     ensures writes { WritesOrFails (K.state out.old) (K.state out.new) status text.now result }
     ensures stays { SinkStays (K.state out.old) (K.state out.new) }
 {
@@ -21,7 +21,7 @@ pub(crate) fn write_text<K: Sink>(out: &mut K, text: &[u8], status: CaseStatus) 
 }
 
 /// Writes the line of a halt, and answers its status. Where memory ran out nothing is written.
-pub(crate) fn write_halt<K: Sink>(out: &mut K, halt: Halt) -> CaseStatus
+pub fn write_halt<K: Sink>(out: &mut K, halt: Halt) -> CaseStatus
     ensures writes { WritesHaltLine (K.state out.old) (K.state out.new) halt result }
     ensures stays { SinkStays (K.state out.old) (K.state out.new) }
 {

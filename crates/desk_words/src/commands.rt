@@ -70,8 +70,9 @@ fn desk_command_in(words: &[String]) -> Option<DeskCommand>
     desk_command_named(first.as_str())
 }
 
-/// ORDERS and TRADES, at a place and after it, with the forms that options give them.
-fn day_logs(
+/// ORDERS and TRADES, at a place and after it, with the forms that options give them. Asks for
+/// memory for their texts.
+pub fn day_logs(
     alloc: Global,
     words: &[String],
     place: usize,
@@ -185,7 +186,7 @@ fn plain_request(alloc: Global, words: &[String]) -> Result<Option<DeskRequest>,
 }
 
 /// What these words say as options, if they say nothing but the forms of the logs.
-fn form_options_in(words: &[String]) -> Option<Options>
+pub fn form_options_in(words: &[String]) -> Option<Options>
     ensures { result ≡ spec.form_options_in (map string_bytes words.now) }
 {
     let said = options_in(words)?;
