@@ -1,41 +1,33 @@
-//! What is said of the database of a casebook.
+//! What is said of a database of cases.
 use crate::log_notes::refusal;
 use crate::word_parts::is_result;
 use command_words::word_forms::is_path;
 use std::fs;
 
-/// Whether the words name a database that is not there.
-pub fn is_database_missing(rt: &HostRuntime, words: &[String]) -> bool {
-    match words.first() {
-        Some(path) => fs::metadata(rt, path.as_str()).is_err(),
-        None => false,
-    }
+/// Whether there is no database under a path.
+pub fn is_database_missing(rt: &HostRuntime, path: &str) -> bool {
+    fs::metadata(rt, path).is_err()
 }
 
-/// Says that the database which the words name was made, where it was missing and is there.
-pub fn print_made_database(rt: &HostRuntime, words: &[String], was_missing: bool) {
-    if let Some(path) = words.first() {
-        if was_missing && !is_database_missing(rt, words) {
-            let _written = eprintln!(rt; "casebook: {path} was not there, and has been made");
-        }
+/// Says that the database under a path was made, where it was missing and is there.
+pub fn print_made_database(rt: &HostRuntime, program: &str, path: &str, was_missing: bool) {
+    if was_missing && !is_database_missing(rt, path) {
+        let _written = eprintln!(rt; "{program}: {path} was not there, and has been made");
     }
 }
 
 /// Says which database could not be opened, read or written, and why the system refuses its
 /// file, where it does.
-pub fn print_database_fault(rt: &HostRuntime, words: &[String]) {
-    let Some(path) = words.first() else {
-        return;
-    };
-    let _written = if is_path(path.as_str()) {
-        match refusal(rt, path.as_str()) {
-            Some(error) => eprintln!(rt; "casebook: {path}: {error}"),
+pub fn print_database_fault(rt: &HostRuntime, program: &str, path: &str) {
+    let _written = if is_path(path) {
+        match refusal(rt, path) {
+            Some(error) => eprintln!(rt; "{program}: {path}: {error}"),
             None => eprintln!(rt;
-                "casebook: {path}: it is no database, may not be written, is open in another process, or has a row that is no case"
+                "{program}: {path}: it is no database, may not be written, is open in another process, or has a row that is no case"
             ),
         }
     } else {
-        eprintln!(rt; "casebook: no path '{path}': one that begins with - is written as ./-")
+        eprintln!(rt; "{program}: no path '{path}': one that begins with - is written as ./-")
     };
 }
 
