@@ -42,6 +42,19 @@ pub(crate) fn order(
     limit: u64,
     time: Stamp,
 ) -> OrderRecord {
+    order_of_life(rt, id, side, number, limit, time, Life::Rests)
+}
+
+/// The same of any life.
+pub(crate) fn order_of_life(
+    rt: &impl Abort,
+    id: &str,
+    side: Side,
+    number: u64,
+    limit: u64,
+    time: Stamp,
+    life: Life,
+) -> OrderRecord {
     OrderRecord::New {
         key: key(rt, id),
         time,
@@ -49,7 +62,37 @@ pub(crate) fn order(
         side,
         quantity: quantity(rt, number),
         price: price(rt, limit),
-        life: Life::Rests,
+        life,
+    }
+}
+
+/// A cancel at noon: its id and its target's.
+pub(crate) fn cancel(rt: &impl Abort, id: &str, target: &str) -> OrderRecord {
+    OrderRecord::Cancel {
+        key: key(rt, id),
+        time: NOON,
+        symbol: name(rt, "Z"),
+        target: name(rt, target),
+    }
+}
+
+/// A replacement at noon: its id and its target's, the side, the quantity and the limit.
+pub(crate) fn replace(
+    rt: &impl Abort,
+    id: &str,
+    target: &str,
+    side: Side,
+    number: u64,
+    limit: u64,
+) -> OrderRecord {
+    OrderRecord::Replace {
+        key: key(rt, id),
+        time: NOON,
+        symbol: name(rt, "Z"),
+        target: name(rt, target),
+        side,
+        quantity: quantity(rt, number),
+        price: price(rt, limit),
     }
 }
 
@@ -73,10 +116,21 @@ pub(crate) fn trade(
     }
 }
 
-/// The history of these records.
-pub(crate) fn history_of<R: AllocGlobal + Abort>(rt: &R, entries: &[OrderRecord]) -> History {
+/// The history of these records, if it is well-formed.
+pub(crate) fn found_history<R: AllocGlobal + Abort>(
+    rt: &R,
+    entries: &[OrderRecord],
+) -> Option<History> {
     assert!(rt; entries.len() < 100);
-    let Ok(history) = History::build(rt.alloc(), entries, &name(rt, "Z")) else {
+    match History::build(rt.alloc(), entries, &name(rt, "Z")) {
+        Ok(history) => Some(history),
+        Err(_) => None,
+    }
+}
+
+/// The same, where it has to be.
+pub(crate) fn history_of<R: AllocGlobal + Abort>(rt: &R, entries: &[OrderRecord]) -> History {
+    let Some(history) = found_history(rt, entries) else {
         panic!(rt; "no history");
     };
     history

@@ -1,0 +1,3 @@
+mod FamilyLemmas
+mod PrefixLemmas
+mod SumLemmas

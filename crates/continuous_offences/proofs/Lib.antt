@@ -1,0 +1,10 @@
+mod ArrivalLemmas
+mod BookLemmas
+mod CrossingLemmas
+mod EnterLemmas
+mod FoundLemmas
+mod PassedLemmas
+mod PassingLemmas
+mod ReadyLemmas
+mod ScanningLemmas
+mod StateLemmas
