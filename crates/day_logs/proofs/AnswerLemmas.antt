@@ -86,7 +86,7 @@ answers-held r meaning orders trades (Err (stop.TooLong log)) is orders_bytes tr
 answers-held r meaning orders trades (Err stop.Memory) is orders_bytes trades_bytes held = refl
 
 -- The answer to what two logs come to: their verdicts.
-pub judged-up-to : (q : DayQuestion) (ended : EndedTrades) (judged : JudgedSymbols) → IsJudgedShare q.rule q.table q.share ended judged → IsAnswerUpToRule q.share (admission_of q.rule) (AreVerdictsOfDay q) (before_rule.Read ended) (answer.Judged judged)
+pub judged-up-to : (q : DayQuestion) (ended : EndedTrades) (judged : JudgedSymbols) → IsJudgedShare q.rule q.table q.checks q.share ended judged → IsAnswerUpToRule q.share (admission_of q.rule) (AreVerdictsOfDay q) (before_rule.Read ended) (answer.Judged judged)
 judged-up-to q ended judged is = record { of_place = λ log bad e. absurd (cc); of_records = of-records }
   where
     of-records : (entries : List OrderRecord) (paired : Result (List TradeRecord) Finding) → IsDayBeforeRule q.share (admission_of q.rule) entries paired (before_rule.Read ended) → IsAnswerToRecords (AreVerdictsOfDay q) entries paired (answer.Judged judged)

@@ -85,4 +85,4 @@ written-alike meaning judged_by orders trades one a b is-a is-b =
 pub one-day-answer : OneDay → OneDayAnswer
 one-day-answer one q orders trades judged_by a b is-a is-b =
     written-alike (AreVerdictsOfDay q) judged_by orders trades
-    (λ entries records x y are is-x is-y. one q.rule q.table entries records _ x y is-x is-y) a b is-a is-b
+    (λ entries records x y are is-x is-y. one q.rule q.table q.checks entries records _ x y is-x is-y) a b is-a is-b

@@ -30,10 +30,11 @@ use Rattle.record_verdict.specs.declared.scopes.Admission.{Admission}
 abbrev pub DayMeaning : Type 1
 DayMeaning = List OrderRecord → JudgedSymbols → List TradeRecord → Type 0
 
--- these are the counts and lines of the verdicts on the symbols of the share, in these records
+-- these are the counts and lines of the verdicts on the symbols of the share, in these records,
+-- and of the further checks behind them
 abbrev pub AreVerdictsOfDay : DayQuestion → DayMeaning
 AreVerdictsOfDay q entries judged trades =
-    IsJudgedDay q.rule q.table entries trades
+    IsJudgedDay q.rule q.table q.checks entries trades
     (symbols_in q.share (symbols_of_day entries trades)) judged
 
 -- the answer to the records of both logs: counts and lines that mean this of them; or finding 4

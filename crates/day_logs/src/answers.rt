@@ -14,18 +14,22 @@ use audit_base::findings::Finding;
 use audit_base::terms::{Rule, Which};
 use day_symbols::shares::Share;
 use day_verdicts::day_verdicts::{JudgedSymbols, judge_day};
+use further_checks::findings::FurtherChecks;
 use log_source::shelf::Shelf;
 use log_verdict::sources::Source;
 use log_verdict::stops::Stop;
 use record_verdict::scopes::Admission;
 use std::alloc::Global;
 
-/// What is asked of a day: the verdicts of a rule on the symbols of a share.
+/// What is asked of a day: the verdicts of a rule on the symbols of a share, and of those that it
+/// accepts whether they pass the further checks.
 #[derive(Clone, Copy, Debug)]
 pub struct DayQuestion {
     pub rule: Rule,
     /// Whether the tables of accepted symbols are asked for.
     pub table: bool,
+    /// Which of the further checks are asked for.
+    pub checks: FurtherChecks,
     pub share: Share,
 }
 
@@ -37,7 +41,7 @@ pub enum DayAnswer {
     /// A report of the trade log has no partner (`unpaired`), which is of the log and of no
     /// symbol.
     Unpaired(Finding),
-    /// The verdicts on the symbols of the share: how many there are, and their lines.
+    /// What is told of the symbols of the share: how many there are, and their lines.
     Judged(JudgedSymbols),
 }
 
@@ -55,7 +59,14 @@ fn answer_after(
         DayBeforeRule::Malformed { log, bad } => Ok(DayAnswer::Malformed { log, bad }),
         DayBeforeRule::Unpaired(finding) => Ok(DayAnswer::Unpaired(finding)),
         DayBeforeRule::Read(ended) => {
-            let judged = judge_day(alloc, question.rule, question.table, question.share, ended)?;
+            let judged = judge_day(
+                alloc,
+                question.rule,
+                question.table,
+                question.checks,
+                question.share,
+                ended,
+            )?;
             Ok(DayAnswer::Judged(judged))
         }
     }
@@ -86,7 +97,8 @@ fn answer_to<F: Shelf>(
 /// The verdicts on the symbols of a share of two logs, or why there are none. The order log is
 /// read first, piece by piece, and the trade log only where that is in its grammar; each is read
 /// once. What is kept is what a single audit keeps, of each symbol of the share, and of the others
-/// the name alone; the memory of a symbol is freed before the next is judged.
+/// the name alone; the memory of a symbol is freed before the next is judged. A symbol that the rule
+/// accepts is rejected by the first finding of the checks that are asked for.
 ///
 /// Both logs have one limit, the greatest number of bytes that each may have. Where that is
 /// `LONGEST_READ`, each place fits in 32 bits, since a record has at least nine bytes of its log.

@@ -11,14 +11,15 @@ use Rattle.day_sessions.specs.JudgedSessions.{AreSessionsOfDay, AreJudgedSession
 use Rattle.day_symbols.specs.Shares.{DayShare}
 use Rattle.day_trades.specs.declared.day_trades.EndedTrades.{EndedTrades}
 use Rattle.day_verdicts.specs.declared.day_verdicts.JudgedSymbols.{JudgedSymbols}
+use Rattle.further_checks.specs.declared.findings.FurtherChecks.{FurtherChecks}
 use Rattle.record_verdict.specs.declared.scopes.Admission.TheVariants as admission
 use Rattle.session_audit.specs.declared.phases.Phase.{Phase}
 
-pub sessions-up-to : (phases : List Phase) (table : Bool) (share : DayShare) (ended : EndedTrades) (judged : JudgedSymbols) → AreJudgedSessionsOfShare phases table share ended judged
-    → IsAnswerUpToRule share admission.All (AreSessionsOfDay phases table share) (before_rule.Read ended) (answer.Judged judged)
-sessions-up-to phases table share ended judged is = record { of_place = λ log bad e. absurd (cc); of_records = of-records }
+pub sessions-up-to : (phases : List Phase) (table : Bool) (checks : FurtherChecks) (share : DayShare) (ended : EndedTrades) (judged : JudgedSymbols) → AreJudgedSessionsOfShare phases table checks share ended judged
+    → IsAnswerUpToRule share admission.All (AreSessionsOfDay phases table checks share) (before_rule.Read ended) (answer.Judged judged)
+sessions-up-to phases table checks share ended judged is = record { of_place = λ log bad e. absurd (cc); of_records = of-records }
   where
     of-records : (entries : List OrderRecord) (paired : Result (List TradeRecord) Finding) → IsDayBeforeRule share admission.All entries paired (before_rule.Read ended)
-        → IsAnswerToRecords (AreSessionsOfDay phases table share) entries paired (answer.Judged judged)
+        → IsAnswerToRecords (AreSessionsOfDay phases table checks share) entries paired (answer.Judged judged)
     of-records entries (Ok trades) has = is entries trades has
     of-records entries (Err finding) has = has

@@ -15,6 +15,7 @@ use day_logs::answers::DayAnswer;
 use day_logs::before_rule::DayBeforeRule;
 use day_logs::reading::read_day;
 use day_symbols::shares::Share;
+use further_checks::findings::FurtherChecks;
 use log_source::shelf::Shelf;
 use log_verdict::sources::Source;
 use log_verdict::stops::Stop;
@@ -27,19 +28,20 @@ fn sessions_after(
     alloc: Global,
     phases: &[Phase],
     table: bool,
+    checks: FurtherChecks,
     share: Share,
     given: DayBeforeRule,
 ) -> Result<DayAnswer, NoMemory>
     requires phases { ArePhases phases.now }
     requires fits_places { IsDayWithFewTrades share AdmitsAll given }
-    ensures { let meaning = AreSessionsOfDay phases.now table share in
+    ensures { let meaning = AreSessionsOfDay phases.now table checks share in
         IfOk result (IsAnswerUpToRule share AdmitsAll meaning given) }
 {
     match given {
         DayBeforeRule::Malformed { log, bad } => Ok(DayAnswer::Malformed { log, bad }),
         DayBeforeRule::Unpaired(finding) => Ok(DayAnswer::Unpaired(finding)),
         DayBeforeRule::Read(ended) => {
-            let judged = judge_sessions(alloc, phases, table, share, ended)?;
+            let judged = judge_sessions(alloc, phases, table, checks, share, ended)?;
             Ok(DayAnswer::Judged(judged))
         }
     }
@@ -51,6 +53,7 @@ fn sessions_of_logs<F: Shelf>(
     shelf: &mut F,
     phases: &[Phase],
     table: bool,
+    checks: FurtherChecks,
     share: Share,
     orders: &Source<'_>,
     trades: &Source<'_>,
@@ -60,23 +63,24 @@ fn sessions_of_logs<F: Shelf>(
     ensures logs { KeepsShelfLogs F.Shelf shelf.old shelf.new }
     ensures later { FaultsNeverFall (reading_by orders.now F.Shelf shelf.old shelf.new) }
     ensures decides { GivesDayAnswerOrStop (reading_by orders.now F.Shelf shelf.old shelf.new)
-        (AreSessionsOfDay phases.now table share) orders.now trades.now result }
+        (AreSessionsOfDay phases.now table checks share) orders.now trades.now result }
     ensures within { StaysWithin (reading_by orders.now F.Shelf shelf.old shelf.new) result }
 {
     match read_day(alloc, shelf, share, Admission::All, orders, trades) {
-        Ok(given) => Ok(sessions_after(alloc, phases, table, share, given)?),
+        Ok(given) => Ok(sessions_after(alloc, phases, table, checks, share, given)?),
         Err(stop) => Err(stop),
     }
 }
 
 /// The sessions of the symbols of a share of two logs, or why there are none, as `verdicts_on`
-/// answers for a rule. The reading admits every order: whether a call admits its own orders is for
+/// answers for a rule, and behind them the checks that are asked for. The reading admits every order: whether a call admits its own orders is for
 /// the day to say.
 pub fn sessions_on<F: Shelf>(
     alloc: Global,
     shelf: &mut F,
     phases: &[Phase],
     table: bool,
+    checks: FurtherChecks,
     share: Share,
     orders: &Source<'_>,
     trades: &Source<'_>,
@@ -86,10 +90,10 @@ pub fn sessions_on<F: Shelf>(
     ensures logs { KeepsShelfLogs F.Shelf shelf.old shelf.new }
     ensures later { FaultsNeverFall (reading_by orders.now F.Shelf shelf.old shelf.new) }
     ensures decides { GivesDayAnswerOrStop (reading_by orders.now F.Shelf shelf.old shelf.new)
-        (AreSessionsOfDay phases.now table share) orders.now trades.now result }
+        (AreSessionsOfDay phases.now table checks share) orders.now trades.now result }
     ensures complete { AnswersHeldDay (reading_by orders.now F.Shelf shelf.old shelf.new)
-        (AreSessionsOfDay phases.now table share) orders.now trades.now result }
+        (AreSessionsOfDay phases.now table checks share) orders.now trades.now result }
     ensures within { StaysWithin (reading_by orders.now F.Shelf shelf.old shelf.new) result }
 {
-    sessions_of_logs(alloc, shelf, phases, table, share, orders, trades)
+    sessions_of_logs(alloc, shelf, phases, table, checks, share, orders, trades)
 }

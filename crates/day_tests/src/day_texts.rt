@@ -4,6 +4,7 @@ use audit_base::terms::{Form, Rule};
 use day_logs::answers::{DayQuestion, verdicts_on};
 use day_logs::texts::text_of_day;
 use day_symbols::shares::Share;
+use further_checks::findings::FurtherChecks;
 use log_source::memory_shelf::MemoryShelf;
 use log_verdict::sources::Source;
 use seeded_hash::seed::HashSeed;
@@ -60,6 +61,7 @@ pub(crate) fn share_text(
     let question = DayQuestion {
         rule: Rule::Matching,
         table: false,
+        checks: FurtherChecks::none(),
         share,
     };
     text_asked(alloc, shelf, &question)

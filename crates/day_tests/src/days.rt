@@ -5,6 +5,7 @@ use audit_base::terms::Rule;
 use csv_logs::logs::{csv_orders_of, csv_trades_of};
 use day_symbols::shares::Share;
 use day_verdicts::whole_days::judge_records_of_day;
+use further_checks::findings::FurtherChecks;
 use std::process::Abort;
 
 /// Y conforms, and the bid of Z trades more than its quantity.
@@ -31,10 +32,12 @@ fn text_of<R: AllocGlobal + Abort>(rt: &R, share: Share, orders: &[u8], trades: 
         rt.alloc(),
         Rule::Matching,
         false,
+        FurtherChecks::none(),
         share,
         &entries,
         &trades,
-    ).expect(rt, "memory");
+    )
+    .expect(rt, "memory");
     judged.text(rt.alloc(), b"matching").expect(rt, "memory")
 }
 

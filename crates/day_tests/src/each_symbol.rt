@@ -5,6 +5,7 @@ use audit_base::terms::{Form, Rule, Which};
 use audit_report::reports::report_text;
 use day_logs::answers::DayQuestion;
 use day_symbols::shares::Share;
+use further_checks::findings::FurtherChecks;
 use log_source::memory_shelf::MemoryShelf;
 use log_verdict::sources::Source;
 use log_verdict::verdicts::verdict_on;
@@ -179,8 +180,13 @@ fn check_asked(
         };
         append_alone(alloc, shelf, &question, &mut wanted)?;
     }
-    let share = Share::whole();
-    let text = text_asked(alloc, shelf, &DayQuestion { rule, table, share })?;
+    let question = DayQuestion {
+        rule,
+        table,
+        checks: FurtherChecks::none(),
+        share: Share::whole(),
+    };
+    let text = text_asked(alloc, shelf, &question)?;
     check_text(first, &text, &wanted)
 }
 

@@ -4,6 +4,7 @@ use audit_base::terms::{Form, Rule};
 use day_logs::answers::{DayQuestion, verdicts_on};
 use day_logs::texts::text_of_day;
 use day_symbols::shares::Share;
+use further_checks::findings::FurtherChecks;
 use log_source::memory_shelf::MemoryShelf;
 use log_verdict::sources::Source;
 use seeded_hash::seed::HashSeed;
@@ -157,6 +158,7 @@ fn check_row(alloc: Global, row: &Row) -> Result<(), Fail> {
     let question = DayQuestion {
         rule: row.rule,
         table: row.table,
+        checks: FurtherChecks::none(),
         share: Share::whole(),
     };
     let answer = verdicts_on(alloc, &mut shelf, &question, &log, &log)?;

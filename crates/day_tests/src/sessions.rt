@@ -5,6 +5,7 @@ use audit_report::statuses::Status;
 use day_logs::texts::{status_of_day, text_of_day};
 use day_sessions::answers::sessions_on;
 use day_symbols::shares::Share;
+use further_checks::findings::FurtherChecks;
 use log_verdict::sources::Source;
 use seeded_hash::seed::HashSeed;
 use session_audit::phases::{Phase, PhaseKind};
@@ -29,6 +30,7 @@ fn each_symbol_has_its_session(rt: HostRuntime) -> Result<(), Fail> {
         &mut shelf,
         &PHASES,
         false,
+        FurtherChecks::none(),
         Share::whole(),
         &orders,
         &trades,

@@ -6,6 +6,7 @@ use audit_report::statuses::Status;
 use day_logs::answers::{DayAnswer, DayQuestion, verdicts_on};
 use day_logs::texts::{status_of_day, text_of_day};
 use day_symbols::shares::Share;
+use further_checks::findings::FurtherChecks;
 use log_source::memory_shelf::MemoryShelf;
 use log_verdict::sources::Source;
 use log_verdict::stops::Stop;
@@ -52,6 +53,7 @@ fn answer_on(alloc: Global, shelf: &mut MemoryShelf, trades_form: Form) -> Resul
     let question = DayQuestion {
         rule: Rule::Matching,
         table: false,
+        checks: FurtherChecks::none(),
         share: Share::whole(),
     };
     let orders = Source::of("orders", Form::Csv, HashSeed::fixed());

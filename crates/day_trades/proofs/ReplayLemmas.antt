@@ -1,6 +1,9 @@
 -- What is known of a symbol after the records that are kept of it.
 use Rattle.std.proofs.Common.{◌≡◌, ◌<◌, ◌+◌, ◌^◌, ◌∙◌, ℕ, Bool, Some, List, [], ◌∷◌, ◌++◌, length, take, refl, sym, ap, subst, arith}
 use Rattle.std.specs.Prelude.{slice_get}
+use Rattle.std.proofs.lemmas.List.{map-append, take_more}
+use Rattle.std.proofs.lemmas.Option.{get_or_from_slice_get, slice_get_within}
+use Rattle.audit_base.specs.Moments.{Moment}
 use Rattle.audit_base.specs.declared.orders.Order.{Order}
 use Rattle.audit_base.specs.declared.records.OrderRecord.{OrderRecord}
 use Rattle.audit_base.specs.declared.records.TradeRecord.{TradeRecord}
@@ -21,7 +24,7 @@ use Rattle.day_trades.specs.declared.symbol_records.SymbolRecords.{SymbolRecords
 use Rattle.day_trades.specs.declared.symbol_trades.SymbolTrades.{SymbolTrades}
 use Rattle.day_trades.specs.declared.symbol_trades.SymbolTrades.TheVariants as kept
 use Rattle.day_trades.specs.SymbolTrades.{IsSymbolTrades, TakesTradeOf}
-use Rattle.day_trades.specs.SymbolRecords.{GivesSymbolTrades, HasFewOrders, KnowsHistory, KnowsTrades}
+use Rattle.day_trades.specs.SymbolRecords.{GivesSymbolTrades, HasFewOrders, KnowsHistory, KnowsTrades, times_listed}
 
 -- a record of the symbol
 abbrev order_of : List ℕ → ℕ × OrderRecord → Bool
@@ -95,6 +98,17 @@ trades-next listed i p x first old new got takes knows = λ admission entries sy
     let it = comes-last (trade_of symbol) trades listed i p x are got in
     same-trades admission entries symbol (it.front ++ x ∷ []) trades new (it.after ∙ sym are)
     (takes admission entries it.front symbol (knows admission entries symbol before it.front it.before) it.passes it.at)
+
+-- the times of one trade more
+pub times-next : (listed : List (ℕ × TradeRecord)) (i : ℕ) (one : ℕ × TradeRecord) (old new : List Moment) → slice_get listed i ≡ Some one → new ≡ old ++ one.1.time ∷ [] → old ≡ times_listed (take i listed)
+    → new ≡ times_listed (take (i + 1) listed)
+times-next listed i one old new got takes so_far =
+    let more : take (i + 1) listed ≡ take i listed ++ one ∷ [] =
+    take_more listed i one (slice_get_within listed i one got) ∙ ap (λ (e : ℕ × TradeRecord). take i listed ++ e ∷ []) (get_or_from_slice_get listed i one one got) in
+    takes
+    ∙ ap (λ (times : List Moment). times ++ one.1.time ∷ []) so_far
+    ∙ sym (map-append (λ (e : ℕ × TradeRecord). e.1.time) (take i listed) (one ∷ []))
+    ∙ ap times_listed (sym more)
 
 -- Both.
 

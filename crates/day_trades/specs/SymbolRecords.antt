@@ -1,5 +1,6 @@
 -- The records of a symbol of a day, and what they give.
-use Rattle.std.specs.Prelude.{◌≡◌, ◌<◌, ◌^◌, ℕ, List, [], length}
+use Rattle.std.specs.Prelude.{◌≡◌, ◌<◌, ◌^◌, ℕ, Bool, List, [], length, map, if◌then◌else◌}
+use Rattle.audit_base.specs.Moments.{Moment}
 use Rattle.audit_base.specs.declared.records.OrderRecord.{OrderRecord}
 use Rattle.audit_base.specs.declared.records.TradeRecord.{TradeRecord}
 use Rattle.audit_base.specs.Histories.{history}
@@ -60,6 +61,14 @@ pub record HasFewSymbolRecords (kept : SymbolRecords) : Type 0 where
   pub trades : List TradeRecord
   pub has : HasSymbolRecords entries trades symbol kept
   pub fits_indices : length entries < 2 ^ 32
+
+-- the times of these trades, in their order
+abbrev pub times_listed : List (ℕ × TradeRecord) → List Moment
+times_listed listed = map (λ e. e.1.time) listed
+
+-- the same where they are asked for
+abbrev pub times_if : Bool → List (ℕ × TradeRecord) → List Moment
+times_if asked listed = if asked then times_listed listed else []
 
 -- this is known after these records of a history: whatever symbol and order records they are the
 -- history of, this is known of it after them

@@ -1,11 +1,12 @@
 //! The records of one symbol of a day, and what they give when the symbol is judged.
 ghost use Rattle.std.specs.Prelude.{◌≡◌, IfOk, OnOk};
-ghost use Rattle.day_trades.specs.SymbolRecords.{GivesSymbolTrades, HasFewOrders, HasFewSymbolRecords, IsBegun, IsUnseen, KeepsTrade, KnowsHistory, KnowsTrades};
+ghost use Rattle.day_trades.specs.SymbolRecords.{GivesSymbolTrades, HasFewOrders, HasFewSymbolRecords, IsBegun, IsUnseen, KeepsTrade, KnowsHistory, KnowsTrades, times_if, times_listed};
 
 use crate::symbol_trades::SymbolTrades;
 use audit_base::faults::NoMemory;
 use audit_base::names::Name;
 use audit_base::records::TradeRecord;
+use audit_base::stamps::Stamp;
 use instruction_history::symbol_history::SymbolHistory;
 use kept_records::orders::KeptOrders;
 use kept_records::trades::KeptTrades;
@@ -44,6 +45,18 @@ fn take_trades(known: &mut SymbolTrades, trades: KeptTrades) -> Result<(), NoMem
     Ok(())
 }
 
+/// The times of trades, in their order.
+fn times_of(alloc: Global, trades: &KeptTrades) -> Result<Vec<Stamp>, NoMemory>
+    ensures { IfOk result (λ times. times.items ≡ times_listed trades.now.trades) }
+{
+    let mut times = Vec::new(alloc);
+    for index in 0..trades.len() {
+        let listed = trades.at(index);
+        times.push(listed.1.time)?;
+    }
+    Ok(times)
+}
+
 impl SymbolRecords {
     /// The order records of a symbol, and no trades. Takes no memory.
     pub fn of(alloc: Global, orders: KeptOrders) -> SymbolRecords
@@ -70,6 +83,17 @@ impl SymbolRecords {
         ensures { OnOk result (KeepsTrade self.old self.new place trade.now) }
     {
         self.trades.push(trade, place)
+    }
+
+    /// The times of the trades, in their order, where they are asked for. Where they are not, there
+    /// are none, and this takes no memory.
+    pub fn trade_times(&self, alloc: Global, asked: bool) -> Result<Vec<Stamp>, NoMemory>
+        ensures { IfOk result (λ times. times.items ≡ times_if asked self.now.trades.trades) }
+    {
+        if !asked {
+            return Ok(Vec::new(alloc));
+        }
+        times_of(alloc, &self.trades)
     }
 
     /// What the records give: the orders of the symbol and the deals between them, or the finding

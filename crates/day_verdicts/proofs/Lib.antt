@@ -1,2 +1,5 @@
+pub mod TellLemmas
+pub mod CheckLemmas
 pub mod VerdictSteps
+mod ListSteps
 pub mod OneDayLemmas

@@ -1,4 +1,4 @@
--- A day has one text.
+-- The symbols of a day have one list of verdicts, and it has one text.
 use Rattle.std.proofs.Common.{◌≡◌, ◌<◌, ℕ, zero, suc, Some, List, [], ◌∷◌, Ok, length, get_or, refl, sym, ap, ◌∙◌, arith}
 use Rattle.std.specs.Prelude.{slice_get}
 use Rattle.std.proofs.lemmas.Option.{slice_get_within, slice_get-get_or}
@@ -6,8 +6,9 @@ use Rattle.audit_report.specs.declared.verdicts.Verdict.{Verdict}
 use Rattle.record_verdict.specs.RecordVerdicts.{question}
 use Rattle.record_verdict.specs.Laws.{RecordVerdictIsOne}
 use Rattle.day_symbols.specs.Kept.{AreForEach}
-use Rattle.day_verdicts.specs.DayVerdicts.{counts_of, day_lines_of}
-use Rattle.day_verdicts.specs.Laws.{OneDay}
+use Rattle.day_verdicts.specs.DayVerdicts.{told_of_symbols}
+use Rattle.day_verdicts.specs.ToldSymbols.{counts_of, day_lines_of}
+use Rattle.day_verdicts.specs.Laws.{OneDay, VerdictsAreOne}
 
 -- two lists with the same members are one
 same-members : {X : Type 0} (xs ys : List X) → length xs ≡ length ys → ((i : ℕ) (x y : X) → slice_get xs i ≡ Some x → slice_get ys i ≡ Some y → x ≡ y) → xs ≡ ys
@@ -28,11 +29,14 @@ one-for-each {X} P symbols xs ys one are-x are-y =
     let got : slice_get symbols i ≡ Some (get_or symbols i []) = slice_get-get_or symbols i [] lt in
     one (get_or symbols i []) x y (are-x.each i (get_or symbols i []) x got got-x) (are-y.each i (get_or symbols i []) y got got-y))
 
+pub verdicts-one : RecordVerdictIsOne → VerdictsAreOne
+verdicts-one one rule table entries trades symbols a b are-a are-b =
+    one-for-each _ symbols a b (λ symbol v w is-v is-w. one (question rule symbol table) entries (Ok trades) v w is-v is-w) are-a are-b
+
 pub one-day : RecordVerdictIsOne → OneDay
-one-day one rule table entries trades symbols a b is-a is-b =
-    let same : is-a.verdicts ≡ is-b.verdicts =
-    one-for-each _ symbols is-a.verdicts is-b.verdicts (λ symbol v w is-v is-w. one (question rule symbol table) entries (Ok trades) v w is-v is-w) is-a.verdicts_are is-b.verdicts_are in
+one-day one rule table checks entries trades symbols a b is-a is-b =
+    let same : is-a.verdicts ≡ is-b.verdicts = verdicts-one one rule table entries trades symbols is-a.verdicts is-b.verdicts is-a.verdicts_are is-b.verdicts_are in
     record {
-      counts_same = is-a.counts_are ∙ ap counts_of same ∙ sym is-b.counts_are;
-      lines_same = is-a.lines_are ∙ ap (λ (verdicts : List Verdict). day_lines_of symbols verdicts) same ∙ sym is-b.lines_are;
+      counts_same = is-a.tells.counts_are ∙ ap (λ (verdicts : List Verdict). counts_of (told_of_symbols checks entries trades symbols verdicts)) same ∙ sym is-b.tells.counts_are;
+      lines_same = is-a.tells.lines_are ∙ ap (λ (verdicts : List Verdict). day_lines_of symbols (told_of_symbols checks entries trades symbols verdicts)) same ∙ sym is-b.tells.lines_are;
     }

@@ -1,17 +1,14 @@
 -- The verdicts on the symbols of a day, with one more.
-use Rattle.std.proofs.Common.{◌≡◌, ◌<◌, ◌+◌, ◌^◌, inl, inr, ℕ, Bool, true, false, Some, List, [], ◌∷◌, ◌++◌, Ok, length, length-append, append-nil, cond, take, not, refl, sym, ap, subst, ◌∙◌, arith}
-use Rattle.std.specs.Prelude.{count_by, slice_get, if◌then◌else◌}
+use Rattle.std.proofs.Common.{◌≡◌, ◌<◌, ◌+◌, ◌^◌, inl, inr, ℕ, Bool, Some, List, [], ◌∷◌, ◌++◌, Ok, length, length-append, take, refl, sym, ap, subst, ◌∙◌, arith}
+use Rattle.std.specs.Prelude.{slice_get}
 use Rattle.std.proofs.lemmas.Bool.{cases_lt}
-use Rattle.std.proofs.lemmas.List.{append_assoc, length-take-le, take_all, take_more}
-use Rattle.std.proofs.lemmas.List.Sums.{count_by-le-length, sum_by-append}
+use Rattle.std.proofs.lemmas.List.{length-take-le, take_all, take_more}
 use Rattle.std.proofs.lemmas.Option.{same_Some, slice_get_within, get_or_from_slice_get}
+use Rattle.audit_base.specs.Moments.{Moment}
 use Rattle.audit_base.specs.declared.records.OrderRecord.{OrderRecord}
 use Rattle.audit_base.specs.declared.records.TradeRecord.{TradeRecord}
 use Rattle.audit_base.specs.declared.terms.Rule.{Rule}
 use Rattle.audit_report.specs.declared.verdicts.Verdict.{Verdict}
-use Rattle.audit_report.specs.Texts.{verdict_text}
-use Rattle.day_report.specs.declared.day_line.DayCounts.{DayCounts}
-use Rattle.day_report.specs.DayTexts.{symbol_lines}
 use Rattle.day_symbols.specs.Kept.{AreForEach}
 use Rattle.day_symbols.specs.Shares.{DayShare, symbols_in}
 use Rattle.day_symbols.specs.Symbols.{symbols_of_day}
@@ -20,13 +17,18 @@ use Rattle.day_trades.specs.declared.day_trades.EndedTrades.{EndedTrades}
 use Rattle.day_trades.specs.declared.symbol_records.SymbolRecords.{SymbolRecords}
 use Rattle.day_trades.specs.declared.symbol_trades.SymbolTrades.{SymbolTrades}
 use Rattle.day_trades.specs.DayTrades.{HasTradesOf}
-use Rattle.day_trades.specs.SymbolRecords.{GivesSymbolTrades, HasFewSymbolRecords, HasSymbolRecords}
+use Rattle.day_trades.specs.SymbolRecords.{GivesSymbolTrades, HasFewSymbolRecords, HasSymbolRecords, times_if}
 use Rattle.day_trades.specs.SymbolTrades.{HasFewOfSymbol, IsSymbolTrades}
-use Rattle.day_verdicts.specs.declared.day_verdicts.JudgedSymbols.{JudgedSymbols}
-use Rattle.day_verdicts.specs.DayVerdicts.{AreVerdicts, counts_of, RuleTradesFitPlaces, HasRoomForOne, is_acceptance, IsJudgedDay, IsJudgedUpTo, IsJudgedShare, AddsVerdictOnSymbol, day_lines_of, with_verdict}
+use Rattle.further_checks.specs.declared.findings.FurtherChecks.{FurtherChecks}
+use Rattle.further_checks.specs.FurtherRules.{asks_further}
+use Rattle.kept_records.specs.KeptTrades.{KeptDeals}
 use Rattle.record_verdict.specs.declared.scopes.Admission.{Admission}
 use Rattle.record_verdict.specs.RecordVerdicts.{IsRecordVerdict, question}
 use Rattle.record_verdict.specs.Scopes.{admission_of}
+use Rattle.day_verdicts.specs.declared.day_verdicts.JudgedSymbols.{JudgedSymbols}
+use Rattle.day_verdicts.specs.CheckedSymbols.{asked_times, HasFewTimed}
+use Rattle.day_verdicts.specs.DayVerdicts.{AddsVerdictOnSymbol, HasRoomForOne, IsJudgedDay, IsJudgedShare, IsJudgedUpTo, RuleTradesFitPlaces, told_of_symbol, told_of_symbols}
+use Rattle.day_verdicts.proofs.TellLemmas.{room-for-one, tell-length, tells-more}
 
 -- one more for a symbol more
 pub for-each-more : {X : Type 0} (P : List ℕ → X → Type 0) (symbols : List (List ℕ)) (kept : List X) (symbol : List ℕ) (one : X) → AreForEach P symbols kept → P symbol one → AreForEach P (symbols ++ symbol ∷ []) (kept ++ one ∷ [])
@@ -48,41 +50,6 @@ for-each-more {X} P symbols kept symbol one are is = record {
           let x-is : one ≡ x = same_Some one x (sym (got-last kept one) ∙ ap (slice_get (kept ++ one ∷ [])) last-x ∙ got-x) in
           subst (λ (z : List ℕ). P z x) s-is (subst (λ (z : X). P symbol z) x-is is)
     ]
-
--- the lines of one symbol more come last
-lines-more : (symbols : List (List ℕ)) (verdicts : List Verdict) (symbol : List ℕ) (v : Verdict) → length verdicts ≡ length symbols
-    → day_lines_of (symbols ++ symbol ∷ []) (verdicts ++ v ∷ []) ≡ day_lines_of symbols verdicts ++ symbol_lines symbol (verdict_text v)
-lines-more [] [] symbol v same = append-nil (symbol_lines symbol (verdict_text v))
-lines-more [] (w ∷ ws) symbol v same = absurd (omega (arith, same))
-lines-more (s ∷ ss) [] symbol v same = absurd (omega (arith, same))
-lines-more (s ∷ ss) (w ∷ ws) symbol v same =
-    let rest : length ws ≡ length ss = omega (arith, same) in
-    ap (λ (text : List ℕ). symbol_lines s (verdict_text w) ++ text) (lines-more ss ws symbol v rest)
-    ∙ sym (append_assoc (symbol_lines s (verdict_text w)) (day_lines_of ss ws) (symbol_lines symbol (verdict_text v)))
-
--- the counts of one verdict more
-accepted-more : (verdicts : List Verdict) (v : Verdict) → count_by is_acceptance (verdicts ++ v ∷ []) ≡ count_by is_acceptance verdicts + (if is_acceptance v then 1 else 0)
-accepted-more verdicts v =
-    let one : ℕ = if is_acceptance v then 1 else 0 in
-    let alone : 0 + one ≡ one = omega arith in
-    sum_by-append (λ (w : Verdict). cond (is_acceptance w) 1 0) verdicts (v ∷ []) ∙ ap (λ (k : ℕ). count_by is_acceptance verdicts + k) alone
-
-flipped : (b : Bool) → 0 + cond (not b) 1 0 ≡ cond b 0 1
-flipped true = refl
-flipped false = refl
-
-rejected-more : (verdicts : List Verdict) (v : Verdict)
-    → count_by (λ (w : Verdict). not (is_acceptance w)) (verdicts ++ v ∷ []) ≡ count_by (λ (w : Verdict). not (is_acceptance w)) verdicts + (if is_acceptance v then 0 else 1)
-rejected-more verdicts v =
-    sum_by-append (λ (w : Verdict). cond (not (is_acceptance w)) 1 0) verdicts (v ∷ [])
-    ∙ ap (λ (k : ℕ). count_by (λ (w : Verdict). not (is_acceptance w)) verdicts + k) (flipped (is_acceptance v))
-
-counts-more : (verdicts : List Verdict) (v : Verdict) → counts_of (verdicts ++ v ∷ []) ≡ with_verdict (counts_of verdicts) v
-counts-more verdicts v = λ i. record {
-  symbols = length-append verdicts (v ∷ []) i;
-  accepted = accepted-more verdicts v i;
-  rejected = rejected-more verdicts v i;
-}
 
 -- what comes after others
 behind-at : {X : Type 0} (before : List X) (x : X) (rest : List X) → slice_get (before ++ x ∷ rest) (length before) ≡ Some x
@@ -138,46 +105,58 @@ next-few rule share ended n own symbol symbol_trades next gives few = record {
   fits_places = few.fits_places;
 }
 
+-- the times of its trades, where they are asked for
+pub next-times : (share : DayShare) (admission : Admission) (ended : EndedTrades) (n : ℕ) (own : SymbolRecords) (symbol : List ℕ) (checks : FurtherChecks) (asked : Bool) (times : List Moment) → IsNext share ended n own symbol → asked ≡ asks_further checks
+    → times ≡ times_if asked own.trades.trades → (entries : List OrderRecord) (trades : List TradeRecord) → HasTradesOf share admission entries ended trades → times ≡ asked_times checks symbol trades
+next-times share admission ended n own symbol checks asked times next asked_is times_are entries trades has =
+    let own_has = next-records share admission ended n own symbol next entries trades has in
+    times_are
+    ∙ ap (λ (b : Bool). times_if b own.trades.trades) asked_is
+    ∙ ap (λ (kept : KeptDeals). times_if (asks_further checks) kept.trades) own_has.trades_are
+
+-- what is known of it, and the times
+pub next-timed : (rule : Rule) (share : DayShare) (ended : EndedTrades) (n : ℕ) (own : SymbolRecords) (symbol : List ℕ) (symbol_trades : SymbolTrades) (checks : FurtherChecks) (asked : Bool) (times : List Moment) → IsNext share ended n own symbol
+    → asked ≡ asks_further checks → times ≡ times_if asked own.trades.trades → GivesSymbolTrades ended.admission own symbol_trades → RuleTradesFitPlaces rule share ended → HasFewTimed checks ended.count symbol_trades times
+unfolding next-few
+next-timed rule share ended n own symbol symbol_trades checks asked times next asked_is times_are gives few = record {
+  few = next-few rule share ended n own symbol symbol_trades next gives few;
+  times_are = next-times share (admission_of rule) ended n own symbol checks asked times next asked_is times_are few.entries few.trades few.has;
+}
+
 -- one symbol more was judged
-pub judged-next : (rule : Rule) (table : Bool) (share : DayShare) (ended : EndedTrades) (n : ℕ) (own : SymbolRecords) (symbol : List ℕ) (symbol_trades : SymbolTrades) (old new : JudgedSymbols)
-    → IsNext share ended n own symbol → GivesSymbolTrades ended.admission own symbol_trades → AddsVerdictOnSymbol (question rule symbol table) ended.count symbol_trades old new → IsJudgedUpTo rule table share ended n old → IsJudgedUpTo rule table share ended (n + 1) new
-judged-next rule table share ended n own symbol symbol_trades old new next gives one is = λ entries trades has.
+pub judged-next : (rule : Rule) (table : Bool) (checks : FurtherChecks) (share : DayShare) (ended : EndedTrades) (n : ℕ) (own : SymbolRecords) (symbol : List ℕ) (symbol_trades : SymbolTrades) (asked : Bool) (times : List Moment) (old new : JudgedSymbols)
+    → IsNext share ended n own symbol → asked ≡ asks_further checks → times ≡ times_if asked own.trades.trades → GivesSymbolTrades ended.admission own symbol_trades
+    → AddsVerdictOnSymbol (question rule symbol table) checks ended.count symbol_trades times old new → IsJudgedUpTo rule table checks share ended n old → IsJudgedUpTo rule table checks share ended (n + 1) new
+judged-next rule table checks share ended n own symbol symbol_trades asked times old new next asked_is times_are gives one is = λ entries trades has.
     let symbols : List (List ℕ) = shared_symbols share entries trades in
     let got : slice_get symbols n ≡ Some symbol = ap (λ (s : List (List ℕ)). slice_get (symbols_in share s) n) (sym has.symbols_are) ∙ next.symbol_there in
     let before = is entries trades has in
-    let judged : IsRecordVerdict (question rule symbol table) entries (Ok trades) one.one = one.is entries trades (next-gives share (admission_of rule) ended n own symbol symbol_trades next gives entries trades has) has.count in
+    let known = next-gives share (admission_of rule) ended n own symbol symbol_trades next gives entries trades has in
+    let judged : IsRecordVerdict (question rule symbol table) entries (Ok trades) one.one = one.is entries trades known has.count in
+    let told : one.told ≡ told_of_symbol checks entries trades symbol one.one =
+    one.told_is entries trades known has.count (next-times share (admission_of rule) ended n own symbol checks asked times next asked_is times_are entries trades has) in
     let more : take (n + 1) symbols ≡ take n symbols ++ symbol ∷ [] = take_more symbols n [] (slice_get_within symbols n symbol got) ∙ ap (λ (s : List ℕ). take n symbols ++ s ∷ []) (get_or_from_slice_get symbols n symbol [] got) in
-    record {
+    subst (λ (ss : List (List ℕ)). IsJudgedDay rule table checks entries trades ss new) (sym more) (record {
       verdicts = before.verdicts ++ one.one ∷ [];
-      verdicts_are = subst (λ (ss : List (List ℕ)). AreVerdicts rule table entries trades ss (before.verdicts ++ one.one ∷ [])) (sym more)
-          (for-each-more (λ (s : List ℕ) (v : Verdict). IsRecordVerdict (question rule s table) entries (Ok trades) v) (take n symbols) before.verdicts symbol one.one before.verdicts_are judged);
-      counts_are = one.adds.counts_are ∙ ap (λ (counts : DayCounts). with_verdict counts one.one) before.counts_are ∙ sym (counts-more before.verdicts one.one);
-      lines_are = one.adds.lines_are ∙ ap (λ (text : List ℕ). text ++ symbol_lines symbol (verdict_text one.one)) before.lines_are
-          ∙ sym (lines-more (take n symbols) before.verdicts symbol one.one before.verdicts_are.same_length)
-          ∙ ap (λ (ss : List (List ℕ)). day_lines_of ss (before.verdicts ++ one.one ∷ [])) (sym more);
-    }
+      verdicts_are = for-each-more (λ (s : List ℕ) (v : Verdict). IsRecordVerdict (question rule s table) entries (Ok trades) v) (take n symbols) before.verdicts symbol one.one before.verdicts_are judged;
+      tells = tells-more (told_of_symbol checks entries trades) (take n symbols) before.verdicts symbol one.one one.told old new before.verdicts_are.same_length told one.adds before.tells;
+    })
 
 -- there is room to count one symbol more
-pub room-for : (rule : Rule) (table : Bool) (share : DayShare) (ended : EndedTrades) (n : ℕ) (judged : JudgedSymbols) → n < length ended.kept.items → length ended.kept.items < 2 ^ 64 → RuleTradesFitPlaces rule share ended → IsJudgedUpTo rule table share ended n judged
+pub room-for : (rule : Rule) (table : Bool) (checks : FurtherChecks) (share : DayShare) (ended : EndedTrades) (n : ℕ) (judged : JudgedSymbols) → n < length ended.kept.items → length ended.kept.items < 2 ^ 64 → RuleTradesFitPlaces rule share ended → IsJudgedUpTo rule table checks share ended n judged
     → HasRoomForOne judged.counts
-room-for rule table share ended n judged lt few_parts few is =
+room-for rule table checks share ended n judged lt few_parts few is =
     let before = is few.entries few.trades few.has in
     let symbols : List (List ℕ) = shared_symbols share few.entries few.trades in
     let count : length (take n symbols) ≡ n = length-take-le n symbols (omega (arith, lt, few.has.records_are.same_length)) in
-    let symbols_are : judged.counts.symbols ≡ length before.verdicts = ap (λ (counts : DayCounts). counts.symbols) before.counts_are in
-    let accepted_are : judged.counts.accepted ≡ count_by is_acceptance before.verdicts = ap (λ (counts : DayCounts). counts.accepted) before.counts_are in
-    let rejected_are : judged.counts.rejected ≡ count_by (λ (w : Verdict). not (is_acceptance w)) before.verdicts = ap (λ (counts : DayCounts). counts.rejected) before.counts_are in
-    record {
-      symbols_few = omega (arith, symbols_are, before.verdicts_are.same_length, count, lt, few_parts);
-      accepted_few = omega (arith, symbols_are, accepted_are, count_by-le-length is_acceptance before.verdicts);
-      rejected_few = omega (arith, symbols_are, rejected_are, count_by-le-length (λ (w : Verdict). not (is_acceptance w)) before.verdicts);
-    }
+    let told = tell-length (told_of_symbol checks few.entries few.trades) (take n symbols) before.verdicts before.verdicts_are.same_length in
+    room-for-one (take n symbols) (told_of_symbols checks few.entries few.trades (take n symbols) before.verdicts) judged before.tells (omega (arith, told, count, lt, few_parts))
 
 -- all symbols were judged
-pub judged-all : (rule : Rule) (table : Bool) (share : DayShare) (ended : EndedTrades) (n : ℕ) (before rest : List SymbolRecords) (judged : JudgedSymbols) → before ++ rest ≡ ended.kept.items → length rest ≡ 0 → n ≡ length before
-    → IsJudgedUpTo rule table share ended n judged → IsJudgedShare rule table share ended judged
-judged-all rule table share ended n before rest judged all none at is = λ entries trades has.
+pub judged-all : (rule : Rule) (table : Bool) (checks : FurtherChecks) (share : DayShare) (ended : EndedTrades) (n : ℕ) (before rest : List SymbolRecords) (judged : JudgedSymbols) → before ++ rest ≡ ended.kept.items → length rest ≡ 0 → n ≡ length before
+    → IsJudgedUpTo rule table checks share ended n judged → IsJudgedShare rule table checks share ended judged
+judged-all rule table checks share ended n before rest judged all none at is = λ entries trades has.
     let symbols : List (List ℕ) = shared_symbols share entries trades in
     let size : length before + length rest ≡ length ended.kept.items = sym (length-append before rest) ∙ ap length all in
     let whole : take n symbols ≡ symbols = take_all n symbols (omega (arith, size, none, at, has.records_are.same_length)) in
-    subst (λ (ss : List (List ℕ)). IsJudgedDay rule table entries trades ss judged) whole (is entries trades has)
+    subst (λ (ss : List (List ℕ)). IsJudgedDay rule table checks entries trades ss judged) whole (is entries trades has)

@@ -1,5 +1,6 @@
 -- The verdicts on the symbols of a day, and its text.
-use Rattle.std.specs.Prelude.{◌≡◌, ◌<◌, ◌≤◌, ◌+◌, ◌-◌, ◌^◌, ℕ, Bool, true, false, not, List, [], ◌∷◌, ◌++◌, Ok, length, take, count_by, if◌then◌else◌}
+use Rattle.std.specs.Prelude.{◌≡◌, ◌<◌, ◌≤◌, ◌-◌, ◌^◌, ℕ, Bool, true, false, List, Ok, length, take}
+use Rattle.audit_base.specs.Moments.{Moment}
 use Rattle.audit_base.specs.declared.records.OrderRecord.{OrderRecord}
 use Rattle.audit_base.specs.declared.records.TradeRecord.{TradeRecord}
 use Rattle.audit_base.specs.declared.terms.Rule.{Rule}
@@ -7,7 +8,6 @@ use Rattle.audit_report.specs.declared.verdicts.Verdict.{Verdict}
 use Rattle.audit_report.specs.declared.verdicts.Verdict.TheVariants as verdict
 use Rattle.audit_report.specs.Texts.{verdict_text}
 use Rattle.day_report.specs.declared.day_line.DayCounts.{DayCounts}
-use Rattle.day_report.specs.DayTexts.{symbol_lines}
 use Rattle.day_symbols.specs.Kept.{AreForEach}
 use Rattle.day_symbols.specs.Shares.{DayShare, symbols_in}
 use Rattle.day_symbols.specs.Symbols.{symbols_of_day}
@@ -16,9 +16,15 @@ use Rattle.day_trades.specs.declared.symbol_trades.SymbolTrades.{SymbolTrades}
 use Rattle.day_trades.specs.DayTrades.{HasTradesOf}
 use Rattle.day_trades.specs.SymbolTrades.{IsSymbolTrades}
 use Rattle.day_verdicts.specs.declared.day_verdicts.JudgedSymbols.{JudgedSymbols}
+use Rattle.day_verdicts.specs.declared.symbol_reports.SymbolReport.{SymbolReport}
+use Rattle.day_verdicts.specs.CheckedSymbols.{after_checks, after_given, asked_times}
+use Rattle.day_verdicts.specs.ToldSymbols.{AddsTold, Told, TellsSymbols, tell_each, told_by}
+use Rattle.further_checks.specs.declared.findings.FurtherChecks.{FurtherChecks}
+use Rattle.record_verdict.specs.declared.before_rule.BeforeRule.{BeforeRule}
 use Rattle.record_verdict.specs.declared.questions.Question.{Question}
 use Rattle.record_verdict.specs.RecordVerdicts.{IsRecordVerdict, question}
 use Rattle.record_verdict.specs.Scopes.{admission_of}
+use Rattle.record_verdict.specs.Stages.{IsVerdictAfterStages}
 
 -- The verdicts of a day.
 
@@ -35,29 +41,30 @@ is_acceptance (verdict.Accepted accepted) = true
 is_acceptance (verdict.Rejected finding) = false
 is_acceptance (verdict.Malformed log bad) = false
 
--- how many symbols have these verdicts, how many of them are accepted, and how many are not
-abbrev pub counts_of : List Verdict → DayCounts
-counts_of verdicts = record {
-  symbols = length verdicts;
-  accepted = count_by is_acceptance verdicts;
-  rejected = count_by (λ v. not (is_acceptance v)) verdicts;
-}
+-- what a verdict tells
+abbrev pub told_by_verdict : Verdict → Told
+told_by_verdict the_verdict =
+    record { accepted = is_acceptance the_verdict; text = verdict_text the_verdict }
 
--- the lines of each symbol, one after another: those of the text of its verdict, with the symbol
--- before each
-abbrev pub day_lines_of : List (List ℕ) → List Verdict → List ℕ
-day_lines_of [] verdicts = []
-day_lines_of (symbol ∷ symbols) [] = []
-day_lines_of (symbol ∷ symbols) (the_verdict ∷ verdicts) =
-    symbol_lines symbol (verdict_text the_verdict) ++ day_lines_of symbols verdicts
+-- what is told of a symbol by its verdict, and then by the checks that are asked for
+abbrev pub told_of_symbol : FurtherChecks → List OrderRecord → List TradeRecord → List ℕ → Verdict
+    → Told
+told_of_symbol checks entries trades symbol the_verdict =
+    after_checks checks entries trades symbol (told_by_verdict the_verdict)
 
--- these are the counts and the lines of the verdicts on these symbols
-pub record IsJudgedDay (rule : Rule) (table : Bool) (entries : List OrderRecord)
-    (trades : List TradeRecord) (symbols : List (List ℕ)) (judged : JudgedSymbols) : Type 0 where
+-- what is told of each of these symbols
+abbrev pub told_of_symbols : FurtherChecks → List OrderRecord → List TradeRecord → List (List ℕ)
+    → List Verdict → List Told
+told_of_symbols checks entries trades symbols verdicts =
+    tell_each (told_of_symbol checks entries trades) symbols verdicts
+
+-- these are the counts and the lines of the verdicts on these symbols, and of the checks
+pub record IsJudgedDay (rule : Rule) (table : Bool) (checks : FurtherChecks)
+    (entries : List OrderRecord) (trades : List TradeRecord) (symbols : List (List ℕ))
+    (judged : JudgedSymbols) : Type 0 where
   pub verdicts : List Verdict
   pub verdicts_are : AreVerdicts rule table entries trades symbols verdicts
-  pub counts_are : judged.counts ≡ counts_of verdicts
-  pub lines_are : judged.lines.items ≡ day_lines_of symbols verdicts
+  pub tells : TellsSymbols symbols (told_of_symbols checks entries trades symbols verdicts) judged
 
 -- What functions pass on: one symbol after another.
 
@@ -76,49 +83,52 @@ pub record HasRoomForOne (counts : DayCounts) : Type 0 where
   pub accepted_few : counts.accepted ≤ counts.symbols
   pub rejected_few : counts.rejected ≤ counts.symbols
 
--- the counts with one verdict more
-abbrev pub with_verdict : DayCounts → Verdict → DayCounts
-with_verdict counts the_verdict = record {
-  symbols = counts.symbols + 1;
-  accepted = counts.accepted + (if is_acceptance the_verdict then 1 else 0);
-  rejected = counts.rejected + (if is_acceptance the_verdict then 0 else 1);
-}
+-- of whatever records this is known of the symbol, this is told of it by the verdict, and then by
+-- the checks, with these times of its trades
+abbrev pub IsToldOfSymbol : Question → FurtherChecks → ℕ → SymbolTrades → List Moment → Verdict
+    → Told → Type 0
+IsToldOfSymbol q checks count symbol_trades times the_verdict told =
+    (entries : List OrderRecord) (trades : List TradeRecord)
+    → IsSymbolTrades (admission_of q.rule) entries trades q.symbol symbol_trades
+    → count ≡ length trades → times ≡ asked_times checks q.symbol trades
+    → told ≡ told_of_symbol checks entries trades q.symbol the_verdict
 
--- nothing was judged
-pub record IsNothingJudged (judged : JudgedSymbols) : Type 0 where
-  pub counts_are : judged.counts ≡ counts_of []
-  pub lines_are : judged.lines.items ≡ []
+-- This is told of what was given by the verdict on it, and then by the checks.
+pub record TellsVerdict (q : Question) (checks : FurtherChecks) (given : BeforeRule)
+    (times : List Moment) (report : SymbolReport) : Type 0 where
+  pub one : Verdict
+  pub is : IsVerdictAfterStages q given one
+  pub told_is : told_by report ≡ after_given checks given times (told_by_verdict one)
 
--- one verdict more is counted and written
-pub record AddsVerdict (old new : JudgedSymbols) (symbol : List ℕ)
-    (the_verdict : Verdict) : Type 0 where
-  pub counts_are : new.counts ≡ with_verdict old.counts the_verdict
-  pub lines_are : new.lines.items ≡ old.lines.items
-      ++ symbol_lines symbol (verdict_text the_verdict)
-
--- the verdict that the question asks for is counted and written
-pub record AddsVerdictOnSymbol (q : Question) (count : ℕ) (symbol_trades : SymbolTrades)
-    (old new : JudgedSymbols) : Type 0 where
+-- What the verdict that the question asks for, and then the checks tell of the symbol is counted
+-- and written.
+pub record AddsVerdictOnSymbol (q : Question) (checks : FurtherChecks) (count : ℕ)
+    (symbol_trades : SymbolTrades) (times : List Moment) (old new : JudgedSymbols)
+    : Type 0 where
   pub one : Verdict
   pub is : IsVerdictOnSymbol q count symbol_trades one
-  pub adds : AddsVerdict old new q.symbol one
+  pub told : Told
+  pub told_is : IsToldOfSymbol q checks count symbol_trades times one told
+  pub adds : AddsTold old new q.symbol told
 
 -- whatever records the day has, these are the counts and lines of the verdicts on this many first
 -- symbols of the share
-abbrev pub IsJudgedUpTo : Rule → Bool → DayShare → EndedTrades → ℕ → JudgedSymbols → Type 0
-IsJudgedUpTo rule table share ended n judged =
+abbrev pub IsJudgedUpTo : Rule → Bool → FurtherChecks → DayShare → EndedTrades → ℕ
+    → JudgedSymbols → Type 0
+IsJudgedUpTo rule table checks share ended n judged =
     (entries : List OrderRecord) (trades : List TradeRecord)
     → HasTradesOf share (admission_of rule) entries ended trades
-    → IsJudgedDay rule table entries trades
+    → IsJudgedDay rule table checks entries trades
     (take n (symbols_in share (symbols_of_day entries trades))) judged
 
 -- whatever records the day has, these are the counts and lines of the verdicts on the symbols of
 -- the share
-abbrev pub IsJudgedShare : Rule → Bool → DayShare → EndedTrades → JudgedSymbols → Type 0
-IsJudgedShare rule table share ended judged =
+abbrev pub IsJudgedShare : Rule → Bool → FurtherChecks → DayShare → EndedTrades → JudgedSymbols
+    → Type 0
+IsJudgedShare rule table checks share ended judged =
     (entries : List OrderRecord) (trades : List TradeRecord)
     → HasTradesOf share (admission_of rule) entries ended trades
-    → IsJudgedDay rule table entries trades
+    → IsJudgedDay rule table checks entries trades
     (symbols_in share (symbols_of_day entries trades)) judged
 
 -- the day has some records, of trades fewer than there are places

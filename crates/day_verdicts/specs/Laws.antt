@@ -1,20 +1,38 @@
--- What follows of the verdicts on a day, as a law.
-use Rattle.std.specs.Prelude.{◌≡◌, ℕ, Bool, List}
+-- What follows of the verdicts on a day, as laws.
+use Rattle.std.specs.Prelude.{◌≡◌, ℕ, Bool, false, List}
 use Rattle.audit_base.specs.declared.records.OrderRecord.{OrderRecord}
 use Rattle.audit_base.specs.declared.records.TradeRecord.{TradeRecord}
 use Rattle.audit_base.specs.declared.terms.Rule.{Rule}
+use Rattle.audit_report.specs.declared.verdicts.Verdict.{Verdict}
 use Rattle.day_verdicts.specs.declared.day_verdicts.JudgedSymbols.{JudgedSymbols}
-use Rattle.day_verdicts.specs.DayVerdicts.{IsJudgedDay}
+use Rattle.day_verdicts.specs.CheckedSymbols.{after_checks}
+use Rattle.day_verdicts.specs.DayVerdicts.{AreVerdicts, IsJudgedDay}
+use Rattle.day_verdicts.specs.ToldSymbols.{Told}
+use Rattle.further_checks.specs.declared.findings.FurtherChecks.{FurtherChecks}
+use Rattle.further_checks.specs.FurtherRules.{asks_further}
+
+-- symbols have one list of verdicts by a rule on the same records
+abbrev pub VerdictsAreOne : Type 0
+VerdictsAreOne = (rule : Rule) (table : Bool) (entries : List OrderRecord)
+    (trades : List TradeRecord) (symbols : List (List ℕ)) (a b : List Verdict)
+    → AreVerdicts rule table entries trades symbols a
+    → AreVerdicts rule table entries trades symbols b → a ≡ b
 
 -- The counts and the lines are the same.
 pub record SayTheSame (a b : JudgedSymbols) : Type 0 where
   pub counts_same : a.counts ≡ b.counts
   pub lines_same : a.lines.items ≡ b.lines.items
 
--- one day: symbols have one text by a rule on the same records
+-- one day: symbols have one text by a rule, and by the checks behind it, on the same records
 abbrev pub OneDay : Type 0
-OneDay = (rule : Rule) (table : Bool) (entries : List OrderRecord) (trades : List TradeRecord)
-    (symbols : List (List ℕ)) (a b : JudgedSymbols)
-    → IsJudgedDay rule table entries trades symbols a
-    → IsJudgedDay rule table entries trades symbols b
+OneDay = (rule : Rule) (table : Bool) (checks : FurtherChecks) (entries : List OrderRecord)
+    (trades : List TradeRecord) (symbols : List (List ℕ)) (a b : JudgedSymbols)
+    → IsJudgedDay rule table checks entries trades symbols a
+    → IsJudgedDay rule table checks entries trades symbols b
     → SayTheSame a b
+
+-- where no check is asked for, what is told of a symbol is what its rule told
+abbrev pub UncheckedSymbols : Type 0
+UncheckedSymbols = (checks : FurtherChecks) (entries : List OrderRecord)
+    (trades : List TradeRecord) (symbol : List ℕ) (told : Told) → asks_further checks ≡ false
+    → after_checks checks entries trades symbol told ≡ told

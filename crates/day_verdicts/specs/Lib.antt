@@ -1,3 +1,7 @@
--- What a reader must believe: the verdicts on the symbols of a day, and its text.
+-- What a reader must believe: what is told of each symbol of a day, by its verdict and by the
+-- further checks behind it, and the text of the day.
+pub mod ToldSymbols
+pub mod CheckedSymbols
 pub mod DayVerdicts
+pub mod VerdictLists
 pub mod Laws

@@ -3,10 +3,15 @@ ghost use Rattle.std.specs.Prelude.{◌≡◌, ◌++◌, IfOk, OnOk};
 ghost use Rattle.day_report.specs.DayTexts.{day_line};
 ghost use Rattle.audit_report.specs.Texts.{IsVerdictInRange};
 ghost use Rattle.day_trades.specs.SymbolTrades.{HasFewOfSymbol};
+ghost use Rattle.record_verdict.specs.BeforeRule.{IsJudgeable};
+ghost use Rattle.day_verdicts.specs.CheckedSymbols.{HasFewTimed, HasTimes};
 ghost use Rattle.day_verdicts.specs.DayVerdicts as day;
+ghost use Rattle.day_verdicts.specs.ToldSymbols.{told_by, with_one, AddsTold, IsNothingTold};
 
+use crate::symbol_reports::{SymbolReport, report_after};
 use audit_base::faults::NoMemory;
 use audit_base::names::Name;
+use audit_base::stamps::Stamp;
 use audit_base::terms::Rule;
 use audit_report::reports::report_text;
 use audit_report::verdicts::Verdict;
@@ -15,12 +20,15 @@ use day_report::symbol_lines::append_symbol_lines;
 use day_symbols::shares::Share;
 use day_trades::day_trades::EndedTrades;
 use day_trades::symbol_trades::SymbolTrades;
+use further_checks::findings::FurtherChecks;
+use further_checks::laws::nothing_is_found_unasked;
+use record_verdict::before_rule::BeforeRule;
 use record_verdict::questions::Question;
 use record_verdict::verdicts::verdict_after;
 use std::alloc::Global;
 
 /// The verdict on a symbol of a day, by what is known of it, whose memory is freed.
-fn verdict_of(
+pub(crate) fn verdict_of(
     alloc: Global,
     question: &Question,
     symbol_trades: SymbolTrades,
@@ -34,30 +42,59 @@ fn verdict_of(
     verdict_after(alloc, question, &given)
 }
 
-/// What was said of the symbols so far: how many there were, and their lines.
+/// Whether a verdict is that the log is accepted.
+fn is_acceptance(verdict: &Verdict) -> bool
+    ensures { result ≡ day.is_acceptance verdict.now }
+{
+    match verdict {
+        Verdict::Accepted(_) => true,
+        Verdict::Rejected(_) => false,
+        Verdict::Malformed { .. } => false,
+    }
+}
+
+/// What is told of a symbol whose records give this: by its verdict, and then by the checks.
+fn report_of(
+    alloc: Global,
+    question: &Question,
+    checks: FurtherChecks,
+    given: &BeforeRule,
+    times: &[Stamp],
+) -> Result<SymbolReport, NoMemory>
+    requires judgeable { IsJudgeable given.now }
+    requires timed { HasTimes checks given.now times.now }
+    ensures { IfOk result (day.TellsVerdict question.now checks given.now times.now) }
+{
+    let verdict = verdict_after(alloc, question, given)?;
+    let accepted = is_acceptance(&verdict);
+    let text = report_text(alloc, &verdict)?;
+    report_after(alloc, checks, given, times, SymbolReport { accepted, text })
+}
+
+/// What was told of the symbols so far: how many there were, and their lines.
 #[derive(Drop)]
 pub struct JudgedSymbols {
     pub counts: DayCounts,
     pub lines: Vec<u8>,
 }
 
-/// How many there are with one more, by its verdict.
-fn count_one(counts: &mut DayCounts, verdict: &Verdict)
+/// How many there are with one more.
+fn count_one(counts: &mut DayCounts, accepted: bool)
     requires { day.HasRoomForOne counts.old }
-    ensures { counts.new ≡ day.with_verdict counts.old verdict.now }
+    ensures { counts.new ≡ with_one counts.old accepted }
 {
     counts.symbols += 1;
-    match verdict {
-        Verdict::Accepted(_) => counts.accepted += 1,
-        Verdict::Rejected(_) => counts.rejected += 1,
-        Verdict::Malformed { .. } => counts.rejected += 1,
+    if accepted {
+        counts.accepted += 1;
+    } else {
+        counts.rejected += 1;
     }
 }
 
 impl JudgedSymbols {
     /// No symbols.
-    fn none(alloc: Global) -> JudgedSymbols
-        ensures { day.IsNothingJudged result }
+    pub fn none(alloc: Global) -> JudgedSymbols
+        ensures { IsNothingTold result }
     {
         JudgedSymbols {
             counts: DayCounts {
@@ -69,33 +106,36 @@ impl JudgedSymbols {
         }
     }
 
-    /// One symbol more, with its verdict.
-    fn add(&mut self, alloc: Global, symbol: &Name, verdict: &Verdict) -> Result<(), NoMemory>
-        requires in_range { IsVerdictInRange verdict.now }
-        requires room { day.HasRoomForOne self.old.counts }
-        ensures { OnOk result (day.AddsVerdict self.old self.new symbol.now verdict.now) }
+    /// One symbol more, with what is told of it. After `NoMemory` nothing is known of the symbols.
+    pub fn add(&mut self, symbol: &Name, report: &SymbolReport) -> Result<(), NoMemory>
+        requires { day.HasRoomForOne self.old.counts }
+        ensures { OnOk result (AddsTold self.old self.new symbol.now (told_by report.now)) }
     {
-        let text = report_text(alloc, verdict)?;
-        count_one(&mut self.counts, verdict);
-        append_symbol_lines(symbol, &text, &mut self.lines)
+        count_one(&mut self.counts, report.accepted);
+        append_symbol_lines(symbol, &report.text, &mut self.lines)
     }
 
-    /// Judges one symbol more.
+    /// Judges one symbol more, whose trades have these times.
     fn judge(
         &mut self,
         alloc: Global,
         question: &Question,
+        checks: FurtherChecks,
+        times: &[Stamp],
         symbol_trades: SymbolTrades,
         count: u32,
     ) -> Result<(), NoMemory>
-        requires fits_places { HasFewOfSymbol count symbol_trades }
+        requires few { HasFewTimed checks count symbol_trades times.now }
         requires room { day.HasRoomForOne self.old.counts }
-        ensures { OnOk result (day.AddsVerdictOnSymbol question.now count symbol_trades self.old
-            self.new) }
+        ensures { OnOk result (day.AddsVerdictOnSymbol question.now checks count symbol_trades
+            times.now self.old self.new) }
     {
-        let verdict = verdict_of(alloc, question, symbol_trades, count)?;
-        self.add(alloc, &question.symbol, &verdict)
+        nothing_is_found_unasked();
+        let given = symbol_trades.end(count);
+        let report = report_of(alloc, question, checks, &given, times)?;
+        self.add(&question.symbol, &report)
     }
+
     /// The text of the day: the line that counts its symbols, with what they were judged by, and
     /// their lines.
     pub fn text(&self, alloc: Global, judged_by: &[u8]) -> Result<Vec<u8>, NoMemory>
@@ -110,18 +150,20 @@ impl JudgedSymbols {
 }
 
 /// The verdicts of a rule on the symbols of a share, in their order: how many there are, and their
-/// lines, each with its symbol before it. `table` asks for the tables of accepted symbols. The
+/// lines, each with its symbol before it. `table` asks for the tables of accepted symbols. A symbol
+/// that the rule accepts is rejected by the first finding of the checks that are asked for. The
 /// orders and deals of a symbol are made when it is judged, and its memory is freed before the next
-/// is judged.
+/// is judged; the times of its trades only where a check is asked for.
 pub fn judge_day(
     alloc: Global,
     rule: Rule,
     table: bool,
+    checks: FurtherChecks,
     share: Share,
     ended: EndedTrades,
 ) -> Result<JudgedSymbols, NoMemory>
     requires { day.RuleTradesFitPlaces rule share ended }
-    ensures { IfOk result (day.IsJudgedShare rule table share ended) }
+    ensures { IfOk result (day.IsJudgedShare rule table checks share ended) }
 {
     let EndedTrades {
         symbols,
@@ -136,13 +178,14 @@ pub fn judge_day(
         let Some(symbol) = share.symbol_at(&symbols, share_index) else {
             unreachable!();
         };
+        let times = symbol_records.trade_times(alloc, checks.any())?;
         let symbol_trades = symbol_records.resolve(alloc, seed, admission)?;
         let question = Question {
             rule,
             symbol: *symbol,
             table,
         };
-        judged.judge(alloc, &question, symbol_trades, count)?;
+        judged.judge(alloc, &question, checks, &times, symbol_trades, count)?;
         share_index += 1;
     }
     Ok(judged)

@@ -1,6 +1,7 @@
-//! What follows of the verdicts on a day, as a contract that computes nothing.
-ghost use Rattle.day_verdicts.specs.Laws.{OneDay};
+//! What follows of the verdicts on a day, as contracts that compute nothing.
+ghost use Rattle.day_verdicts.specs.Laws.{OneDay, UncheckedSymbols, VerdictsAreOne};
 
+use further_checks::laws::nothing_is_found_unasked;
 use record_verdict::laws::record_verdict_is_one;
 
 /// However the symbols of a day are judged, each alone or in whatever shares, the same symbols have
@@ -9,4 +10,18 @@ pub fn one_day()
     ensures { OneDay }
 {
     record_verdict_is_one();
+}
+
+/// Symbols have one list of verdicts by a rule on the same records.
+pub fn verdicts_are_one()
+    ensures { VerdictsAreOne }
+{
+    record_verdict_is_one();
+}
+
+/// Where no check is asked for, what is told of a symbol is what its rule told.
+pub fn unchecked_symbols()
+    ensures { UncheckedSymbols }
+{
+    nothing_is_found_unasked();
 }

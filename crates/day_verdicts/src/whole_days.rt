@@ -14,6 +14,7 @@ use audit_base::terms::Rule;
 use day_orders::day_orders::{AuditedShare, DayOrders, EndedOrders};
 use day_symbols::shares::Share;
 use day_trades::day_trades::{AuditedDay, DayTrades, EndedTrades};
+use further_checks::findings::FurtherChecks;
 use log_source::collector::Collector;
 use record_verdict::scopes::Admission;
 use seeded_hash::seed::HashSeed;
@@ -96,12 +97,13 @@ fn trades_of<M: AuditedDay>(
 }
 
 /// The verdicts of a rule on the symbols of a share of these records, in one pass over each list:
-/// of each symbol the verdict that it has by itself, counted and written in the order of the
-/// symbols.
+/// of each symbol the verdict that it has by itself, and behind that the checks that are asked for,
+/// counted and written in the order of the symbols.
 pub fn judge_records_of_day(
     alloc: Global,
     rule: Rule,
     table: bool,
+    checks: FurtherChecks,
     share: Share,
     entries: &[OrderRecord],
     trades: &[TradeRecord],
@@ -109,9 +111,9 @@ pub fn judge_records_of_day(
     requires entries_fit_places { length entries.now < 2 ^ 32 - 1 }
     requires trades_fit_places { length trades.now < 2 ^ 32 - 1 }
     ensures { let symbols = symbols_in share (symbols_of_day entries.now trades.now) in
-        IfOk result (IsJudgedDay rule table entries.now trades.now symbols) }
+        IfOk result (IsJudgedDay rule table checks entries.now trades.now symbols) }
 {
     let orders = orders_of::<Brand>(alloc, share, entries)?;
     let ended = trades_of::<Brand>(alloc, share, Admission::of(rule), orders, trades)?;
-    judge_day(alloc, rule, table, share, ended)
+    judge_day(alloc, rule, table, checks, share, ended)
 }

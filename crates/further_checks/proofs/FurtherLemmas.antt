@@ -1,6 +1,7 @@
 -- The checks of a deal by the numbers that the code has, and the laws.
-use Rattle.std.proofs.Common.{◌≡◌, ◌<◌, ◌∙◌, sym, ap, refl, subst, ℕ, ◌+◌, Bool, true, false, cond, List, length, get_or, Option, All}
-use Rattle.std.specs.Prelude.{slice_index, nat_lt}
+use Rattle.std.proofs.Common.{◌≡◌, ◌<◌, ◌∙◌, sym, ap, refl, subst, ℕ, ◌+◌, Bool, true, false, cond, List, [], ◌∷◌, length, get_or, Option, None, All}
+use Rattle.std.specs.Prelude.{slice_index, nat_lt, filter_map, ◌||◌}
+use Rattle.std.specs.List.{range_with_len}
 use Rattle.std.proofs.lemmas.Bool.{cond_both, eq-eqb, not_from_true}
 use Rattle.audit_base.specs.Moments.{Moment}
 use Rattle.audit_base.specs.declared.orders.Order.{Order}
@@ -18,7 +19,7 @@ use Rattle.offence_list.proofs.ListLemmas.{answers-step, answers-first}
 use Rattle.further_checks.specs.declared.findings.FurtherChecks.{FurtherChecks}
 use Rattle.further_checks.specs.declared.findings.FurtherFinding.{FurtherFinding}
 use Rattle.further_checks.specs.FurtherRules.{trade_time_at, traded_line, further_failure, further_finding, first_further_finding, further_findings}
-use Rattle.further_checks.specs.Laws.{FurtherFindingsBeginWithTheFirst, ExpectedTradesHaveRestingPrices}
+use Rattle.further_checks.specs.Laws.{FurtherFindingsBeginWithTheFirst, ExpectedTradesHaveRestingPrices, NothingIsFoundUnasked}
 
 -- the orders of a deal are in the list
 resting-inside : (orders : List Order) (d : Deal) → NamesOrders orders d → resting_order orders d < length orders
@@ -73,3 +74,20 @@ expected_prices orders deals times is =
     let d = deal_at deals k in
     let price : d.price ≡ limit_at orders (resting_order orders d) = (each k deal_past_end lt).at ∙ limit-resting orders d in
     option_or-none_both _ _ (none-only _ _ (not_from_true _ (eq-eqb _ _ price))) refl)
+
+-- Where no check is asked for.
+
+none-answered : {A : Type 0} (answer : ℕ → Option A) → ((n : ℕ) → answer n ≡ None) → (ns : List ℕ) → filter_map answer ns ≡ []
+none-answered answer none [] = refl
+none-answered answer none (n ∷ ns) = rw (none n, none-answered answer none ns) refl
+
+either-false : (a b : Bool) → (a || b) ≡ false → (a ≡ false) × (b ≡ false)
+either-false false false e = (refl, refl)
+either-false false true e = cc
+either-false true b e = cc
+
+pub none-fails : NothingIsFoundUnasked
+unfolding further_findings
+none-fails checks orders deals times e =
+    let neither = either-false checks.resting_price checks.trade_times e in
+    none-answered (further_finding checks orders deals times) (λ n. rw (neither.0, neither.1) refl) (range_with_len 0 (length deals))

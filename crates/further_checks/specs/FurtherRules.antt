@@ -1,6 +1,6 @@
 -- Two checks that are no part of the five rules: of the price of each trade, and of its time.
 -- They are looked for only where they are asked for, after all that the rule asks.
-use Rattle.std.specs.Prelude.{ℕ, Bool, ◌==◌, ◌||◌, not, List, [], ◌∷◌, Option, None, map, length, slice_index_or, if◌then◌else◌}
+use Rattle.std.specs.Prelude.{ℕ, Bool, false, ◌==◌, ◌||◌, not, List, [], ◌∷◌, Option, None, map, length, slice_get, slice_index_or, if◌then◌else◌}
 use Rattle.audit_base.specs.Moments.{Moment, is_before}
 use Rattle.audit_base.specs.declared.records.TradeRecord.{TradeRecord}
 use Rattle.audit_base.specs.declared.orders.Order.{Order}
@@ -16,6 +16,14 @@ use Rattle.offence_list.specs.Answers.{answers_below}
 use Rattle.further_checks.specs.declared.findings.FurtherChecks.{FurtherChecks}
 use Rattle.further_checks.specs.declared.findings.FurtherFinding.{FurtherFinding}
 use Rattle.further_checks.specs.declared.findings.FurtherFinding.TheVariants.{RestingPrice, TradeTime}
+
+-- no check is asked for
+abbrev pub no_checks : FurtherChecks
+no_checks = record { resting_price = false; trade_times = false }
+
+-- a check is asked for
+abbrev pub asks_further : FurtherChecks → Bool
+asks_further checks = checks.resting_price || checks.trade_times
 
 -- the time of each trade of a symbol, in log order, as the deals of the symbol are
 abbrev pub times_of_symbol : List ℕ → List TradeRecord → List Moment
@@ -80,3 +88,9 @@ abbrev pub further_findings_of_symbol : FurtherChecks → List Order → List �
 further_findings_of_symbol checks orders symbol trades =
     further_findings checks orders (deals_of_symbol orders symbol trades)
     (times_of_symbol symbol trades)
+
+-- of these the first, if there is one: it rejects a symbol that is accepted but for it
+abbrev pub first_finding_of_symbol : FurtherChecks → List Order → List ℕ → List TradeRecord
+    → Option FurtherFinding
+first_finding_of_symbol checks orders symbol trades =
+    slice_get (further_findings_of_symbol checks orders symbol trades) 0

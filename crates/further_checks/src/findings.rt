@@ -1,5 +1,6 @@
 //! What the further checks tell.
 ghost use Rattle.std.specs.Prelude.{◌≡◌};
+ghost use Rattle.further_checks.specs.FurtherRules.{asks_further, no_checks};
 ghost use Rattle.further_checks.specs.FurtherTexts.{further_place, further_word};
 
 use audit_base::findings::OrderLine;
@@ -11,6 +12,25 @@ pub struct FurtherChecks {
     pub resting_price: bool,
     /// 18: no trade is earlier than the records of its orders.
     pub trade_times: bool,
+}
+
+impl FurtherChecks {
+    /// Neither of the two.
+    pub fn none() -> FurtherChecks
+        ensures { result ≡ no_checks }
+    {
+        FurtherChecks {
+            resting_price: false,
+            trade_times: false,
+        }
+    }
+
+    /// Whether one of them is asked for.
+    pub fn any(self) -> bool
+        ensures { result ≡ asks_further self }
+    {
+        self.resting_price || self.trade_times
+    }
 }
 
 /// The finding at a trade that fails a check, with the orders that show it. The place is the number

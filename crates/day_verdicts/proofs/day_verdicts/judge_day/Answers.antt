@@ -4,7 +4,7 @@ use Rattle.std.proofs.lemmas.List.{append_assoc}
 use Rattle.std.proofs.lemmas.Option.{slice_get_within}
 use Rattle.day_symbols.specs.Shares.{symbols_in}
 use Rattle.day_trades.specs.declared.symbol_records.SymbolRecords.{SymbolRecords}
-use Rattle.day_verdicts.proofs.VerdictSteps.{judged-all, judged-next, next-at, next-few, next-few-records, room-for}
+use Rattle.day_verdicts.proofs.VerdictSteps.{judged-all, judged-next, next-at, next-few-records, next-timed, room-for}
 use Rattle.day_verdicts.proofs.day_verdicts.judge_day.Goals as goal
 
 pub resolve-requires : goal.resolve-requires
@@ -16,14 +16,15 @@ resolve-requires c =
     let next = next-at c.args.share c.args.ended c.loop-symbol_records.share_index c.in-Some.symbol_records c.in-Some-symbol_at.symbol.now c.loop-symbol_records.yielded c.next.new.self.rest.items all c.loop-symbol_records.invariant.1 got in
     next-few-records c.args.rule c.args.share c.args.ended c.loop-symbol_records.share_index c.in-Some.symbol_records c.in-Some-symbol_at.symbol.now next c.requires
 
-pub judge-requires-clause-fits_places : goal.judge-requires-clause-fits_places
-judge-requires-clause-fits_places c =
+pub judge-requires-clause-few : goal.judge-requires-clause-few
+judge-requires-clause-few c =
     let all : c.loop-symbol_records.yielded ++ c.in-Some.symbol_records ∷ c.next.new.self.rest.items ≡ c.args.ended.kept.items =
     ap (λ (xs : List SymbolRecords). c.loop-symbol_records.yielded ++ xs) (sym c.in-Some.ensures.steps.0) ∙ c.loop-symbol_records.invariant.0 in
     let got : slice_get (symbols_in c.args.share c.args.ended.symbols) c.loop-symbol_records.share_index ≡ Some c.in-Some-symbol_at.symbol.now =
     sym c.symbol_at.ensures ∙ ap (option_map (λ name. name.now)) c.in-Some-symbol_at.is in
     let next = next-at c.args.share c.args.ended c.loop-symbol_records.share_index c.in-Some.symbol_records c.in-Some-symbol_at.symbol.now c.loop-symbol_records.yielded c.next.new.self.rest.items all c.loop-symbol_records.invariant.1 got in
-    next-few c.args.rule c.args.share c.args.ended c.loop-symbol_records.share_index c.in-Some.symbol_records c.in-Some-symbol_at.symbol.now c.in_ok-symbol_trades.symbol_trades next c.in_ok-symbol_trades.ensures c.requires
+    next-timed c.args.rule c.args.share c.args.ended c.loop-symbol_records.share_index c.in-Some.symbol_records c.in-Some-symbol_at.symbol.now c.in_ok-symbol_trades.symbol_trades c.args.checks c.any.result c.deref.result.now
+    next c.any.ensures (c.deref.ensures.value ∙ c.in_ok-times.ensures) c.in_ok-symbol_trades.ensures c.requires
 
 pub judge-requires-clause-room : goal.judge-requires-clause-room
 judge-requires-clause-room c =
@@ -32,7 +33,7 @@ judge-requires-clause-room c =
     let got : slice_get (symbols_in c.args.share c.args.ended.symbols) c.loop-symbol_records.share_index ≡ Some c.in-Some-symbol_at.symbol.now =
     sym c.symbol_at.ensures ∙ ap (option_map (λ name. name.now)) c.in-Some-symbol_at.is in
     let next = next-at c.args.share c.args.ended c.loop-symbol_records.share_index c.in-Some.symbol_records c.in-Some-symbol_at.symbol.now c.loop-symbol_records.yielded c.next.new.self.rest.items all c.loop-symbol_records.invariant.1 got in
-    room-for c.args.rule c.args.table c.args.share c.args.ended c.loop-symbol_records.share_index c.loop-symbol_records.judged
+    room-for c.args.rule c.args.table c.args.checks c.args.share c.args.ended c.loop-symbol_records.share_index c.loop-symbol_records.judged
     (slice_get_within c.args.ended.kept.items c.loop-symbol_records.share_index c.in-Some.symbol_records next.records_there) (omega (arith, c.args.ended.kept.ok.0, c.args.ended.kept.ok.1, c.args.ended.kept.small)) c.requires c.loop-symbol_records.invariant.2
 
 pub loop-symbol_records-preserved : goal.loop-symbol_records-preserved
@@ -44,10 +45,11 @@ loop-symbol_records-preserved c =
     let next = next-at c.args.share c.args.ended c.loop-symbol_records.share_index c.in-Some.symbol_records c.in-Some-symbol_at.symbol.now c.loop-symbol_records.yielded c.next.new.self.rest.items all c.loop-symbol_records.invariant.1 got in (
       append_assoc c.loop-symbol_records.yielded (c.in-Some.symbol_records ∷ []) c.next.new.self.rest.items ∙ all,
       ap (λ (n : ℕ). n + 1) c.loop-symbol_records.invariant.1 ∙ sym (length-append c.loop-symbol_records.yielded (c.in-Some.symbol_records ∷ [])),
-      judged-next c.args.rule c.args.table c.args.share c.args.ended c.loop-symbol_records.share_index c.in-Some.symbol_records c.in-Some-symbol_at.symbol.now c.in_ok-symbol_trades.symbol_trades c.loop-symbol_records.judged c.judge.new.self next c.in_ok-symbol_trades.ensures c.in_ok-judge.ensures c.loop-symbol_records.invariant.2,
+      judged-next c.args.rule c.args.table c.args.checks c.args.share c.args.ended c.loop-symbol_records.share_index c.in-Some.symbol_records c.in-Some-symbol_at.symbol.now c.in_ok-symbol_trades.symbol_trades c.any.result c.deref.result.now
+          c.loop-symbol_records.judged c.judge.new.self next c.any.ensures (c.deref.ensures.value ∙ c.in_ok-times.ensures) c.in_ok-symbol_trades.ensures c.in_ok-judge.ensures c.loop-symbol_records.invariant.2,
     )
 
 pub returns : goal.returns
 returns c =
     let none : length c.loop-symbol_records.symbol_records-iterator.rest.items ≡ 0 = omega (arith, c.in-None.ensures.steps.0, c.loop-symbol_records.symbol_records-iterator.rest.ok.0) in
-    judged-all c.args.rule c.args.table c.args.share c.args.ended c.loop-symbol_records.share_index c.loop-symbol_records.yielded c.loop-symbol_records.symbol_records-iterator.rest.items c.loop-symbol_records.judged c.loop-symbol_records.invariant.0 none c.loop-symbol_records.invariant.1 c.loop-symbol_records.invariant.2
+    judged-all c.args.rule c.args.table c.args.checks c.args.share c.args.ended c.loop-symbol_records.share_index c.loop-symbol_records.yielded c.loop-symbol_records.symbol_records-iterator.rest.items c.loop-symbol_records.judged c.loop-symbol_records.invariant.0 none c.loop-symbol_records.invariant.1 c.loop-symbol_records.invariant.2
