@@ -68,10 +68,7 @@ fn open_files(rt: &HostRuntime, path: &str) -> Result<Files<File>, KeepFault>
 ///
 /// A path that is empty or begins with `-` is refused before any file is opened or made. A
 /// database that is refused behind that is left as it was, and no log is left beside it.
-pub fn open_database(
-    rt: &HostRuntime,
-    path: &str,
-) -> Result<Connection<FileStore<File>>, KeepFault>
+pub fn open_database(rt: &HostRuntime, path: &str) -> Result<Connection<FileStore<File>>, KeepFault>
     ensures refused { is_path path.now ≡ false → result ≡ Err KeepFault.Failed }
 {
     let files = open_files(rt, path)?;

@@ -1,13 +1,65 @@
 -- What a run of the program answers, whatever words its command line has.
-use Rattle.std.specs.Prelude.{ℕ, List}
+use Rattle.std.specs.Prelude.{◌≡◌, ℕ, Bool, true, false, List, Option, None}
+use Rattle.audit_report.specs.Statuses.{status_number}
 use Rattle.audit_report.specs.declared.statuses.Status.{Status}
+use Rattle.case_run.specs.Statuses.{case_status_number}
+use Rattle.case_run.specs.declared.statuses.CaseStatus.{CaseStatus}
+use Rattle.desk_program.specs.declared.ends.DeskEnd.{DeskEnd}
+use Rattle.desk_program.specs.declared.ends.DeskEnd.TheVariants.{Run, Filed}
 use Rattle.desk_run.specs.TopCall.{DeskAnswers}
-use Rattle.desk_words.specs.Words.{desk_request_of}
+use Rattle.desk_words.specs.Words.{asks_filing, desk_request_of}
+use Rattle.digest_files.specs.ClosedFilings.{FilesThenCloses}
+use Rattle.digest_files.specs.FileDigestOpeners.{fresh_digest_opener}
+use Rattle.filing_run.specs.DigestOpeners.{DigestOpenerState}
+use Rattle.log_source.specs.Sinks.{SinkState}
 use Rattle.log_source.specs.declared.shelf.Shelf.{Ghosts as Shelf}
-use Rattle.run_notes.specs.FreshEnds.{RunEnds}
+use Rattle.run_notes.specs.FreshEnds.{IsFreshOver, fresh_sink}
 
--- the answer is that of the top call to what words ask for
-abbrev pub DeskAnswersWords : {S : Type 0} → Shelf S → List (List ℕ)
-    → RunEnds S → RunEnds S → Status → Type 0
-DeskAnswersWords shelf words old new status =
-    DeskAnswers shelf (desk_request_of words) old.shelf new.shelf old.sink new.sink status
+-- the number of the status with which the call ended that was asked
+abbrev pub desk_end_number : DeskEnd → ℕ
+desk_end_number (Run status) = status_number status
+desk_end_number (Filed status) = case_status_number status
+
+-- What a run reads, opens and writes: a shelf, and what is known of an opener of databases and of a
+-- sink.
+pub record DeskEnds (S : Type 0) : Type 0 where
+  pub shelf : S
+  pub opener : DigestOpenerState
+  pub sink : SinkState
+
+-- The run ended as the top call without a database answers what words ask for, and opened none.
+pub record EndsAsRun {S : Type 0} (shelves : Shelf S) (words : List (List ℕ))
+    (old new : DeskEnds S) (end : DeskEnd) : Type 0 where
+  pub status : Status
+  pub answers : DeskAnswers shelves (desk_request_of words) old.shelf new.shelf old.sink new.sink
+      status
+  pub ended : end ≡ Run status
+  pub unopened : new.opener ≡ old.opener
+
+-- The run ended as the top call of filing answers what words ask for, and its database was closed.
+pub record EndsAsFiling {S : Type 0} (shelves : Shelf S) (words : List (List ℕ))
+    (old new : DeskEnds S) (end : DeskEnd) : Type 0 where
+  pub status : CaseStatus
+  pub answers : FilesThenCloses shelves old.shelf new.shelf old.opener new.opener words
+      old.sink new.sink status
+  pub ended : end ≡ Filed status
+
+-- The first word decides which of the two calls is asked: that of filing for `file`, `file-all` and
+-- `check`, and the other for all other words, and where there is none.
+pub record DeskAnswersWords {S : Type 0} (shelves : Shelf S) (words : List (List ℕ))
+    (old new : DeskEnds S) (end : DeskEnd) : Type 0 where
+  pub filing : asks_filing words ≡ true → EndsAsFiling shelves words old new end
+  pub others : asks_filing words ≡ false → EndsAsRun shelves words old new end
+
+-- a shelf that has the file under each path, with nothing started, an opener that this is known of,
+-- and a sink that holds what the output holds
+abbrev pub DeskBegins : {S : Type 0} → Shelf S → Bool → (List ℕ → Option (List ℕ))
+    → Option (List ℕ) → DigestOpenerState → DeskEnds S → Type 0
+DeskBegins shelves known_files file_at held opener ends =
+    IsFreshOver shelves known_files file_at ends.shelf × (ends.opener ≡ opener)
+    × (ends.sink ≡ fresh_sink held)
+
+-- such a shelf and such a sink over files and an output of which nothing is known, as those of the
+-- runtime, and an opener that has opened nothing
+abbrev pub DeskBeginsUnknown : {S : Type 0} → Shelf S → DeskEnds S → Type 0
+DeskBeginsUnknown shelves = DeskBegins shelves false (λ path. None) None fresh_digest_opener

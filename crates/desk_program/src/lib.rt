@@ -1,100 +1,124 @@
 //! What the program `desk` does with what its machine gives it: the arguments, files, standard
-//! output and a random seed are handed to `run_desk_seeded`, and the number of the status
-//! is what the process ends with. Where it is above 1, one line on standard error says why
-//! (`run_notes`).
+//! output, an opener of databases over files and a random seed are handed to the call that the
+//! first word is for (`calls`), and the number of its status is what the process ends with
+//! (`ends`). Where it is above 1, and where a database was made, one line on standard error says so
+//! (`notes`, `run_notes`).
 #![tactic(auto)]
 
-ghost use Rattle.std.specs.Prelude.{◌≡◌};
-ghost use Rattle.desk_program.specs.Answers.{DeskAnswersWords};
-ghost use Rattle.audit_report.specs.Statuses.{status_number};
+ghost use Rattle.std.specs.Prelude.{◌≡◌, false};
+ghost use Rattle.audit_base.specs.declared.terms.Which.{Which};
 ghost use Rattle.audit_report.specs.declared.statuses.Status.TheVariants as status;
-ghost use Rattle.run_notes.specs.FreshEnds.{BeginsOver, BeginsOverUnknown};
+ghost use Rattle.desk_program.specs.Answers.{DeskAnswersWords, DeskBegins, DeskBeginsUnknown, desk_end_number};
+ghost use Rattle.desk_program.specs.declared.ends.DeskEnd.TheVariants as ended;
 ghost use Rattle.run_notes.specs.ProgramAnswers.{AnswersCommandLine, AnswersFrom, AnswersUnknownWords, EndsAsAnswer};
 
+mod calls;
+pub mod ends;
+mod notes;
+
+use crate::calls::{EndedCall, ask_call};
+use crate::ends::{DeskEnd, exit_code};
+use crate::notes::{names_missing_database, tell, tell_made_database};
 use audit_report::statuses::Status;
 use command_words::arguments::seed_of;
-use desk_run::running::run_desk_seeded;
+use digest_files::closing::ClosingDigests;
+use digest_files::file_opener::FileDigestOpener;
 use log_source::file_shelf::FileShelf;
 use log_source::file_system::FileSystem;
-use log_source::limits::LONGEST_READ;
 use log_source::output::Output;
 use log_source::shelf::Shelf;
 use log_source::sink::Sink;
 use log_source::std_sink::StdSink;
 use run_notes::command_line::CommandLine;
-use run_notes::log_notes::print_end;
 use run_notes::noted_shelf::NotedShelf;
 use run_notes::noted_sink::NotedSink;
-use run_notes::program_ends::{Ran, exit_code, noted_files, noted_output};
-use run_notes::usage_notes::print_desk_usage;
+use run_notes::program_ends::{noted_files, noted_output};
 use std::io;
 use std::process::ExitCode;
 use std::random::RandomSource;
 
 /// Runs the command that the words of the command line ask for, with hashes of a random seed.
-fn answer_words<R: CommandLine + AllocGlobal + RandomSource, F: Shelf, K: Sink>(
+fn answer_words<R: CommandLine + AllocGlobal + RandomSource, F: Shelf, K: Sink, O: ClosingDigests>(
     rt: &R,
-    shelf: &mut F,
+    shelf: F,
     out: &mut K,
-) -> Status
-    ensures { AnswersCommandLine (DeskAnswersWords F.Shelf) status.Memory (R.known_words rt.now)
-        (record { shelf = shelf.old; sink = K.state out.old })
-        (record { shelf = shelf.new; sink = K.state out.new }) result }
+    opener: &mut O,
+) -> EndedCall<F>
+    requires fresh { (which : Which) → (F.slot shelf which).started ≡ false }
+    ensures { AnswersCommandLine (DeskAnswersWords F.Shelf) (ended.Run status.Memory)
+        (R.known_words rt.now)
+        (record { shelf = shelf; opener = O.state opener.old; sink = K.state out.old })
+        (record { shelf = result.shelf; opener = O.state opener.new; sink = K.state out.new })
+        result.end }
 {
     match rt.words() {
-        Ok(words) => run_desk_seeded(rt.alloc(), seed_of(rt), &words, shelf, out),
-        Err(_) => Status::Memory,
+        Ok(words) => ask_call(rt.alloc(), seed_of(rt), &words, shelf, out, opener),
+        Err(_) => EndedCall {
+            end: DeskEnd::Run(Status::Memory),
+            shelf,
+        },
     }
 }
 
-/// Runs the command that the words of the command line ask for over these files and this output.
-fn run_over<R: CommandLine + AllocGlobal + RandomSource, S: FileSystem + Drop, W: Output + Drop>(
-    rt: &R,
-    files: S,
-    output: W,
-) -> Ran<S, W>
+/// What a run leaves: how it ended, the files that it read and the output that it wrote, with what
+/// was noted of both.
+#[derive(Drop)]
+struct DeskRan<S: FileSystem, W> {
+    end: DeskEnd,
+    shelf: NotedShelf<FileShelf<S>>,
+    out: NotedSink<StdSink<W>>,
+}
+
+/// Runs the command that the words of the command line ask for over these files, this output and
+/// this opener.
+fn run_over<
+    R: CommandLine + AllocGlobal + RandomSource,
+    S: FileSystem + Drop,
+    W: Output + Drop,
+    O: ClosingDigests,
+>(rt: &R, files: S, output: W, opener: &mut O) -> DeskRan<S, W>
     ensures { let shelf = ⟦<NotedShelf<FileShelf<S>> as Shelf>⟧ in
         let state = ⟦<NotedSink<StdSink<W>> as Sink>⟧.state in
-        AnswersFrom (DeskAnswersWords shelf) status.Memory (R.known_words rt.now)
-        (BeginsOver shelf (S.tells files) (S.file_at files) (W.contents output))
-        (record { shelf = result.shelf; sink = state result.out }) result.status }
+        AnswersFrom (DeskAnswersWords shelf) (ended.Run status.Memory) (R.known_words rt.now)
+        (DeskBegins shelf (S.tells files) (S.file_at files) (W.contents output)
+        (O.state opener.old))
+        (record { shelf = result.shelf; opener = O.state opener.new; sink = state result.out })
+        result.end }
 {
-    let mut shelf = noted_files(rt.alloc(), files);
+    let shelf = noted_files(rt.alloc(), files);
     let mut out = noted_output(rt.alloc(), output);
-    let status = answer_words(rt, &mut shelf, &mut out);
-    Ran { status, shelf, out }
-}
-
-/// Says on standard error why a run ended above 1.
-fn tell<F: Shelf>(rt: &HostRuntime, status: Status, shelf: &NotedShelf<F>, last: &[u8]) {
-    if status == Status::Usage {
-        if let Ok(words) = rt.words() {
-            print_desk_usage(rt, &words);
-        }
-        return;
-    }
-    print_end(rt, "desk", LONGEST_READ, status, shelf, last);
+    let EndedCall { end, shelf } = answer_words(rt, shelf, &mut out, opener);
+    DeskRan { end, shelf, out }
 }
 
 /// Runs the command over files and standard output.
-fn answer(rt: HostRuntime) -> Status
+fn answer(rt: HostRuntime) -> DeskEnd
     ensures { let shelf = ⟦<NotedShelf<FileShelf<HostRuntime>> as Shelf>⟧ in
-        AnswersUnknownWords (DeskAnswersWords shelf) status.Memory
-        (BeginsOverUnknown shelf) result }
+        AnswersUnknownWords (DeskAnswersWords shelf) (ended.Run status.Memory)
+        (DeskBeginsUnknown shelf) result }
 {
     let Ok(files) = rt.clone() else {
-        return Status::Memory;
+        return DeskEnd::Run(Status::Memory);
     };
-    let Ran { status, shelf, out } = run_over(&rt, files, io::writer(&rt));
-    tell(&rt, status, &shelf, out.last());
-    status
+    let Ok(databases) = rt.clone() else {
+        return DeskEnd::Run(Status::Memory);
+    };
+    let Ok(words) = rt.words() else {
+        return DeskEnd::Run(Status::Memory);
+    };
+    let was_missing = names_missing_database(&rt, &words);
+    let mut opener = FileDigestOpener::new(databases);
+    let DeskRan { end, shelf, out } = run_over(&rt, files, io::writer(&rt), &mut opener);
+    tell_made_database(&rt, &words, was_missing);
+    tell(&rt, end, &words, &shelf, out.last());
+    end
 }
 
 /// Runs the program, and gives the exit code of its process.
 pub fn run_desk_program(rt: HostRuntime) -> ExitCode
     ensures { let shelf = ⟦<NotedShelf<FileShelf<HostRuntime>> as Shelf>⟧ in
-        EndsAsAnswer (DeskAnswersWords shelf) status.Memory status_number
-        (BeginsOverUnknown shelf) result }
+        EndsAsAnswer (DeskAnswersWords shelf) (ended.Run status.Memory) desk_end_number
+        (DeskBeginsUnknown shelf) result }
 {
     exit_code(answer(rt))
 }

@@ -17,11 +17,12 @@ use Rattle.day_logs.specs.declared.answers.DayAnswer.TheVariants as answer
 use Rattle.day_logs.specs.DayAnswers.{AreVerdictsOfDay, DayMeaning, IsAnswerToRecords}
 use Rattle.day_logs.specs.DayAnswerTexts.{day_answer_status, day_answer_text}
 use Rattle.day_report.specs.declared.day_line.DayCounts.{DayCounts}
-use Rattle.day_sessions.specs.JudgedSessions.{AreSessionsOfDay, session_counts, session_lines}
+use Rattle.day_sessions.specs.JudgedSessions.{AreSessionsOfDay, told_by_sessions}
 use Rattle.day_symbols.specs.Shares.{symbols_in}
 use Rattle.day_symbols.specs.Symbols.{symbols_of_day}
 use Rattle.day_verdicts.specs.declared.day_verdicts.JudgedSymbols.{JudgedSymbols}
-use Rattle.day_verdicts.specs.DayVerdicts.{counts_of, day_lines_of}
+use Rattle.day_verdicts.specs.DayVerdicts.{told_of_symbols}
+use Rattle.day_verdicts.specs.ToldSymbols.{counts_of, day_lines_of, Told, TellsSymbols}
 use Rattle.desk_words.specs.declared.requests.DeskRequest.{DeskRequest}
 use Rattle.desk_words.specs.declared.requests.DeskRequest.TheVariants.{Audit, Session}
 use Rattle.log_source.specs.Sinks.{SinkState}
@@ -29,7 +30,7 @@ use Rattle.log_verdict.specs.LogVerdicts.{Log, log_in, records_of_order_log, tra
 use Rattle.log_verdict.specs.Steps.{Reading}
 use Rattle.session_audit.specs.Texts.{phases_text}
 use Rattle.desk_run.specs.Requests.{day_question, desk_command_of, IsDayAnswer, share_or_whole}
-use Rattle.desk_run.specs.TopCall.{AnswersDay, AnswersDayOfPhases, AnswersDayOfRule, logs_named, WroteDay, WroteSessions, WroteSymbols, WroteVerdict, WroteVerdicts}
+use Rattle.desk_run.specs.TopCall.{AnswersDay, AnswersDayOfPhases, AnswersDayOfRule, logs_named, WroteDay, WroteSessions, WroteSymbols, WroteTold, WroteVerdict, WroteVerdicts}
 
 -- counts and lines that are these, by what is written of them
 same_symbols : (judged : JudgedSymbols) (counts : DayCounts) (lines judged_by : List ℕ) (old new : SinkState) (status : Status) → judged.counts ≡ counts → judged.lines.items ≡ lines
@@ -37,6 +38,12 @@ same_symbols : (judged : JudgedSymbols) (counts : DayCounts) (lines judged_by : 
 same_symbols judged counts lines judged_by old new status counts_are lines_are =
     subst (λ (c : DayCounts). WroteSymbols judged.counts judged_by judged.lines.items old new status → WroteSymbols c judged_by lines old new status) counts_are
     (subst (λ (l : List ℕ). WroteSymbols judged.counts judged_by judged.lines.items old new status → WroteSymbols judged.counts judged_by l old new status) lines_are (λ w. w))
+
+-- what is told of symbols, by what is written of it
+same_told : (symbols : List (List ℕ)) (told : List Told) (judged : JudgedSymbols) (judged_by : List ℕ) (old new : SinkState) (status : Status) → TellsSymbols symbols told judged
+    → WroteSymbols judged.counts judged_by judged.lines.items old new status → WroteTold symbols told judged_by old new status
+same_told symbols told judged judged_by old new status tells written =
+    same_symbols judged (counts_of told) (day_lines_of symbols told) judged_by old new status tells.counts_are tells.lines_are written
 
 -- a command that makes its whole answer first wrote nothing where memory ran out
 memory-whole : (early : Bool) (command : Command) (logs : List (List ℕ)) (old new : SinkState) (status : Status) → early ≡ false → RunsOutBefore early command logs old new status → RunsOutOfMemory old new status
@@ -116,27 +123,27 @@ pub answers_day : (asked : Option DeskRequest) (r : Reading) (old new : SinkStat
 answers_day asked r old new status answers = record { of_rule = of_rule; of_phases = of_phases }
   where
     of_rule : AnswersDayOfRule asked r old new status
-    of_rule rule table share orders trades to_judge known nothing_fails =
-        let q = day_question rule table share in
+    of_rule rule table share checks orders trades to_judge known nothing_fails =
+        let q = day_question rule table share checks in
         wrote_day (AreVerdictsOfDay q) (rule_word rule) old new status (WroteVerdicts q old new status)
         (λ entries judged day_trades is written. record {
           verdicts = is.verdicts;
           verdicts_are = is.verdicts_are;
-          wrote = same_symbols judged (counts_of is.verdicts) (day_lines_of (symbols_in q.share (symbols_of_day entries day_trades)) is.verdicts) (rule_word rule) old new status is.counts_are is.lines_are written;
+          wrote = same_told (symbols_in q.share (symbols_of_day entries day_trades)) (told_of_symbols checks entries day_trades (symbols_in q.share (symbols_of_day entries day_trades)) is.verdicts) judged (rule_word rule) old new status is.tells written;
         })
-        r (desk_command_of (Audit rule (logs_named orders trades to_judge.orders_name to_judge.trades_name) table share)) orders trades to_judge.orders_name to_judge.trades_name
+        r (desk_command_of (Audit rule (logs_named orders trades to_judge.orders_name to_judge.trades_name) table share checks)) orders trades to_judge.orders_name to_judge.trades_name
         to_judge.holds_orders to_judge.holds_trades known nothing_fails refl (λ bytes. refl) (λ bytes text is. is)
         (subst (λ (x : Option DeskRequest). AnswersHeldLogs desk_command_of x r old new status) to_judge.words answers)
 
     of_phases : AnswersDayOfPhases asked r old new status
-    of_phases phases table share orders trades to_judge known nothing_fails =
-        wrote_day (AreSessionsOfDay phases table (share_or_whole share)) (phases_text phases) old new status (WroteSessions phases table (share_or_whole share) old new status)
+    of_phases phases table share checks orders trades to_judge known nothing_fails =
+        wrote_day (AreSessionsOfDay phases table checks (share_or_whole share)) (phases_text phases) old new status (WroteSessions phases table checks (share_or_whole share) old new status)
         (λ entries judged day_trades is written. record {
           sessions = is.sessions;
           sessions_are = is.sessions_are;
-          wrote = same_symbols judged (session_counts is.sessions) (session_lines (symbols_in (share_or_whole share) (symbols_of_day entries day_trades)) is.sessions) (phases_text phases) old new status
-              is.counts_are is.lines_are written;
+          wrote = same_told (symbols_in (share_or_whole share) (symbols_of_day entries day_trades)) (told_by_sessions checks entries day_trades (symbols_in (share_or_whole share) (symbols_of_day entries day_trades)) is.sessions) judged
+              (phases_text phases) old new status is.tells written;
         })
-        r (desk_command_of (Session phases (logs_named orders trades to_judge.orders_name to_judge.trades_name) table share)) orders trades to_judge.orders_name to_judge.trades_name
+        r (desk_command_of (Session phases (logs_named orders trades to_judge.orders_name to_judge.trades_name) table share checks)) orders trades to_judge.orders_name to_judge.trades_name
         to_judge.holds_orders to_judge.holds_trades known nothing_fails refl (λ bytes. refl) (λ bytes text is. is)
         (subst (λ (x : Option DeskRequest). AnswersHeldLogs desk_command_of x r old new status) to_judge.words answers)

@@ -3,5 +3,6 @@ mod DayLemmas
 mod DigestLemmas
 mod GeneratedLemmas
 mod HeadlineLemmas
+mod OffenceLemmas
 mod PlainLemmas
 mod WrittenLemmas

@@ -1,12 +1,14 @@
--- What is asked of two logs of a day.
+-- What is asked of two logs.
 use Rattle.std.specs.Prelude.{Bool, List, Some}
 use Rattle.day_logs.specs.declared.answers.DayQuestion.{DayQuestion}
 use Rattle.day_symbols.specs.Shares.{DayShare}
 use Rattle.desk_words.specs.declared.requests.DayLogs.{DayLogs}
 use Rattle.desk_words.specs.declared.requests.DeskRequest.{DeskRequest}
-use Rattle.desk_words.specs.declared.requests.DeskRequest.TheVariants.{Audit, Session}
+use Rattle.desk_words.specs.declared.requests.DeskRequest.TheVariants.{Audit, Offences, Session}
+use Rattle.further_checks.specs.declared.findings.FurtherChecks.{FurtherChecks}
 use Rattle.log_verdict.specs.declared.sources.Source.{Source}
 use Rattle.session_audit.specs.declared.phases.Phase.{Phase}
+use Rattle.symbol_offences.specs.declared.questions.OffenceQuestion.{OffenceQuestion}
 
 -- the logs that these sources name
 abbrev pub logs_of : Source → Source → DayLogs
@@ -19,9 +21,16 @@ logs_of orders trades = record {
 
 -- the request to judge a day of these logs by a rule
 abbrev pub request_by_rule : DayQuestion → Source → Source → DeskRequest
-request_by_rule q orders trades = Audit q.rule (logs_of orders trades) q.table (Some q.share)
+request_by_rule q orders trades =
+    Audit q.rule (logs_of orders trades) q.table (Some q.share) q.checks
 
 -- the request to judge a day of these logs by phases
-abbrev pub request_by_phases : List Phase → Bool → DayShare → Source → Source → DeskRequest
-request_by_phases phases table share orders trades =
-    Session phases (logs_of orders trades) table (Some share)
+abbrev pub request_by_phases : List Phase → Bool → FurtherChecks → DayShare → Source → Source
+    → DeskRequest
+request_by_phases phases table checks share orders trades =
+    Session phases (logs_of orders trades) table (Some share) checks
+
+-- the request to tell the offences of a symbol in these logs
+abbrev pub request_for_offences : OffenceQuestion → Source → Source → DeskRequest
+request_for_offences q orders trades =
+    Offences q.rule q.symbol (logs_of orders trades) q.records q.checks

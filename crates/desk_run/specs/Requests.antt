@@ -17,13 +17,16 @@ use Rattle.day_logs.specs.DayAnswerTexts.{day_answer_status, day_answer_text}
 use Rattle.day_sessions.specs.JudgedSessions.{AreSessionsOfDay}
 use Rattle.day_symbols.specs.Shares.{DayShare, whole_day}
 use Rattle.desk_words.specs.declared.requests.DeskRequest.{DeskRequest}
-use Rattle.desk_words.specs.declared.requests.DeskRequest.TheVariants.{Audit, Session, Digest, Orders as GeneratedOrders, Convert, Plain, Contents, Help, Version}
+use Rattle.desk_words.specs.declared.requests.DeskRequest.TheVariants.{Audit, Session, Offences, Digest, Orders as GeneratedOrders, Convert, Plain, Contents, Help, Version}
 use Rattle.desk_run.specs.Contents.{IsContentsAnswer}
 use Rattle.desk_words.specs.Texts.{help_text, version_text}
+use Rattle.further_checks.specs.declared.findings.FurtherChecks.{FurtherChecks}
 use Rattle.log_digests.specs.DigestLines.{digest_text}
 use Rattle.log_digests.specs.Digests.{digest_of}
 use Rattle.log_verdict.specs.LogVerdicts.{Log, log_in}
 use Rattle.session_audit.specs.Texts.{phases_text}
+use Rattle.symbol_offences.specs.declared.questions.OffenceQuestion.{OffenceQuestion}
+use Rattle.symbol_offences.specs.OffenceAnswers.{IsOffencesAnswer}
 use Rattle.desk_run.specs.PlainAnswers.{day_reading, IsPlainAnswer}
 use Rattle.desk_run.specs.WrittenLogs.{IsGeneratedAnswer, IsWrittenLogAnswer}
 
@@ -33,18 +36,25 @@ share_or_whole None = whole_day
 share_or_whole (Some share) = share
 
 -- what is asked of a day by a rule
-abbrev pub day_question : Rule → Bool → Option DayShare → DayQuestion
-day_question rule table share =
-    record { rule = rule; table = table; share = share_or_whole share }
+abbrev pub day_question : Rule → Bool → Option DayShare → FurtherChecks → DayQuestion
+day_question rule table share checks =
+    record { rule = rule; table = table; checks = checks; share = share_or_whole share }
+
+-- what is asked of a symbol whose offences are told
+abbrev pub offence_question : Rule → List ℕ → Bool → FurtherChecks → OffenceQuestion
+offence_question rule symbol records checks =
+    record { rule = rule; symbol = symbol; records = records; checks = checks }
 
 -- the log that a command starts after those that it has read, whose bytes these are: its slot and
--- its name; nothing where it needs no more. `audit`, `session` and `contents` start both logs, the
--- trade log where the order log is good, `digest` both whatever is in them, `convert` its one log,
--- `plain` the day as the order log, `orders`, `help` and `--version` none
+-- its name; nothing where it needs no more. `audit`, `session`, `offences` and `contents` start both
+-- logs, the trade log where the order log is good, `digest` both whatever is in them, `convert` its
+-- one log, `plain` the day as the order log, `orders`, `help` and `--version` none
 abbrev pub next_desk_log : DeskRequest → List (List ℕ) → Option (Which × List ℕ)
-next_desk_log (Audit rule logs table share) bytes =
+next_desk_log (Audit rule logs table share checks) bytes =
     next_of_both_logs logs.orders logs.trades logs.orders_form bytes
-next_desk_log (Session phases logs table share) bytes =
+next_desk_log (Session phases logs table share checks) bytes =
+    next_of_both_logs logs.orders logs.trades logs.orders_form bytes
+next_desk_log (Offences rule symbol logs records checks) bytes =
     next_of_both_logs logs.orders logs.trades logs.orders_form bytes
 next_desk_log (Digest orders trades) bytes = next_of_any_two_logs orders trades bytes
 next_desk_log (GeneratedOrders start count form) bytes = None
@@ -64,17 +74,21 @@ pub record IsDayAnswer (meaning : DayMeaning) (judged_by : List ℕ) (orders tra
   pub answer : IsAnswerWith (day_answer_status day) (day_answer_text judged_by day) status text
 
 -- what a command answers to the logs that it has read, its status and its text: to `audit` and
--- `session` that of the day, of the symbols of the share that is asked for; to `digest` the
--- digests of both logs; to `orders` the generated log; to `convert` the records of the log in the
--- second form; to `plain` the messages of the day; to `contents` what is in both logs; to `help`
--- and `--version` a text of their own
+-- `session` that of the day, of the symbols of the share that is asked for; to `offences` every
+-- offence of the symbol; to `digest` the digests of both logs; to `orders` the generated log; to
+-- `convert` the records of the log in the second form; to `plain` the messages of the day; to
+-- `contents` what is in both logs; to `help` and `--version` a text of their own
 abbrev pub IsDeskAnswer : DeskRequest → List (List ℕ) → Status → List ℕ → Type 0
-IsDeskAnswer (Audit rule logs table share) bytes status text =
-    IsDayAnswer (AreVerdictsOfDay (day_question rule table share)) (rule_word rule)
+IsDeskAnswer (Audit rule logs table share checks) bytes status text =
+    IsDayAnswer (AreVerdictsOfDay (day_question rule table share checks)) (rule_word rule)
     (log_in logs.orders_form (log_read_at bytes 0))
     (log_in logs.trades_form (log_read_at bytes 1)) status text
-IsDeskAnswer (Session phases logs table share) bytes status text =
-    IsDayAnswer (AreSessionsOfDay phases table (share_or_whole share)) (phases_text phases)
+IsDeskAnswer (Session phases logs table share checks) bytes status text =
+    IsDayAnswer (AreSessionsOfDay phases table checks (share_or_whole share)) (phases_text phases)
+    (log_in logs.orders_form (log_read_at bytes 0))
+    (log_in logs.trades_form (log_read_at bytes 1)) status text
+IsDeskAnswer (Offences rule symbol logs records checks) bytes status text =
+    IsOffencesAnswer (offence_question rule symbol records checks)
     (log_in logs.orders_form (log_read_at bytes 0))
     (log_in logs.trades_form (log_read_at bytes 1)) status text
 IsDeskAnswer (Digest orders trades) bytes status text =
@@ -95,8 +109,9 @@ IsDeskAnswer Version bytes status text = IsAnswerWith Accepted version_text stat
 -- whether a command writes its text while it makes it: `plain`, whose text is as long as the day,
 -- and `orders`, whose text may be longer than memory is to be
 abbrev pub writes_while_reading : DeskRequest → Bool
-writes_while_reading (Audit rule logs table share) = false
-writes_while_reading (Session phases logs table share) = false
+writes_while_reading (Audit rule logs table share checks) = false
+writes_while_reading (Session phases logs table share checks) = false
+writes_while_reading (Offences rule symbol logs records checks) = false
 writes_while_reading (Digest orders trades) = false
 writes_while_reading (GeneratedOrders start count form) = true
 writes_while_reading (Convert log from path into) = false

@@ -17,14 +17,16 @@ use Rattle.command_run.specs.Runs.{AnswersHeldLogs, AnswersTooLong, AnswersWithC
 use Rattle.day_logs.specs.declared.answers.DayQuestion.{DayQuestion}
 use Rattle.day_report.specs.declared.day_line.DayCounts.{DayCounts}
 use Rattle.day_report.specs.DayTexts.{day_line}
-use Rattle.day_sessions.specs.JudgedSessions.{AreSessions, session_counts, session_lines}
+use Rattle.day_sessions.specs.JudgedSessions.{AreSessions, told_by_sessions}
 use Rattle.day_symbols.specs.Shares.{DayShare, symbols_in}
 use Rattle.day_symbols.specs.Symbols.{symbols_of_day}
-use Rattle.day_verdicts.specs.DayVerdicts.{AreVerdicts, counts_of, day_lines_of}
+use Rattle.day_verdicts.specs.DayVerdicts.{AreVerdicts, told_of_symbols}
+use Rattle.day_verdicts.specs.ToldSymbols.{counts_of, day_lines_of, Told}
 use Rattle.desk_words.specs.declared.requests.DayLogs.{DayLogs}
 use Rattle.desk_words.specs.declared.requests.DeskRequest.{DeskRequest}
 use Rattle.desk_words.specs.declared.requests.DeskRequest.TheVariants.{Audit, Session}
 use Rattle.desk_words.specs.Texts.{desk_usage_line}
+use Rattle.further_checks.specs.declared.findings.FurtherChecks.{FurtherChecks}
 use Rattle.log_source.specs.declared.shelf.Shelf.{Ghosts as Shelf}
 use Rattle.log_source.specs.Sinks.{SinkState, SinkStays}
 use Rattle.log_source.specs.Sources.{longest_read}
@@ -74,26 +76,37 @@ WroteSymbols counts judged_by lines old new status =
     Wrote (if nat_lt 0 counts.rejected then Rejected else Accepted)
     (day_line counts judged_by ++ lines) old new status
 
+-- exactly what is told of these symbols was written
+abbrev pub WroteTold : List (List ℕ) → List Told → List ℕ → SinkState → SinkState → Status → Type 0
+WroteTold symbols told judged_by old new status =
+    WroteSymbols (counts_of told) judged_by (day_lines_of symbols told) old new status
+
 -- The text of the verdicts on the symbols of the share was written, in their order: of each the
--- lines of the verdict on it alone over these records, with the symbol and a comma before each.
+-- lines of the verdict on it alone over these records, with the symbol and a comma before each; or
+-- where that accepts it and a further check that is asked for does not, the lines of its finding.
 pub record WroteVerdicts (q : DayQuestion) (old new : SinkState) (status : Status)
     (entries : List OrderRecord) (trades : List TradeRecord) : Type 0 where
   pub verdicts : List Verdict
   pub verdicts_are : AreVerdicts q.rule q.table entries trades
       (symbols_in q.share (symbols_of_day entries trades)) verdicts
-  pub wrote : WroteSymbols (counts_of verdicts) (rule_word q.rule)
-      (day_lines_of (symbols_in q.share (symbols_of_day entries trades)) verdicts) old new status
+  pub wrote : WroteTold (symbols_in q.share (symbols_of_day entries trades))
+      (told_of_symbols q.checks entries trades
+      (symbols_in q.share (symbols_of_day entries trades)) verdicts)
+      (rule_word q.rule) old new status
 
 -- The text of the sessions of the symbols of the share was written, in their order: of each the
--- lines of its session alone over these records, with the symbol and a comma before each.
-pub record WroteSessions (phases : List Phase) (table : Bool) (share : DayShare)
-    (old new : SinkState) (status : Status) (entries : List OrderRecord)
+-- lines of its session alone over these records, with the symbol and a comma before each; or where
+-- that conforms and a further check that is asked for does not, the lines of its finding.
+pub record WroteSessions (phases : List Phase) (table : Bool) (checks : FurtherChecks)
+    (share : DayShare) (old new : SinkState) (status : Status) (entries : List OrderRecord)
     (trades : List TradeRecord) : Type 0 where
   pub sessions : List SymbolSession
   pub sessions_are : AreSessions phases table entries trades
       (symbols_in share (symbols_of_day entries trades)) sessions
-  pub wrote : WroteSymbols (session_counts sessions) (phases_text phases)
-      (session_lines (symbols_in share (symbols_of_day entries trades)) sessions) old new status
+  pub wrote : WroteTold (symbols_in share (symbols_of_day entries trades))
+      (told_by_sessions checks entries trades
+      (symbols_in share (symbols_of_day entries trades)) sessions)
+      (phases_text phases) old new status
 
 -- of two logs was written what their records say; where the reports of the trade log do not pair
 -- finding 4 alone, of no symbol; where a log is out of its grammar its first bad place
@@ -111,10 +124,10 @@ WroteDay of_records orders trades old new status =
 abbrev pub AnswersDayOfRule : Option DeskRequest → Reading → SinkState → SinkState → Status
     → Type 0
 AnswersDayOfRule asked r old new status = (rule : Rule) (table : Bool) (share : Option DayShare)
-    (orders trades : Log)
-    → IsToJudgeDay (λ logs. Audit rule logs table share) asked r orders trades
+    (checks : FurtherChecks) (orders trades : Log)
+    → IsToJudgeDay (λ logs. Audit rule logs table share checks) asked r orders trades
     → IsKnown r old → NothingFails r old new
-    → WroteDay (WroteVerdicts (day_question rule table share) old new status) orders trades
+    → WroteDay (WroteVerdicts (day_question rule table share checks) old new status) orders trades
     old new status
     ⊎ RunsOutOfMemory old new status
 
@@ -122,11 +135,11 @@ AnswersDayOfRule asked r old new status = (rule : Rule) (table : Bool) (share : 
 abbrev pub AnswersDayOfPhases : Option DeskRequest → Reading → SinkState → SinkState → Status
     → Type 0
 AnswersDayOfPhases asked r old new status = (phases : List Phase) (table : Bool)
-    (share : Option DayShare) (orders trades : Log)
-    → IsToJudgeDay (λ logs. Session phases logs table share) asked r orders trades
+    (share : Option DayShare) (checks : FurtherChecks) (orders trades : Log)
+    → IsToJudgeDay (λ logs. Session phases logs table share checks) asked r orders trades
     → IsKnown r old → NothingFails r old new
-    → WroteDay (WroteSessions phases table (share_or_whole share) old new status) orders trades
-    old new status
+    → WroteDay (WroteSessions phases table checks (share_or_whole share) old new status)
+    orders trades old new status
     ⊎ RunsOutOfMemory old new status
 
 -- The headline: exactly the text of a day is written, of a rule and of phases.

@@ -14,6 +14,7 @@ use super::contents::answer_contents;
 use super::converting::answer_convert;
 use super::days::{answer_audit, answer_session};
 use super::digests::answer_digest;
+use super::offences::answer_offences;
 use super::program::Desk;
 use super::sources::{day_source, share_asked};
 use audit_base::faults::NoMemory;
@@ -27,6 +28,7 @@ use log_source::shelf::Shelf;
 use log_verdict::stops::Stop;
 use seeded_hash::seed::HashSeed;
 use std::alloc::Global;
+use symbol_offences::questions::OffenceQuestion;
 
 /// The answer to `help`, or to `help` and a command.
 fn answer_help(alloc: Global, about: Option<DeskCommand>) -> Result<Answer, NoMemory>
@@ -69,10 +71,12 @@ pub(crate) fn answer_request<F: Shelf>(
             logs,
             table,
             share,
+            checks,
         } => {
             let question = DayQuestion {
                 rule: *rule,
                 table: *table,
+                checks: *checks,
                 share: share_asked(*share),
             };
             let orders = day_source(&logs.orders, logs.orders_form, seed);
@@ -84,6 +88,7 @@ pub(crate) fn answer_request<F: Shelf>(
             logs,
             table,
             share,
+            checks,
         } => {
             let share = share_asked(*share);
             let orders = day_source(&logs.orders, logs.orders_form, seed);
@@ -93,10 +98,28 @@ pub(crate) fn answer_request<F: Shelf>(
                 shelf,
                 phases.as_slice(),
                 *table,
+                *checks,
                 share,
                 &orders,
                 &trades,
             )
+        }
+        DeskRequest::Offences {
+            rule,
+            symbol,
+            logs,
+            records,
+            checks,
+        } => {
+            let question = OffenceQuestion {
+                rule: *rule,
+                symbol: *symbol,
+                records: *records,
+                checks: *checks,
+            };
+            let orders = day_source(&logs.orders, logs.orders_form, seed);
+            let trades = day_source(&logs.trades, logs.trades_form, seed);
+            answer_offences(alloc, shelf, &question, &orders, &trades)
         }
         DeskRequest::Digest { orders, trades } => answer_digest(alloc, shelf, orders, trades),
         DeskRequest::Orders { .. } | DeskRequest::Plain { .. } => unreachable!(),

@@ -19,6 +19,7 @@ use day_logs::answers::{DayAnswer, DayQuestion, verdicts_on};
 use day_logs::texts::{status_of_day, text_of_day};
 use day_sessions::answers::sessions_on;
 use day_symbols::shares::Share;
+use further_checks::findings::FurtherChecks;
 use log_source::shelf::Shelf;
 use log_verdict::sources::Source;
 use log_verdict::stops::Stop;
@@ -76,6 +77,7 @@ pub(crate) fn answer_session<F: Shelf>(
     shelf: &mut F,
     phases: &[Phase],
     table: bool,
+    checks: FurtherChecks,
     share: Share,
     orders: &Source<'_>,
     trades: &Source<'_>,
@@ -85,12 +87,12 @@ pub(crate) fn answer_session<F: Shelf>(
     ensures logs { KeepsShelfLogs F.Shelf shelf.old shelf.new }
     ensures later { FaultsNeverFall (reading_by orders.now F.Shelf shelf.old shelf.new) }
     ensures decides { DecidesAnswer (reading_by orders.now F.Shelf shelf.old shelf.new)
-        (desk_command_of (request_by_phases phases.now table share orders.now trades.now))
+        (desk_command_of (request_by_phases phases.now table checks share orders.now trades.now))
         result }
     ensures within { StaysWithin (reading_by orders.now F.Shelf shelf.old shelf.new) result }
 {
     both_logs_decide::<Desk, GivenSessions>();
-    match sessions_on(alloc, shelf, phases, table, share, orders, trades) {
+    match sessions_on(alloc, shelf, phases, table, checks, share, orders, trades) {
         Ok(day) => Ok(phases_answer(alloc, &day, phases)?),
         Err(stop) => Err(stop),
     }

@@ -24,8 +24,9 @@ times,trades,20240102-09:00:01,20240102-09:00:01
 ";
 
 /// A day of a rule, one of phases, and one whose order log is out of its grammar, so that the
-/// trade log is not started; digests, for which it is; and what is in two logs.
-const SHELF_ROWS: [ShelfRow; 5] = [
+/// trade log is not started; the offences of a symbol; digests, for which both logs are started; and
+/// what is in two logs.
+const SHELF_ROWS: [ShelfRow; 6] = [
     ShelfRow {
         row: Row {
             name: "a day of a rule",
@@ -64,6 +65,18 @@ const SHELF_ROWS: [ShelfRow; 5] = [
     },
     ShelfRow {
         row: Row {
+            name: "the offences of a symbol",
+            words: "offences matching Z orders trades --records",
+            orders: &ONE_TRADE_ORDERS,
+            trades: &ONE_TRADE,
+            status: 0,
+            report: "accepted,matching,Z\ntotals,2,1,100\n",
+        },
+        order_calls: 7,
+        calls: 13,
+    },
+    ShelfRow {
+        row: Row {
             name: "digests of two logs",
             words: "digest orders trades",
             orders: &["abc"],
@@ -91,7 +104,7 @@ sha256,trades,f544c800b95c6335be7ac53ba9a24b09ae0ef08fd8c1b0fc6fb07d6071dfbdfa
 ];
 
 /// A text of each status but that of a log that is too long.
-const SINK_ROWS: [Row; 7] = [
+const SINK_ROWS: [Row; 8] = [
     Row {
         name: "a day of no symbol",
         words: "audit matching orders trades",
@@ -114,13 +127,24 @@ Z,order,3,buy,A,b1,10,10,11
 ",
     },
     Row {
+        name: "a symbol that is not there",
+        words: "offences matching z orders trades",
+        orders: &ONE_TRADE_ORDERS,
+        trades: &ONE_TRADE,
+        status: 1,
+        report: "absent,z\n",
+    },
+    Row {
         name: "words that are not well-formed",
         words: "audit best orders trades",
         orders: &[ORDERS],
         trades: &[TRADES],
         status: 2,
         report: "usage: audit RULE ORDERS TRADES | session PHASES ORDERS TRADES \
-                 | digest ORDERS TRADES | orders START COUNT \
+                 | offences RULE SYMBOL ORDERS TRADES | digest ORDERS TRADES \
+                 | file DATABASE LABEL RULE SYMBOL ORDERS TRADES \
+                 | file-all DATABASE LABEL RULE ORDERS TRADES \
+                 | check DATABASE LABEL ORDERS TRADES | orders START COUNT \
                  | convert orders|trades csv|fix PATH csv|fix \
                  | plain DAY | contents ORDERS TRADES | help [COMMAND]\n",
     },

@@ -6,7 +6,7 @@ use log_source::endless_shelf::EndlessShelf;
 use std::alloc::Global;
 use std::test::Fail;
 
-const WORDS: [&str; 36] = [
+const WORDS: [&str; 41] = [
     "",
     "audit",
     "audit matching",
@@ -25,6 +25,11 @@ const WORDS: [&str; 36] = [
     "session orders trades",
     "session uniform@2 orders trades",
     "session uniform@1 orders trades --table --table",
+    "offences",
+    "offences matching orders trades",
+    "offences matching Z orders trades --table",
+    "offences matching Z orders trades --resting-price",
+    "offences matching Z orders trades --records --records",
     "digest",
     "digest orders",
     "digest orders trades --table",
@@ -68,6 +73,7 @@ fn check_helps(alloc: Global) -> Result<(), RowFault> {
     check_help(alloc, "--help", None)?;
     check_help(alloc, "help audit", Some(DeskCommand::Audit))?;
     check_help(alloc, "help session", Some(DeskCommand::Session))?;
+    check_help(alloc, "help offences", Some(DeskCommand::Offences))?;
     check_help(alloc, "help digest", Some(DeskCommand::Digest))?;
     check_help(alloc, "help orders", Some(DeskCommand::Orders))?;
     check_help(alloc, "help convert", Some(DeskCommand::Convert))?;

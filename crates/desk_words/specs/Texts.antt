@@ -7,7 +7,11 @@ use Rattle.desk_words.specs.declared.commands.DeskCommand.TheVariants as command
 -- how the command line is used
 abbrev pub desk_usage_line : List ℕ
 desk_usage_line = codes "usage: audit RULE ORDERS TRADES"
-    ++ codes " | session PHASES ORDERS TRADES" ++ codes " | digest ORDERS TRADES"
+    ++ codes " | session PHASES ORDERS TRADES"
+    ++ codes " | offences RULE SYMBOL ORDERS TRADES" ++ codes " | digest ORDERS TRADES"
+    ++ codes " | file DATABASE LABEL RULE SYMBOL ORDERS TRADES"
+    ++ codes " | file-all DATABASE LABEL RULE ORDERS TRADES"
+    ++ codes " | check DATABASE LABEL ORDERS TRADES"
     ++ codes " | orders START COUNT" ++ codes " | convert orders|trades csv|fix PATH csv|fix"
     ++ codes " | plain DAY" ++ codes " | contents ORDERS TRADES" ++ codes " | help [COMMAND]"
     ++ 10 ∷ []
@@ -32,6 +36,10 @@ audit_help = text_of_lines (
     ∷ codes "                        continuous, each pair of orders; not with matching or fair"
     ∷ codes "    --share K/N         judges only the symbols with the numbers K, K + N, K + 2N and"
     ∷ codes "                        so on, counted from 1 as they appear; 1 <= K <= N <= 65536"
+    ∷ codes "    --trade-times       rejects an accepted symbol at its first trade that is earlier than"
+    ∷ codes "                        the record of its bid or of its ask"
+    ∷ codes "    --resting-price     rejects it at its first trade with another price than the limit of"
+    ∷ codes "                        the order that came first; only with continuous"
     ∷ codes "    Example: desk audit uniform orders.csv trades.csv --share 1/4"
     ∷ [])
 
@@ -51,7 +59,29 @@ session_help = text_of_lines (
     ∷ codes "    --table             adds what each order of an accepted symbol traded over the day"
     ∷ codes "    --share K/N         judges only the symbols with the numbers K, K + N, K + 2N and"
     ∷ codes "                        so on, counted from 1 as they appear; 1 <= K <= N <= 65536"
+    ∷ codes "    --trade-times       rejects an accepted symbol at its first trade that is earlier than"
+    ∷ codes "                        the record of its bid or of its ask"
     ∷ codes "    Example: desk session uniform@1,continuous@5001 orders.csv trades.csv"
+    ∷ [])
+
+-- what `offences` does, with its words, its options and an example
+unfoldable pub offences_help : List ℕ
+offences_help = text_of_lines (
+    codes "offences RULE SYMBOL ORDERS TRADES"
+    ∷ codes "    Judges the trades of one symbol by a rule, and writes the report of an audit. Where"
+    ∷ codes "    it is rejected, a line follows for each offence, and one with their number."
+    ∷ codes "    RULE                matching, fair, uniform, maximum or continuous"
+    ∷ codes "    SYMBOL              the symbol, as the logs have it"
+    ∷ codes "    ORDERS              the path of the order log"
+    ∷ codes "    TRADES              the path of the trade log"
+    ∷ codes "    --orders-form FORM  the form of the order log: csv, as without it, or fix"
+    ∷ codes "    --trades-form FORM  the form of the trade log: csv, as without it, or fix"
+    ∷ codes "    --records           writes behind each offence the records that it is about, as CSV"
+    ∷ codes "    --resting-price     with continuous, where the rule accepts: tells each trade whose"
+    ∷ codes "                        price is not the limit of its resting order"
+    ∷ codes "    --trade-times       where the rule accepts: tells each trade that is earlier than"
+    ∷ codes "                        the record of one of its orders"
+    ∷ codes "    Example: desk offences continuous Z orders.csv trades.csv --records"
     ∷ [])
 
 -- what `digest` does, with its words and an example
@@ -64,6 +94,58 @@ digest_help = text_of_lines (
     ∷ codes "    ORDERS              the path of the order log"
     ∷ codes "    TRADES              the path of the trade log"
     ∷ codes "    Example: desk digest orders.csv trades.csv"
+    ∷ [])
+
+-- what `file` does, with its words, its options and an example
+unfoldable pub file_help : List ℕ
+file_help = text_of_lines (
+    codes "file DATABASE LABEL RULE SYMBOL ORDERS TRADES"
+    ∷ codes "    Files the verdict of a rule on a symbol under a label, with the SHA-256 digests of"
+    ∷ codes "    both logs, and writes its line. Where the label has a case, known and that case's"
+    ∷ codes "    line are written, and nothing is filed."
+    ∷ codes "    DATABASE            the path of the database; it is made if it is not there"
+    ∷ codes "    LABEL               the label: 1 to 64 bytes, not begun by -, and not the word then"
+    ∷ codes "    RULE                matching, fair, uniform, maximum or continuous"
+    ∷ codes "    SYMBOL              the symbol"
+    ∷ codes "    ORDERS              the path of the order log"
+    ∷ codes "    TRADES              the path of the trade log"
+    ∷ codes "    --orders-form FORM  the form of the order log: csv, as without it, or fix"
+    ∷ codes "    --trades-form FORM  the form of the trade log: csv, as without it, or fix"
+    ∷ codes "    Example: desk file cases.db c1 uniform Z orders.csv trades.csv"
+    ∷ [])
+
+-- what `file-all` does, with its words, its options and an example
+unfoldable pub file_all_help : List ℕ
+file_all_help = text_of_lines (
+    codes "file-all DATABASE LABEL RULE ORDERS TRADES"
+    ∷ codes "    Files the verdict of a rule on each symbol of a day, under LABEL/SYMBOL, as file"
+    ∷ codes "    does, and writes their lines: all of them, or none where one of the labels has a"
+    ∷ codes "    case or would have more than 64 bytes (longlabel)."
+    ∷ codes "    DATABASE            the path of the database; it is made if it is not there"
+    ∷ codes "    LABEL               what the labels begin with, as a label of file"
+    ∷ codes "    RULE                matching, fair, uniform, maximum or continuous"
+    ∷ codes "    ORDERS              the path of the order log"
+    ∷ codes "    TRADES              the path of the trade log"
+    ∷ codes "    --orders-form FORM  the form of the order log: csv, as without it, or fix"
+    ∷ codes "    --trades-form FORM  the form of the trade log: csv, as without it, or fix"
+    ∷ codes "    Example: desk file-all cases.db 2024-01-02 uniform orders.csv trades.csv"
+    ∷ [])
+
+-- what `check` does, with its words, its options and an example
+unfoldable pub check_help : List ℕ
+check_help = text_of_lines (
+    codes "check DATABASE LABEL ORDERS TRADES"
+    ∷ codes "    Audits two logs by the rule and on the symbol of a case, and tells whether they are"
+    ∷ codes "    its logs: same, or differs with the first of orders, trades and verdict that does."
+    ∷ codes "    nodigest is a case that was filed by casebook, and nocase a label that has none."
+    ∷ codes "    Each log is read twice, so it must be in a file."
+    ∷ codes "    DATABASE            the path of the database; none is made"
+    ∷ codes "    LABEL               the label of the case"
+    ∷ codes "    ORDERS              the path of the order log"
+    ∷ codes "    TRADES              the path of the trade log"
+    ∷ codes "    --orders-form FORM  the form of the order log: csv, as without it, or fix"
+    ∷ codes "    --trades-form FORM  the form of the trade log: csv, as without it, or fix"
+    ∷ codes "    Example: desk check cases.db c1 orders.csv trades.csv"
     ∷ [])
 
 -- what `orders` does, with its words, its option and an example
@@ -124,9 +206,10 @@ contents_help = text_of_lines (
 unfoldable pub help_help : List ℕ
 help_help = text_of_lines (
     codes "help [COMMAND]"
-    ∷ codes "    Writes what each command does, or what COMMAND does: audit, session, digest,"
-    ∷ codes "    orders, convert, plain, contents or help. --help alone does as help, and"
-    ∷ codes "    --version writes the version of the program and the kit that it is proved with."
+    ∷ codes "    Writes what each command does, or what COMMAND does: audit, session, offences,"
+    ∷ codes "    digest, file, file-all, check, orders, convert, plain, contents or help. --help"
+    ∷ codes "    alone does as help, and --version writes the version of the program and the kit"
+    ∷ codes "    that it is proved with."
     ∷ codes "    Example: desk help audit"
     ∷ [])
 
@@ -134,17 +217,30 @@ help_help = text_of_lines (
 abbrev pub command_help : DeskCommand → List ℕ
 command_help command.Audit = audit_help
 command_help command.Session = session_help
+command_help command.Offences = offences_help
 command_help command.Digest = digest_help
+command_help command.File = file_help
+command_help command.FileAll = file_all_help
+command_help command.Check = check_help
 command_help command.Orders = orders_help
 command_help command.Convert = convert_help
 command_help command.Plain = plain_help
 command_help command.Contents = contents_help
 command_help command.Help = help_help
 
+-- what each command about logs and cases does, with an empty line between two
+abbrev pub judging_help : List ℕ
+judging_help = audit_help ++ 10 ∷ session_help ++ 10 ∷ offences_help ++ 10 ∷ digest_help
+    ++ 10 ∷ file_help ++ 10 ∷ file_all_help ++ 10 ∷ check_help
+
+-- the same of each command that writes or reads logs, and judges none, and of `help`
+abbrev pub log_help : List ℕ
+log_help = orders_help ++ 10 ∷ convert_help ++ 10 ∷ plain_help ++ 10 ∷ contents_help
+    ++ 10 ∷ help_help
+
 -- what each command does, with an empty line between two
 abbrev pub whole_help : List ℕ
-whole_help = audit_help ++ 10 ∷ session_help ++ 10 ∷ digest_help ++ 10 ∷ orders_help
-    ++ 10 ∷ convert_help ++ 10 ∷ plain_help ++ 10 ∷ contents_help ++ 10 ∷ help_help
+whole_help = judging_help ++ 10 ∷ log_help
 
 -- what is written for `help`, or for `help` and a command
 abbrev pub help_text : Option DeskCommand → List ℕ

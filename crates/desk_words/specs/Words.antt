@@ -10,23 +10,30 @@ use Rattle.session_audit.specs.Phases.{ArePhases}
 use Rattle.command_words.specs.declared.options.Options.{Options}
 use Rattle.command_words.specs.Options.{options_in, or_csv}
 use Rattle.command_words.specs.PhaseWords.{phases_named}
-use Rattle.command_words.specs.WordForms.{is_path, nth_word, rule_named, word_equals}
+use Rattle.command_words.specs.WordForms.{is_path, nth_word, rule_named, symbol_named, word_equals}
 use Rattle.command_words.specs.Words.{names_logs, when_both, when_some}
 use Rattle.desk_words.specs.declared.commands.DeskCommand.{DeskCommand}
 use Rattle.desk_words.specs.declared.commands.DeskCommand.TheVariants as command
+use Rattle.desk_words.specs.declared.commands.OffenceWords.{OffenceWords}
 use Rattle.desk_words.specs.declared.options.DeskOptions.{DeskOptions}
 use Rattle.desk_words.specs.declared.requests.DayLogs.{DayLogs}
 use Rattle.desk_words.specs.declared.requests.DeskRequest.{DeskRequest}
-use Rattle.desk_words.specs.declared.requests.DeskRequest.TheVariants.{Audit, Session, Digest, Orders, Convert, Plain, Contents, Help, Version}
+use Rattle.desk_words.specs.declared.requests.DeskRequest.TheVariants.{Audit, Session, Offences, Digest, Orders, Convert, Plain, Contents, Help, Version}
 use Rattle.desk_words.specs.DressWords.{dress_named, HasSohWord}
+use Rattle.desk_words.specs.FurtherWords.{checks_fit_rule}
 use Rattle.desk_words.specs.LogWords.{desk_convert_asked, orders_asked}
+use Rattle.desk_words.specs.OffenceWords.{options_under}
 use Rattle.desk_words.specs.Options.{desk_options_in}
 
 -- the command that a word names
 abbrev pub desk_command_named : List ℕ → Option DeskCommand
 desk_command_named word = first_answer (only_if (word_equals word (codes "audit")) command.Audit
     ∷ only_if (word_equals word (codes "session")) command.Session
+    ∷ only_if (word_equals word (codes "offences")) command.Offences
     ∷ only_if (word_equals word (codes "digest")) command.Digest
+    ∷ only_if (word_equals word (codes "file")) command.File
+    ∷ only_if (word_equals word (codes "file-all")) command.FileAll
+    ∷ only_if (word_equals word (codes "check")) command.Check
     ∷ only_if (word_equals word (codes "orders")) command.Orders
     ∷ only_if (word_equals word (codes "convert")) command.Convert
     ∷ only_if (word_equals word (codes "plain")) command.Plain
@@ -46,28 +53,54 @@ day_logs words place said = record {
 abbrev pub table_fits_rule : Bool → Rule → Bool
 table_fits_rule table the_rule = not table || has_table the_rule
 
--- RULE, and what the words after all others say as options, `--table` where the rule has one
+-- RULE, and what the words after all others say as options, `--table` where the rule has one and
+-- `--resting-price` where it is `continuous`
 abbrev pub rule_and_options : List ℕ → List (List ℕ) → Option (Rule × DeskOptions)
 rule_and_options word option_words =
     when_some (rule_named word) (λ the_rule.
     when_some (desk_options_in option_words) (λ said.
-    only_if (table_fits_rule said.common.table the_rule) (the_rule, said)))
+    only_if (table_fits_rule said.common.table the_rule && checks_fit_rule said.checks the_rule)
+    (the_rule, said)))
 
 -- `audit RULE ORDERS TRADES` and options
 abbrev pub desk_audit_asked : List (List ℕ) → Option DeskRequest
 desk_audit_asked words =
     if nat_le 4 (length words) && names_logs words 2 then
     when_both (rule_and_options (nth_word words 1) (drop 4 words)) (λ the_rule said.
-    Some (Audit the_rule (day_logs words 2 said.common) said.common.table said.share))
+    Some (Audit the_rule (day_logs words 2 said.common) said.common.table said.share
+    said.checks))
     else None
+
+-- what these words say as options of `session`, where no price of a resting order is asked for
+abbrev pub session_options_in : List (List ℕ) → Option DeskOptions
+session_options_in words =
+    when_some (desk_options_in words) (λ said. only_if (not said.checks.resting_price) said)
 
 -- `session PHASES ORDERS TRADES` and options
 abbrev pub desk_session_asked : List (List ℕ) → Option DeskRequest
 desk_session_asked words =
     if nat_le 4 (length words) && names_logs words 2 then
-    when_some (desk_options_in (drop 4 words)) (λ said.
+    when_some (session_options_in (drop 4 words)) (λ said.
     when_some (phases_named (nth_word words 1)) (λ phases.
-    Some (Session phases (day_logs words 2 said.common) said.common.table said.share)))
+    Some (Session phases (day_logs words 2 said.common) said.common.table said.share
+    said.checks)))
+    else None
+
+-- of `offences`, RULE, SYMBOL, and what the words after all others say as options by that rule
+abbrev pub offence_words : List (List ℕ) → Option OffenceWords
+offence_words words =
+    when_some (rule_named (nth_word words 1)) (λ the_rule.
+    when_some (symbol_named (nth_word words 2)) (λ symbol.
+    when_some (options_under the_rule (drop 5 words)) (λ said.
+    Some (record { rule = the_rule; symbol = symbol; said = said }))))
+
+-- `offences RULE SYMBOL ORDERS TRADES` and options
+abbrev pub offences_asked : List (List ℕ) → Option DeskRequest
+offences_asked words =
+    if nat_le 5 (length words) && names_logs words 3 then
+    when_some (offence_words words) (λ asked.
+    Some (Offences asked.rule asked.symbol (day_logs words 3 asked.said.forms)
+    asked.said.records asked.said.checks))
     else None
 
 -- `digest ORDERS TRADES`
@@ -102,16 +135,30 @@ help_asked words =
     when_some (desk_command_named (nth_word words 1)) (λ about. Some (Help (Some about)))
     else None)
 
--- what the words of a command ask for, one row a command
+-- what the words of a command ask for, one row a command; those of `file`, `file-all` and `check`
+-- ask for nothing here, since another call reads them (`filing_run`)
 abbrev pub desk_asked_by : DeskCommand → List (List ℕ) → Option DeskRequest
 desk_asked_by command.Audit words = desk_audit_asked words
 desk_asked_by command.Session words = desk_session_asked words
+desk_asked_by command.Offences words = offences_asked words
 desk_asked_by command.Digest words = digest_asked words
+desk_asked_by command.File words = None
+desk_asked_by command.FileAll words = None
+desk_asked_by command.Check words = None
 desk_asked_by command.Orders words = orders_asked words
 desk_asked_by command.Convert words = desk_convert_asked words
 desk_asked_by command.Plain words = plain_asked words
 desk_asked_by command.Contents words = contents_asked words
 desk_asked_by command.Help words = help_asked words
+
+-- a word names a command whose words another call reads (`filing_run`)
+abbrev pub is_filing_word : List ℕ → Bool
+is_filing_word word = word_equals word (codes "file") || word_equals word (codes "file-all")
+    || word_equals word (codes "check")
+
+-- the first of the words names such a command
+abbrev pub asks_filing : List (List ℕ) → Bool
+asks_filing words = is_filing_word (nth_word words 0)
 
 -- what a word asks for that is no command and is the only word: `--help`, as `help`,
 -- and `--version`
@@ -134,11 +181,13 @@ abbrev pub desk_request_of : List (List ℕ) → Option DeskRequest
 desk_request_of words = asked_by_first (desk_command_named (nth_word words 0)) words
 
 -- what well-formed words ask for is a table only of a rule that has one, phases that are those of
--- a day, a log of numbers in their limits, and a word of 1 to 5 bytes from 0x21 to 0x7E in the
--- place of SOH
+-- a day, the prices of resting orders only where there are such, a log of numbers in their limits,
+-- and a word of 1 to 5 bytes from 0x21 to 0x7E in the place of SOH
 abbrev pub MayBeAskedOfDesk : DeskRequest → Type 0
-MayBeAskedOfDesk (Audit rule logs table share) = IsTrue (table_fits_rule table rule)
-MayBeAskedOfDesk (Session phases logs table share) = ArePhases phases
+MayBeAskedOfDesk (Audit rule logs table share checks) = IsTrue (table_fits_rule table rule)
+MayBeAskedOfDesk (Session phases logs table share checks) = ArePhases phases
+MayBeAskedOfDesk (Offences rule symbol logs records checks) =
+    IsTrue (checks_fit_rule checks rule)
 MayBeAskedOfDesk (Digest orders trades) = Unit {0}
 MayBeAskedOfDesk (Orders start count form) = IsStart start × IsCount count
 MayBeAskedOfDesk (Convert log from path into) = Unit {0}

@@ -1,21 +1,25 @@
 //! The words of each command. The first word names the command. A function gives the request
 //! where the words after it are those of its command, and nothing, with no memory taken, where
 //! they are not.
-ghost use Rattle.std.specs.Prelude.{◌≡◌, ◌+◌, ◌<◌, length, map, IfOk, IfSome, IsErr, IsSome, IsTrue};
+ghost use Rattle.std.specs.Prelude.{◌≡◌, ◌+◌, ◌<◌, ◌≤◌, length, map, IfOk, IfSome, IsErr, IsSome, IsTrue};
 ghost use Rattle.std.specs.String.{string_bytes};
 ghost use Rattle.command_words.specs.WordForms.{nth_word};
+ghost use Rattle.desk_words.specs.FurtherWords.{checks_fit_rule};
 ghost use Rattle.desk_words.specs.Words as spec;
 
 use super::dress_words::dress_named;
+use super::further_words::checks_fit_rule;
 use super::log_words::{desk_convert_request, orders_request};
+use super::offence_words::{OffenceOptions, options_under};
 use super::options::{DeskOptions, desk_options_in};
 use super::requests::{DayLogs, DeskRequest};
 use audit_base::faults::NoMemory;
+use audit_base::names::Name;
 use audit_base::terms::Rule;
 use command_words::options::{Options, options_in, or_csv};
 use command_words::paths::{LogPaths, log_paths, names_logs, path_of};
 use command_words::phase_words::phases_named;
-use command_words::word_forms::{is_path, is_word, rule_named, word_at};
+use command_words::word_forms::{is_path, is_word, rule_named, symbol_named, word_at};
 use std::alloc::Global;
 
 /// The commands, each with a word of its own.
@@ -23,7 +27,11 @@ use std::alloc::Global;
 pub enum DeskCommand {
     Audit,
     Session,
+    Offences,
     Digest,
+    File,
+    FileAll,
+    Check,
     Orders,
     Convert,
     Plain,
@@ -41,8 +49,20 @@ fn desk_command_named(word: &str) -> Option<DeskCommand>
     if is_word(word, b"session") {
         return Some(DeskCommand::Session);
     }
+    if is_word(word, b"offences") {
+        return Some(DeskCommand::Offences);
+    }
     if is_word(word, b"digest") {
         return Some(DeskCommand::Digest);
+    }
+    if is_word(word, b"file") {
+        return Some(DeskCommand::File);
+    }
+    if is_word(word, b"file-all") {
+        return Some(DeskCommand::FileAll);
+    }
+    if is_word(word, b"check") {
+        return Some(DeskCommand::Check);
     }
     if is_word(word, b"orders") {
         return Some(DeskCommand::Orders);
@@ -70,6 +90,24 @@ fn desk_command_in(words: &[String]) -> Option<DeskCommand>
     desk_command_named(first.as_str())
 }
 
+/// Whether a word names a command whose words another call reads.
+fn is_filing_word(word: &str) -> bool
+    ensures { result ≡ spec.is_filing_word word.now }
+{
+    is_word(word, b"file") || is_word(word, b"file-all") || is_word(word, b"check")
+}
+
+/// Whether the first of the words is `file`, `file-all` or `check`, whose words `read_desk_words`
+/// does not take: those of a call that opens a database.
+pub fn asks_filing(words: &[String]) -> bool
+    ensures { result ≡ spec.asks_filing (map string_bytes words.now) }
+{
+    match words.first() {
+        Some(first) => is_filing_word(first.as_str()),
+        None => false,
+    }
+}
+
 /// ORDERS and TRADES, at a place and after it, with the forms that options give them. Asks for
 /// memory for their texts.
 pub fn day_logs(
@@ -91,7 +129,8 @@ pub fn day_logs(
     })
 }
 
-/// RULE, and what the words after all others say as options, `--table` where the rule has one.
+/// RULE, and what the words after all others say as options, `--table` where the rule has one and
+/// `--resting-price` where it is `continuous`.
 fn rule_and_options(word: &str, option_words: &[String]) -> Option<(Rule, DeskOptions)>
     ensures options { result ≡ spec.rule_and_options word.now (map string_bytes option_words.now) }
     ensures table { IfSome result
@@ -100,6 +139,9 @@ fn rule_and_options(word: &str, option_words: &[String]) -> Option<(Rule, DeskOp
     let rule = rule_named(word)?;
     let said = desk_options_in(option_words)?;
     if said.common.table && !rule.has_table() {
+        return None;
+    }
+    if !checks_fit_rule(said.checks, rule) {
         return None;
     }
     Some((rule, said))
@@ -124,7 +166,19 @@ fn desk_audit_request(alloc: Global, words: &[String]) -> Result<Option<DeskRequ
         logs,
         table: said.common.table,
         share: said.share,
+        checks: said.checks,
     }))
+}
+
+/// What these words say as options of `session`, unless a price of a resting order is asked for.
+fn session_options_in(words: &[String]) -> Option<DeskOptions>
+    ensures { result ≡ spec.session_options_in (map string_bytes words.now) }
+{
+    let said = desk_options_in(words)?;
+    if said.checks.resting_price {
+        return None;
+    }
+    Some(said)
 }
 
 /// `session PHASES ORDERS TRADES` with its options. The phases are read last, since they take
@@ -139,7 +193,7 @@ fn desk_session_request(alloc: Global, words: &[String]) -> Result<Option<DeskRe
     if words.len() < 4 || !names_logs(words, 2) {
         return Ok(None);
     }
-    let Some(said) = desk_options_in(&words[4..]) else {
+    let Some(said) = session_options_in(&words[4..]) else {
         return Ok(None);
     };
     let Some(phases) = phases_named(alloc, word_at(words, 1))? else {
@@ -151,6 +205,51 @@ fn desk_session_request(alloc: Global, words: &[String]) -> Result<Option<DeskRe
         logs,
         table: said.common.table,
         share: said.share,
+        checks: said.checks,
+    }))
+}
+
+/// What the words of `offences` say of rule, symbol and options.
+#[derive(Clone, Copy)]
+struct OffenceWords {
+    rule: Rule,
+    symbol: Name,
+    said: OffenceOptions,
+}
+
+/// What the words of `offences` say of rule, symbol and options, where they are well-formed.
+fn offence_words(words: &[String]) -> Option<OffenceWords>
+    requires { 5 ≤ length words.now }
+    ensures words { result ≡ spec.offence_words (map string_bytes words.now) }
+    ensures fit { IfSome result
+        (λ asked. IsTrue (checks_fit_rule asked.said.checks asked.rule)) }
+{
+    let rule = rule_named(word_at(words, 1))?;
+    let symbol = symbol_named(word_at(words, 2))?;
+    let said = options_under(rule, &words[5..])?;
+    Some(OffenceWords { rule, symbol, said })
+}
+
+/// `offences RULE SYMBOL ORDERS TRADES` with its options.
+fn offences_request(alloc: Global, words: &[String]) -> Result<Option<DeskRequest>, NoMemory>
+    ensures request { IfOk result
+        (λ made. made ≡ spec.offences_asked (map string_bytes words.now)) }
+    ensures memory { IsErr result → IsSome (spec.offences_asked (map string_bytes words.now)) }
+    ensures asked { IfOk result (λ made. IfSome made spec.MayBeAskedOfDesk) }
+{
+    if words.len() < 5 || !names_logs(words, 3) {
+        return Ok(None);
+    }
+    let Some(asked) = offence_words(words) else {
+        return Ok(None);
+    };
+    let logs = day_logs(alloc, words, 3, &asked.said.forms)?;
+    Ok(Some(DeskRequest::Offences {
+        rule: asked.rule,
+        symbol: asked.symbol,
+        logs,
+        records: asked.said.records,
+        checks: asked.said.checks,
     }))
 }
 
@@ -253,7 +352,8 @@ fn request_without_command(words: &[String]) -> Option<DeskRequest>
     lone_word_request(word_at(words, 0))
 }
 
-/// What the words of a command ask for, one arm a command.
+/// What the words of a command ask for, one arm a command. Those of `file`, `file-all` and `check`
+/// ask for nothing here.
 fn desk_request_by(
     alloc: Global,
     command: DeskCommand,
@@ -268,7 +368,9 @@ fn desk_request_by(
     match command {
         DeskCommand::Audit => desk_audit_request(alloc, words),
         DeskCommand::Session => desk_session_request(alloc, words),
+        DeskCommand::Offences => offences_request(alloc, words),
         DeskCommand::Digest => digest_request(alloc, words),
+        DeskCommand::File | DeskCommand::FileAll | DeskCommand::Check => Ok(None),
         DeskCommand::Orders => Ok(orders_request(words)),
         DeskCommand::Convert => desk_convert_request(alloc, words),
         DeskCommand::Plain => plain_request(alloc, words),

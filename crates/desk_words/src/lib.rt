@@ -4,15 +4,17 @@
 //! Exactly the well-formed words are taken, and words that are not well-formed take no memory.
 //! `requests` has what words may ask for, and `read_desk_words`, which says what they do;
 //! `commands` reads the words of each command, by `options` (what follows the other words),
-//! `share_words` (a share of a day), `dress_words` (how the messages of a day are dressed),
-//! `log_words` (the commands that write logs) and the crate `command_words`, whose words the others
-//! are. `texts` has the usage line, the help and the
-//! version.
+//! `share_words` (a share of a day), `further_words` (further checks), `offence_words` (what follows
+//! the words of `offences`), `dress_words` (how the messages of a day are dressed), `log_words` (the
+//! commands that write logs) and the crate `command_words`, whose words the others are. `texts` has
+//! the usage line, the help and the version.
 #![tactic(auto)]
 
 pub mod commands;
 pub mod dress_words;
+mod further_words;
 mod log_words;
+mod offence_words;
 mod options;
 pub mod requests;
 mod share_words;

@@ -4,10 +4,12 @@ ghost use Rattle.std.specs.Prelude.{◌≡◌, map};
 ghost use Rattle.std.specs.String.{string_bytes};
 ghost use Rattle.desk_words.specs.Options as spec;
 
+use super::further_words::{is_check_option, with_check};
 use super::share_words::share_named;
 use command_words::options::{Options, is_table_option, no_options, with_form_option, with_table};
 use command_words::word_forms::is_word;
 use day_symbols::shares::Share;
+use further_checks::findings::FurtherChecks;
 
 /// What options say.
 #[derive(Clone, Copy)]
@@ -16,6 +18,8 @@ pub(crate) struct DeskOptions {
     pub(crate) common: Options,
     /// The share of the day, if one is given.
     pub(crate) share: Option<Share>,
+    /// Which of the further checks are asked for.
+    pub(crate) checks: FurtherChecks,
 }
 
 /// Nothing is said.
@@ -25,6 +29,7 @@ fn no_desk_options() -> DeskOptions
     DeskOptions {
         common: no_options(),
         share: None,
+        checks: FurtherChecks::none(),
     }
 }
 
@@ -34,6 +39,31 @@ fn with_day_table(said: DeskOptions) -> Option<DeskOptions>
 {
     let common = with_table(said.common)?;
     Some(DeskOptions { common, ..said })
+}
+
+/// What is said with a further check too, unless it was asked for before.
+fn with_day_check(word: &str, said: DeskOptions) -> Option<DeskOptions>
+    ensures { result ≡ spec.with_day_check word.now said }
+{
+    let checks = with_check(word, said.checks)?;
+    Some(DeskOptions { checks, ..said })
+}
+
+/// Whether the word is an option that has no value.
+fn is_lone_option(word: &str) -> bool
+    ensures { result ≡ spec.is_lone_option word.now }
+{
+    is_table_option(word) || is_check_option(word)
+}
+
+/// What is said with such an option too, unless it was said before.
+fn with_lone_option(word: &str, said: DeskOptions) -> Option<DeskOptions>
+    ensures { result ≡ spec.with_lone_option word.now said }
+{
+    if is_table_option(word) {
+        return with_day_table(said);
+    }
+    with_day_check(word, said)
 }
 
 /// What is said with a share too, unless one was given before.
@@ -68,8 +98,8 @@ pub(crate) fn desk_options_in(words: &[String]) -> Option<DeskOptions>
     let Some((word, rest)) = words.split_first() else {
         return Some(no_desk_options());
     };
-    if is_table_option(word.as_str()) {
-        return with_day_table(desk_options_in(rest)?);
+    if is_lone_option(word.as_str()) {
+        return with_lone_option(word.as_str(), desk_options_in(rest)?);
     }
     let (value, rest) = rest.split_first()?;
     with_value_option(word.as_str(), value.as_str(), desk_options_in(rest)?)

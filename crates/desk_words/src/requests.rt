@@ -5,10 +5,12 @@ ghost use Rattle.desk_words.specs.Words as spec;
 
 use super::commands::{DeskCommand, desk_request_in};
 use super::dress_words::DayDress;
+use audit_base::names::Name;
 use audit_base::terms::{Form, Rule, Which};
 use command_words::paths::PathText;
 use command_words::requests::WordsFault;
 use day_symbols::shares::Share;
+use further_checks::findings::FurtherChecks;
 use session_audit::phases::PhaseList;
 use std::alloc::Global;
 
@@ -26,19 +28,32 @@ pub struct DayLogs {
 #[derive(Drop)]
 pub enum DeskRequest {
     /// To judge the trades of each symbol by a rule. A table is asked for only where the rule
-    /// has one.
+    /// has one, prices of resting orders only where it is `continuous`.
     Audit {
         rule: Rule,
         logs: DayLogs,
         table: bool,
         share: Option<Share>,
+        checks: FurtherChecks,
     },
-    /// To judge the trades of each symbol on a day of 1 to 64 phases.
+    /// To judge the trades of each symbol on a day of 1 to 64 phases. Prices of resting orders are
+    /// not asked for.
     Session {
         phases: PhaseList,
         logs: DayLogs,
         table: bool,
         share: Option<Share>,
+        checks: FurtherChecks,
+    },
+    /// To tell every offence of a symbol under a rule. The prices of resting orders are asked for
+    /// only where the rule is `continuous`.
+    Offences {
+        rule: Rule,
+        symbol: Name,
+        logs: DayLogs,
+        /// Whether the records that a letter quotes are written behind each offence.
+        records: bool,
+        checks: FurtherChecks,
     },
     /// To write the digest of each log.
     Digest {
@@ -76,9 +91,12 @@ pub enum DeskRequest {
 /// What the words ask for, one row a command:
 ///
 /// - `audit RULE ORDERS TRADES`, and after them, in any order and each at most once,
-///   `--orders-form FORM`, `--trades-form FORM`, `--share K/N` and, where the rule has one,
-///   `--table`;
-/// - `session PHASES ORDERS TRADES`, and after them the same options;
+///   `--orders-form FORM`, `--trades-form FORM`, `--share K/N`, `--trade-times`, where the rule has
+///   one `--table`, and where it is `continuous` `--resting-price`;
+/// - `session PHASES ORDERS TRADES`, and after them the same options but `--resting-price`;
+/// - `offences RULE SYMBOL ORDERS TRADES`, and after them, in any order and each at most once,
+///   `--orders-form FORM`, `--trades-form FORM`, `--records`, `--trade-times` and, where RULE is
+///   `continuous`, `--resting-price`;
 /// - `digest ORDERS TRADES`;
 /// - `orders START COUNT`, and after them `--form FORM`, once or not at all;
 /// - `convert LOG FORM PATH FORM`;
@@ -86,14 +104,16 @@ pub enum DeskRequest {
 /// - `contents ORDERS TRADES`, and after them, in any order and each at most once,
 ///   `--orders-form FORM` and `--trades-form FORM`;
 /// - `help`, which `--help` asks for too, and `help COMMAND`, COMMAND being `audit`, `session`,
-///   `digest`, `orders`, `convert`, `plain`, `contents` or `help`;
+///   `offences`, `digest`, `file`, `file-all`, `check`, `orders`, `convert`, `plain`, `contents` or
+///   `help`;
 /// - `--version`.
 ///
-/// RULE, FORM, PHASES, START, COUNT and LOG are those of `read_words` of `command_words`. K/N is two decimal
-/// numbers without leading zeros, joined by `/`, where K is from 1 to N, and N at most 65,536.
-/// DAY is a path, and TEXT has 1 to 5 bytes from 0x21 to 0x7E. `Usage` comes exactly where the
-/// words are not well-formed, and takes no memory. `Memory` comes only where they are, and there
-/// was not enough.
+/// RULE, SYMBOL, FORM, PHASES, START, COUNT and LOG are those of `read_words` of `command_words`.
+/// K/N is two decimal numbers without leading zeros, joined by `/`, where K is from 1 to N, and N at
+/// most 65,536. DAY is a path, and TEXT has 1 to 5 bytes from 0x21 to 0x7E. The words of `file`,
+/// `file-all` and `check` are read by another call (`commands::asks_filing`). `Usage` comes exactly
+/// where the words are not well-formed, and takes no memory. `Memory` comes only where they are,
+/// and there was not enough.
 pub fn read_desk_words(alloc: Global, words: &[String]) -> Result<DeskRequest, WordsFault>
     ensures request { IfOk result
         (λ request. spec.desk_request_of (map string_bytes words.now) ≡ Some request) }

@@ -6,7 +6,10 @@ use std::test::Fail;
 #[test]
 fn lines_of_usage_and_version(rt: HostRuntime) {
     let usage = "usage: audit RULE ORDERS TRADES | session PHASES ORDERS TRADES \
-                 | digest ORDERS TRADES | orders START COUNT \
+                 | offences RULE SYMBOL ORDERS TRADES | digest ORDERS TRADES \
+                 | file DATABASE LABEL RULE SYMBOL ORDERS TRADES \
+                 | file-all DATABASE LABEL RULE ORDERS TRADES \
+                 | check DATABASE LABEL ORDERS TRADES | orders START COUNT \
                  | convert orders|trades csv|fix PATH csv|fix \
                  | plain DAY | contents ORDERS TRADES | help [COMMAND]\n";
     assert_eq!(rt; desk_usage_text(), usage.as_bytes());
@@ -14,7 +17,7 @@ fn lines_of_usage_and_version(rt: HostRuntime) {
 }
 
 /// How the help of each command begins and ends.
-const HELPS: [(DeskCommand, &str, &str); 8] = [
+const HELPS: [(DeskCommand, &str, &str); 12] = [
     (
         DeskCommand::Audit,
         "audit RULE ORDERS TRADES\n",
@@ -26,9 +29,29 @@ const HELPS: [(DeskCommand, &str, &str); 8] = [
         "Example: desk session uniform@1,continuous@5001 orders.csv trades.csv\n",
     ),
     (
+        DeskCommand::Offences,
+        "offences RULE SYMBOL ORDERS TRADES\n",
+        "Example: desk offences continuous Z orders.csv trades.csv --records\n",
+    ),
+    (
         DeskCommand::Digest,
         "digest ORDERS TRADES\n",
         "Example: desk digest orders.csv trades.csv\n",
+    ),
+    (
+        DeskCommand::File,
+        "file DATABASE LABEL RULE SYMBOL ORDERS TRADES\n",
+        "Example: desk file cases.db c1 uniform Z orders.csv trades.csv\n",
+    ),
+    (
+        DeskCommand::FileAll,
+        "file-all DATABASE LABEL RULE ORDERS TRADES\n",
+        "Example: desk file-all cases.db 2024-01-02 uniform orders.csv trades.csv\n",
+    ),
+    (
+        DeskCommand::Check,
+        "check DATABASE LABEL ORDERS TRADES\n",
+        "Example: desk check cases.db c1 orders.csv trades.csv\n",
     ),
     (
         DeskCommand::Orders,
@@ -72,21 +95,12 @@ fn whole_help_has_each_command_after_an_empty_line(rt: HostRuntime) -> Result<()
     let mut whole = Vec::new(rt.alloc());
     append_help(None, &mut whole)?;
     let mut joined = Vec::new(rt.alloc());
-    append_help(Some(DeskCommand::Audit), &mut joined)?;
-    joined.push(b'\n')?;
-    append_help(Some(DeskCommand::Session), &mut joined)?;
-    joined.push(b'\n')?;
-    append_help(Some(DeskCommand::Digest), &mut joined)?;
-    joined.push(b'\n')?;
-    append_help(Some(DeskCommand::Orders), &mut joined)?;
-    joined.push(b'\n')?;
-    append_help(Some(DeskCommand::Convert), &mut joined)?;
-    joined.push(b'\n')?;
-    append_help(Some(DeskCommand::Plain), &mut joined)?;
-    joined.push(b'\n')?;
-    append_help(Some(DeskCommand::Contents), &mut joined)?;
-    joined.push(b'\n')?;
-    append_help(Some(DeskCommand::Help), &mut joined)?;
+    for &(command, _, _) in &HELPS {
+        if command != DeskCommand::Audit {
+            joined.push(b'\n')?;
+        }
+        append_help(Some(command), &mut joined)?;
+    }
     assert_eq!(rt; whole.as_slice(), joined.as_slice());
     Ok(())
 }

@@ -12,7 +12,11 @@ pub fn desk_usage_text() -> &'static [u8]
 {
     b"usage: audit RULE ORDERS TRADES \
       | session PHASES ORDERS TRADES \
+      | offences RULE SYMBOL ORDERS TRADES \
       | digest ORDERS TRADES \
+      | file DATABASE LABEL RULE SYMBOL ORDERS TRADES \
+      | file-all DATABASE LABEL RULE ORDERS TRADES \
+      | check DATABASE LABEL ORDERS TRADES \
       | orders START COUNT \
       | convert orders|trades csv|fix PATH csv|fix \
       | plain DAY \
@@ -47,6 +51,10 @@ fn audit_help() -> &'static [u8]
                         continuous, each pair of orders; not with matching or fair
     --share K/N         judges only the symbols with the numbers K, K + N, K + 2N and
                         so on, counted from 1 as they appear; 1 <= K <= N <= 65536
+    --trade-times       rejects an accepted symbol at its first trade that is earlier than
+                        the record of its bid or of its ask
+    --resting-price     rejects it at its first trade with another price than the limit of
+                        the order that came first; only with continuous
     Example: desk audit uniform orders.csv trades.csv --share 1/4
 "
 }
@@ -69,7 +77,32 @@ fn session_help() -> &'static [u8]
     --table             adds what each order of an accepted symbol traded over the day
     --share K/N         judges only the symbols with the numbers K, K + N, K + 2N and
                         so on, counted from 1 as they appear; 1 <= K <= N <= 65536
+    --trade-times       rejects an accepted symbol at its first trade that is earlier than
+                        the record of its bid or of its ask
     Example: desk session uniform@1,continuous@5001 orders.csv trades.csv
+"
+}
+
+/// What `offences` does.
+#[tactic(auto, unfolding(crate::specs::Texts::offences_help))]
+fn offences_help() -> &'static [u8]
+    ensures { result.now ≡ text.offences_help }
+{
+    b"offences RULE SYMBOL ORDERS TRADES
+    Judges the trades of one symbol by a rule, and writes the report of an audit. Where
+    it is rejected, a line follows for each offence, and one with their number.
+    RULE                matching, fair, uniform, maximum or continuous
+    SYMBOL              the symbol, as the logs have it
+    ORDERS              the path of the order log
+    TRADES              the path of the trade log
+    --orders-form FORM  the form of the order log: csv, as without it, or fix
+    --trades-form FORM  the form of the trade log: csv, as without it, or fix
+    --records           writes behind each offence the records that it is about, as CSV
+    --resting-price     with continuous, where the rule accepts: tells each trade whose
+                        price is not the limit of its resting order
+    --trade-times       where the rule accepts: tells each trade that is earlier than
+                        the record of one of its orders
+    Example: desk offences continuous Z orders.csv trades.csv --records
 "
 }
 
@@ -85,6 +118,67 @@ fn digest_help() -> &'static [u8]
     ORDERS              the path of the order log
     TRADES              the path of the trade log
     Example: desk digest orders.csv trades.csv
+"
+}
+
+/// What `file` does.
+#[tactic(auto, unfolding(crate::specs::Texts::file_help))]
+fn file_help() -> &'static [u8]
+    ensures { result.now ≡ text.file_help }
+{
+    b"file DATABASE LABEL RULE SYMBOL ORDERS TRADES
+    Files the verdict of a rule on a symbol under a label, with the SHA-256 digests of
+    both logs, and writes its line. Where the label has a case, known and that case's
+    line are written, and nothing is filed.
+    DATABASE            the path of the database; it is made if it is not there
+    LABEL               the label: 1 to 64 bytes, not begun by -, and not the word then
+    RULE                matching, fair, uniform, maximum or continuous
+    SYMBOL              the symbol
+    ORDERS              the path of the order log
+    TRADES              the path of the trade log
+    --orders-form FORM  the form of the order log: csv, as without it, or fix
+    --trades-form FORM  the form of the trade log: csv, as without it, or fix
+    Example: desk file cases.db c1 uniform Z orders.csv trades.csv
+"
+}
+
+/// What `file-all` does.
+#[tactic(auto, unfolding(crate::specs::Texts::file_all_help))]
+fn file_all_help() -> &'static [u8]
+    ensures { result.now ≡ text.file_all_help }
+{
+    b"file-all DATABASE LABEL RULE ORDERS TRADES
+    Files the verdict of a rule on each symbol of a day, under LABEL/SYMBOL, as file
+    does, and writes their lines: all of them, or none where one of the labels has a
+    case or would have more than 64 bytes (longlabel).
+    DATABASE            the path of the database; it is made if it is not there
+    LABEL               what the labels begin with, as a label of file
+    RULE                matching, fair, uniform, maximum or continuous
+    ORDERS              the path of the order log
+    TRADES              the path of the trade log
+    --orders-form FORM  the form of the order log: csv, as without it, or fix
+    --trades-form FORM  the form of the trade log: csv, as without it, or fix
+    Example: desk file-all cases.db 2024-01-02 uniform orders.csv trades.csv
+"
+}
+
+/// What `check` does.
+#[tactic(auto, unfolding(crate::specs::Texts::check_help))]
+fn check_help() -> &'static [u8]
+    ensures { result.now ≡ text.check_help }
+{
+    b"check DATABASE LABEL ORDERS TRADES
+    Audits two logs by the rule and on the symbol of a case, and tells whether they are
+    its logs: same, or differs with the first of orders, trades and verdict that does.
+    nodigest is a case that was filed by casebook, and nocase a label that has none.
+    Each log is read twice, so it must be in a file.
+    DATABASE            the path of the database; none is made
+    LABEL               the label of the case
+    ORDERS              the path of the order log
+    TRADES              the path of the trade log
+    --orders-form FORM  the form of the order log: csv, as without it, or fix
+    --trades-form FORM  the form of the trade log: csv, as without it, or fix
+    Example: desk check cases.db c1 orders.csv trades.csv
 "
 }
 
@@ -160,9 +254,10 @@ fn help_help() -> &'static [u8]
     ensures { result.now ≡ text.help_help }
 {
     b"help [COMMAND]
-    Writes what each command does, or what COMMAND does: audit, session, digest,
-    orders, convert, plain, contents or help. --help alone does as help, and
-    --version writes the version of the program and the kit that it is proved with.
+    Writes what each command does, or what COMMAND does: audit, session, offences,
+    digest, file, file-all, check, orders, convert, plain, contents or help. --help
+    alone does as help, and --version writes the version of the program and the kit
+    that it is proved with.
     Example: desk help audit
 "
 }
@@ -174,7 +269,11 @@ fn command_help(command: DeskCommand) -> &'static [u8]
     match command {
         DeskCommand::Audit => audit_help(),
         DeskCommand::Session => session_help(),
+        DeskCommand::Offences => offences_help(),
         DeskCommand::Digest => digest_help(),
+        DeskCommand::File => file_help(),
+        DeskCommand::FileAll => file_all_help(),
+        DeskCommand::Check => check_help(),
         DeskCommand::Orders => orders_help(),
         DeskCommand::Convert => convert_help(),
         DeskCommand::Plain => plain_help(),
@@ -193,19 +292,39 @@ fn append_after_empty_line(text: &[u8], out: &mut Vec<u8>) -> Result<(), NoMemor
     Ok(())
 }
 
-/// Appends what each command does, with an empty line between two.
-#[tactic(auto, using(crate::proofs::TextLemmas::joined_texts))]
-fn append_whole_help(out: &mut Vec<u8>) -> Result<(), NoMemory>
-    ensures { OnOk result (out.new.items ≡ out.old.items ++ text.whole_help) }
+/// Appends what each command about logs and cases does, with an empty line between two.
+#[tactic(auto, using(crate::proofs::TextLemmas::seven_texts))]
+fn append_judging_help(out: &mut Vec<u8>) -> Result<(), NoMemory>
+    ensures { OnOk result (out.new.items ≡ out.old.items ++ text.judging_help) }
 {
     out.extend_from_slice(audit_help())?;
     append_after_empty_line(session_help(), out)?;
+    append_after_empty_line(offences_help(), out)?;
     append_after_empty_line(digest_help(), out)?;
+    append_after_empty_line(file_help(), out)?;
+    append_after_empty_line(file_all_help(), out)?;
+    append_after_empty_line(check_help(), out)
+}
+
+/// Appends an empty line, and after it what each command that judges no log does, in the same way.
+#[tactic(auto, using(crate::proofs::TextLemmas::five_texts))]
+fn append_log_help(out: &mut Vec<u8>) -> Result<(), NoMemory>
+    ensures { OnOk result (out.new.items ≡ out.old.items ++ 10 ∷ text.log_help) }
+{
     append_after_empty_line(orders_help(), out)?;
     append_after_empty_line(convert_help(), out)?;
     append_after_empty_line(plain_help(), out)?;
     append_after_empty_line(contents_help(), out)?;
     append_after_empty_line(help_help(), out)
+}
+
+/// Appends what each command does, with an empty line between two.
+#[tactic(auto, using(std::proofs::Common::append_assoc))]
+fn append_whole_help(out: &mut Vec<u8>) -> Result<(), NoMemory>
+    ensures { OnOk result (out.new.items ≡ out.old.items ++ text.whole_help) }
+{
+    append_judging_help(out)?;
+    append_log_help(out)
 }
 
 /// Appends what each command does, or what one of them does. After `NoMemory` nothing is known

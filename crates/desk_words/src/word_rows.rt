@@ -7,6 +7,7 @@ use audit_base::terms::{Form, Rule, Which};
 use command_words::paths::PathText;
 use command_words::requests::WordsFault;
 use day_symbols::shares::Share;
+use further_checks::findings::FurtherChecks;
 use session_audit::phases::Phase;
 use std::alloc::Global;
 use std::test::Fail;
@@ -154,6 +155,7 @@ fn is_audit_of(row: &DayRow, asked: &Result<DeskRequest, WordsFault>) -> bool {
                 logs,
                 table,
                 share,
+                ..
             },
         ) => *rule == Rule::Uniform && row.has(logs, *table, *share),
         _ => false,
@@ -186,6 +188,7 @@ fn is_session_of(row: &DayRow, asked: &Result<DeskRequest, WordsFault>) -> bool 
                 logs,
                 table,
                 share,
+                ..
             },
         ) => are_two_phases(phases.as_slice()) && row.has(logs, *table, *share),
         _ => false,
@@ -215,6 +218,177 @@ fn check_rules(alloc: Global, rows: &[(&str, Rule, bool)]) -> Result<(), RowFaul
         let words = words_of(alloc, line)?;
         let holds = match read_desk_words(alloc, &words) {
             Ok(DeskRequest::Audit { rule, table, .. }) => rule == wanted && table == with_table,
+            _ => false,
+        };
+        check_row(alloc, line, holds)?;
+    }
+    Ok(())
+}
+
+/// A line that asks for the offences of the symbol `Z` in the logs `o` and `t`.
+struct OffenceRow {
+    line: &'static str,
+    rule: Rule,
+    orders_form: Form,
+    trades_form: Form,
+    records: bool,
+    resting_price: bool,
+    trade_times: bool,
+}
+
+impl OffenceRow {
+    /// Whether these are the logs of the row.
+    fn has_logs(&self, logs: &DayLogs) -> bool {
+        logs.orders.as_str() == "o"
+            && logs.trades.as_str() == "t"
+            && logs.orders_form == self.orders_form
+            && logs.trades_form == self.trades_form
+    }
+
+    /// Whether this is what the row asks for beside the trades.
+    fn asks(&self, records: bool, checks: FurtherChecks) -> bool {
+        records == self.records
+            && checks.resting_price == self.resting_price
+            && checks.trade_times == self.trade_times
+    }
+}
+
+const OFFENCES: [OffenceRow; 8] = [
+    OffenceRow {
+        line: "offences matching Z o t",
+        rule: Rule::Matching,
+        orders_form: Form::Csv,
+        trades_form: Form::Csv,
+        records: false,
+        resting_price: false,
+        trade_times: false,
+    },
+    OffenceRow {
+        line: "offences fair Z o t --records",
+        rule: Rule::Fair,
+        orders_form: Form::Csv,
+        trades_form: Form::Csv,
+        records: true,
+        resting_price: false,
+        trade_times: false,
+    },
+    OffenceRow {
+        line: "offences uniform Z o t --trade-times --trades-form fix",
+        rule: Rule::Uniform,
+        orders_form: Form::Csv,
+        trades_form: Form::Fix,
+        records: false,
+        resting_price: false,
+        trade_times: true,
+    },
+    OffenceRow {
+        line: "offences maximum Z o t --orders-form fix --records --trade-times",
+        rule: Rule::Maximum,
+        orders_form: Form::Fix,
+        trades_form: Form::Csv,
+        records: true,
+        resting_price: false,
+        trade_times: true,
+    },
+    OffenceRow {
+        line: "offences continuous Z o t",
+        rule: Rule::Continuous,
+        orders_form: Form::Csv,
+        trades_form: Form::Csv,
+        records: false,
+        resting_price: false,
+        trade_times: false,
+    },
+    OffenceRow {
+        line: "offences continuous Z o t --resting-price",
+        rule: Rule::Continuous,
+        orders_form: Form::Csv,
+        trades_form: Form::Csv,
+        records: false,
+        resting_price: true,
+        trade_times: false,
+    },
+    OffenceRow {
+        line: "offences continuous Z o t --trade-times --trades-form fix --resting-price \
+               --orders-form fix --records",
+        rule: Rule::Continuous,
+        orders_form: Form::Fix,
+        trades_form: Form::Fix,
+        records: true,
+        resting_price: true,
+        trade_times: true,
+    },
+    OffenceRow {
+        line: "offences continuous Z o t --records --orders-form csv --trade-times",
+        rule: Rule::Continuous,
+        orders_form: Form::Csv,
+        trades_form: Form::Csv,
+        records: true,
+        resting_price: false,
+        trade_times: true,
+    },
+];
+
+/// Whether the offences of the row are asked for.
+fn are_offences_of(row: &OffenceRow, asked: &Result<DeskRequest, WordsFault>) -> bool {
+    match asked {
+        Ok(
+            DeskRequest::Offences {
+                rule,
+                symbol,
+                logs,
+                records,
+                checks,
+            },
+        ) => {
+            *rule == row.rule
+                && symbol.bytes() == b"Z".as_slice()
+                && row.has_logs(logs)
+                && row.asks(*records, *checks)
+        }
+        _ => false,
+    }
+}
+
+fn check_offences(alloc: Global, rows: &[OffenceRow]) -> Result<(), RowFault> {
+    for row in rows {
+        let words = words_of(alloc, row.line)?;
+        let asked = read_desk_words(alloc, &words);
+        check_row(alloc, row.line, are_offences_of(row, &asked))?;
+    }
+    Ok(())
+}
+
+/// Lines that ask for a day of a rule or of phases: whether they ask for the prices of resting
+/// orders, and whether for the times of trades.
+const CHECKS: [(&str, bool, bool); 7] = [
+    ("audit continuous o t", false, false),
+    ("audit continuous o t --resting-price", true, false),
+    ("audit continuous o t --trade-times", false, true),
+    (
+        "audit continuous o t --trade-times --table --resting-price",
+        true,
+        true,
+    ),
+    ("audit fair o t --share 1/2 --trade-times", false, true),
+    ("session uniform@1 o t", false, false),
+    (
+        "session uniform@1 o t --trade-times --trades-form fix",
+        false,
+        true,
+    ),
+];
+
+fn check_checks(alloc: Global, rows: &[(&str, bool, bool)]) -> Result<(), RowFault> {
+    for &(line, resting_price, trade_times) in rows {
+        let words = words_of(alloc, line)?;
+        let wanted = FurtherChecks {
+            resting_price,
+            trade_times,
+        };
+        let holds = match read_desk_words(alloc, &words) {
+            Ok(DeskRequest::Audit { checks, .. }) => checks == wanted,
+            Ok(DeskRequest::Session { checks, .. }) => checks == wanted,
             _ => false,
         };
         check_row(alloc, line, holds)?;
@@ -530,12 +704,16 @@ fn check_contents(alloc: Global, rows: &[DayRow]) -> Result<(), RowFault> {
 }
 
 /// Lines that ask for help, and of which command.
-const HELPS: [(&str, Option<DeskCommand>); 10] = [
+const HELPS: [(&str, Option<DeskCommand>); 14] = [
     ("help", None),
     ("--help", None),
     ("help audit", Some(DeskCommand::Audit)),
     ("help session", Some(DeskCommand::Session)),
+    ("help offences", Some(DeskCommand::Offences)),
     ("help digest", Some(DeskCommand::Digest)),
+    ("help file", Some(DeskCommand::File)),
+    ("help file-all", Some(DeskCommand::FileAll)),
+    ("help check", Some(DeskCommand::Check)),
     ("help orders", Some(DeskCommand::Orders)),
     ("help convert", Some(DeskCommand::Convert)),
     ("help plain", Some(DeskCommand::Plain)),
@@ -560,7 +738,7 @@ const OTHER_WORDS: [&str; 18] = [
     "",
     "audits",
     "Audit uniform o t",
-    "offences uniform Z o t",
+    "offence uniform Z o t",
     "page uniform Z o t",
     "digests o t",
     "order 7 4",
@@ -568,7 +746,7 @@ const OTHER_WORDS: [&str; 18] = [
     "content o t",
     "expect uniform Z o",
     "help audit session",
-    "help offences",
+    "help offence",
     "help --help",
     "help ",
     "--help help",
@@ -578,7 +756,7 @@ const OTHER_WORDS: [&str; 18] = [
 ];
 
 /// Lines of `audit` whose rule, paths or options are wrong.
-const AUDIT_WORDS: [&str; 28] = [
+const AUDIT_WORDS: [&str; 30] = [
     "audit",
     "audit uniform",
     "audit uniform o",
@@ -603,8 +781,10 @@ const AUDIT_WORDS: [&str; 28] = [
     "audit uniform o --table t",
     "audit --table uniform o t",
     "audit uniform o t --page",
-    "audit continuous o t --resting-price",
-    "audit continuous o t --trade-times",
+    "audit maximum o t --resting-price",
+    "audit continuous o t --trade-times --trade-times",
+    "audit continuous o t --resting-price --resting-price",
+    "audit continuous o t --resting-price yes",
     "audit uniform o t --records",
     "audit uniform o t --form csv",
 ];
@@ -653,6 +833,30 @@ const SESSION_WORDS: [&str; 14] = [
     "session uniform@1 o t --share 3/2",
     "session uniform@1 o t --resting-price",
     "session uniform@1 o t --page",
+];
+
+/// Lines of `offences` whose rule, symbol, paths or options are wrong.
+const OFFENCE_WORDS: [&str; 20] = [
+    "offences",
+    "offences matching",
+    "offences matching Z",
+    "offences matching Z o",
+    "offences best Z o t",
+    "offences matching -Z o t",
+    "offences matching  o t",
+    "offences matching Z -o t",
+    "offences matching Z o -t",
+    "offences matching Z o t more",
+    "offences matching Z o t --table",
+    "offences matching Z o t --share 1/2",
+    "offences matching Z o t --records --records",
+    "offences continuous Z o t --resting-price --resting-price",
+    "offences matching Z o t --trade-times --records --trade-times",
+    "offences matching Z o t --orders-form",
+    "offences matching Z o t --orders-form fix --orders-form fix",
+    "offences matching Z o t --resting-price",
+    "offences maximum Z o t --records --resting-price --trade-times",
+    "offences --records matching Z o t",
 ];
 
 /// Lines of `digest` with too few or too many words, or with a word that is no path.
@@ -761,12 +965,19 @@ fn check_usage(alloc: Global, lines: &[&str]) -> Result<(), RowFault> {
 #[test]
 fn audits_of_a_day(rt: HostRuntime) -> Result<(), Fail> {
     check_audits(rt.alloc(), &AUDITS)?;
+    check_checks(rt.alloc(), &CHECKS)?;
     Ok(check_rules(rt.alloc(), &RULES)?)
 }
 
 #[test]
 fn days_of_phases(rt: HostRuntime) -> Result<(), Fail> {
     Ok(check_sessions(rt.alloc(), &SESSIONS)?)
+}
+
+#[test]
+fn offences_of_a_symbol(rt: HostRuntime) -> Result<(), Fail> {
+    check_offences(rt.alloc(), &OFFENCES)?;
+    Ok(check_usage(rt.alloc(), &OFFENCE_WORDS)?)
 }
 
 #[test]

@@ -20,7 +20,22 @@ const DAY_AUDIT: [Part; 3] = [Part::Rule, Part::Path, Part::Path];
 
 const DAY_SESSION: [Part; 3] = [Part::Phases, Part::Path, Part::Path];
 
+const OFFENCES: [Part; 4] = [Part::Rule, Part::Symbol, Part::Path, Part::Path];
+
 const DIGEST: [Part; 2] = [Part::Path, Part::Path];
+
+const DAY_FILE: [Part; 6] = [
+    Part::Path,
+    Part::Label,
+    Part::Rule,
+    Part::Symbol,
+    Part::Path,
+    Part::Path,
+];
+
+const DAY_FILE_ALL: [Part; 5] = [Part::Path, Part::Label, Part::Rule, Part::Path, Part::Path];
+
+const DAY_CHECK: [Part; 4] = [Part::Path, Part::Label, Part::Path, Part::Path];
 
 const PLAIN: [Part; 1] = [Part::Path];
 
@@ -43,7 +58,8 @@ const SHOW: [Part; 1] = [Part::Label];
 
 const AUDITOR_COMMANDS: &str = "audit, expect, convert, generate, certify, verify, session";
 
-const DESK_COMMANDS: &str = "audit, session, digest, orders, convert, plain, contents, help";
+const DESK_COMMANDS: &str =
+    "audit, session, offences, digest, file, file-all, check, orders, convert, plain, contents, help";
 
 const CASEBOOK_COMMANDS: &str = "file, list, show";
 
@@ -109,8 +125,16 @@ fn desk_parts(command: &str) -> Option<&'static [Part]> {
         Some(&DAY_AUDIT)
     } else if command == "session" {
         Some(&DAY_SESSION)
+    } else if command == "offences" {
+        Some(&OFFENCES)
     } else if command == "digest" {
         Some(&DIGEST)
+    } else if command == "file" {
+        Some(&DAY_FILE)
+    } else if command == "file-all" {
+        Some(&DAY_FILE_ALL)
+    } else if command == "check" {
+        Some(&DAY_CHECK)
     } else if command == "orders" {
         Some(&GENERATE)
     } else if command == "convert" {

@@ -81,8 +81,11 @@ impl Part {
         match self {
             Part::Rule => "matching, fair, uniform, maximum, continuous",
             Part::BoundRule => "uniform, maximum",
-            Part::Symbol | Part::Label => {
+            Part::Symbol => {
                 "1 to 64 printable characters without comma and quote, the first of them not -"
+            }
+            Part::Label => {
+                "1 to 64 printable characters without comma and quote, the first of them not -, and not then"
             }
             Part::Log => "orders, trades",
             Part::Form => "csv, fix",
@@ -99,7 +102,8 @@ impl Part {
         match self {
             Part::Rule => rule_named(word).is_some(),
             Part::BoundRule => is_bound_rule(word),
-            Part::Symbol | Part::Label => symbol_named(word).is_some(),
+            Part::Symbol => symbol_named(word).is_some(),
+            Part::Label => word != "then" && symbol_named(word).is_some(),
             Part::Log => word == "orders" || word == "trades",
             Part::Form => form_named(word).is_some(),
             Part::Path => is_path(word),

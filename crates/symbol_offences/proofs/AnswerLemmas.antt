@@ -31,7 +31,7 @@ use Rattle.command_run.specs.Deciding.{IsAnswerOfKind}
 use Rattle.command_run.specs.VerdictAnswers.{IsAnswerWith, IsVerdictAnswer}
 use Rattle.further_checks.specs.declared.findings.FurtherChecks.{FurtherChecks}
 use Rattle.further_checks.specs.declared.findings.FurtherFinding.{FurtherFinding}
-use Rattle.further_checks.specs.FurtherRules.{further_finding, further_findings, times_of_symbol}
+use Rattle.further_checks.specs.FurtherRules.{asks_further, further_finding, further_findings, times_of_symbol}
 use Rattle.further_checks.specs.FurtherTexts.{further_text}
 use Rattle.matching_core.specs.declared.deals_draft.ResolvedTrades.{ResolvedTrades}
 use Rattle.record_verdict.specs.declared.before_rule.BeforeRule.{BeforeRule}
@@ -45,7 +45,7 @@ use Rattle.symbol_offences.specs.declared.symbol_logs.QuotedRecords.{QuotedRecor
 use Rattle.symbol_offences.specs.declared.symbol_logs.SymbolLogs.{SymbolLogs}
 use Rattle.symbol_offences.specs.OffenceAnswers.{has_none, is_absent, IsAnswerByPresence, IsAnswerByVerdict, IsAnswerToAccepted, IsAnswerToRejected, IsOffencesOfRecords}
 use Rattle.symbol_offences.specs.OffenceLines.{failure_lines}
-use Rattle.symbol_offences.specs.Questions.{asked_rule, asks_further, audit_question, keeping_for, kept_if}
+use Rattle.symbol_offences.specs.Questions.{audit_question, keeping_for, kept_if}
 use Rattle.symbol_offences.specs.SymbolLogs.{IsSymbolLogs, quoted_records}
 use Rattle.symbol_offences.specs.Telling.{are_none, IsAnswerByDeals, IsAnswerBySome, IsAnswerToLogs}
 
@@ -59,10 +59,10 @@ same-admission rule.Maximum orders = refl
 same-admission rule.Continuous orders = refl
 
 same-before : (q : OffenceQuestion) (entries : List OrderRecord) (paired : Result (List TradeRecord) Finding)
-    → finding_before_rule_in_scope (scope_of (audit_question q)) entries paired ≡ finding_before_rule (asked_rule q) q.symbol entries paired
+    → finding_before_rule_in_scope (scope_of (audit_question q)) entries paired ≡ finding_before_rule q.rule q.symbol entries paired
 same-before q entries paired =
     ap (λ (o : Option Finding). first_answer (history_finding q.symbol entries ∷ o ∷ pairing_finding paired ∷ trades_finding (order_list q.symbol entries) q.symbol (paired_trades paired) ∷ []))
-    (same-admission (asked_rule q) (order_list q.symbol entries))
+    (same-admission q.rule (order_list q.symbol entries))
 
 -- Where the symbol is absent.
 
@@ -198,14 +198,14 @@ pub found-answer : (q : OffenceQuestion) (entries : List OrderRecord) (paired : 
     → IsSymbolLogs (scope_of (audit_question q)) (keeping_for q) entries paired logs → logs.given ≡ before_rule.Found finding → v ≡ verdict.Rejected finding → IsRecordVerdict (audit_question q) entries paired v
     → IsAnswerToRejected logs.quoted [] finding (finding ∷ []) the_status text → IsOffencesOfRecords q entries paired the_status text
 found-answer q entries paired logs finding v the_status text is given rejected has told =
-    by-presence (is_absent q.symbol entries paired) false (found-present (asked_rule q) q.symbol entries paired finding found) q entries paired the_status text
+    by-presence (is_absent q.symbol entries paired) false (found-present q.rule q.symbol entries paired finding found) q entries paired the_status text
     (record {
       the_verdict = verdict.Rejected finding;
       is = subst (λ (w : Verdict). IsRecordVerdict (audit_question q) entries paired w) rejected has;
       answer = rw found (subst (λ (r : QuotedRecords). IsAnswerToRejected r [] finding (finding ∷ []) the_status text) is.quoted told);
     })
   where
-    found : finding_before_rule (asked_rule q) q.symbol entries paired ≡ Some finding
+    found : finding_before_rule q.rule q.symbol entries paired ≡ Some finding
     found = sym (same-before q entries paired) ∙ subst (λ (b : BeforeRule). IsBeforeRule (scope_of (audit_question q)) entries paired b) given is.before
 
 -- the records of two logs have no verdict that a log is malformed
@@ -217,7 +217,7 @@ malformed-apart q entries paired log bad is = by-found is.found is.outcome
     by-found (Some finding) outcome = cc
 
 -- sound trades
-module _ (q : OffenceQuestion) (entries : List OrderRecord) (paired : Result (List TradeRecord) Finding) (the_status : Status) (text : List ℕ) (clean : finding_before_rule (asked_rule q) q.symbol entries paired ≡ None) where
+module _ (q : OffenceQuestion) (entries : List OrderRecord) (paired : Result (List TradeRecord) Finding) (the_status : Status) (text : List ℕ) (clean : finding_before_rule q.rule q.symbol entries paired ≡ None) where
   orders : List Order
   orders = order_list q.symbol entries
 
@@ -249,13 +249,13 @@ pub sound-answer : (q : OffenceQuestion) (entries : List OrderRecord) (paired : 
     → IsAnswerBySome (are_none sound.history sound.deals.items) q sound.history sound.deals.items logs.times.items logs.quoted v the_status text
     → IsOffencesOfRecords q entries paired the_status text
 sound-answer q entries paired logs sound v the_status text is given has told =
-    by-presence (is_absent q.symbol entries paired) (are_none orders deals) (sym (sound-absent (asked_rule q) q.symbol entries paired clean)) q entries paired the_status text
+    by-presence (is_absent q.symbol entries paired) (are_none orders deals) (sym (sound-absent q.rule q.symbol entries paired clean)) q entries paired the_status text
     (by-some q entries paired the_status text clean (are_none orders deals) v has moved)
   where
     resolved : IsResolvedWithoutFinding (scope_of (audit_question q)) entries paired sound
     resolved = subst (λ (b : BeforeRule). IsBeforeRule (scope_of (audit_question q)) entries paired b) given is.before
 
-    clean : finding_before_rule (asked_rule q) q.symbol entries paired ≡ None
+    clean : finding_before_rule q.rule q.symbol entries paired ≡ None
     clean = sym (same-before q entries paired) ∙ resolved.none
 
     orders : List Order

@@ -4,4 +4,5 @@ mod TakenLemmas
 mod ReadLemmas
 mod PlaceLemmas
 mod TextLemmas
+mod RuleLemmas
 mod AnswerLemmas

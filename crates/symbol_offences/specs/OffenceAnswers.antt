@@ -31,7 +31,7 @@ use Rattle.record_verdict.specs.RecordVerdicts.{IsRecordVerdict}
 use Rattle.symbol_offences.specs.declared.questions.OffenceQuestion.{OffenceQuestion}
 use Rattle.symbol_offences.specs.declared.symbol_logs.QuotedRecords.{QuotedRecords}
 use Rattle.symbol_offences.specs.OffenceLines.{absent_line, failure_lines, offence_lines}
-use Rattle.symbol_offences.specs.Questions.{asked_rule, audit_question}
+use Rattle.symbol_offences.specs.Questions.{audit_question}
 use Rattle.symbol_offences.specs.SymbolLogs.{quoted_records}
 
 -- a list has no member
@@ -49,7 +49,7 @@ is_absent symbol entries (Err finding) = false
 abbrev pub orders_under_rule : OffenceQuestion → List OrderRecord
     → Result (List TradeRecord) Finding → List Order
 orders_under_rule q entries paired =
-    if is_some (finding_before_rule (asked_rule q) q.symbol entries paired) then []
+    if is_some (finding_before_rule q.rule q.symbol entries paired) then []
     else order_list q.symbol entries
 
 -- a symbol that the rule accepts: where no trade fails a further check, as an audit answers; else
@@ -78,7 +78,7 @@ IsAnswerByVerdict q entries paired (verdict.Accepted accepted) the_status text =
 IsAnswerByVerdict q entries paired (verdict.Rejected first) the_status text =
     IsAnswerToRejected (quoted_records q.records q.symbol entries paired)
     (orders_under_rule q entries paired) first
-    (record_offences (asked_rule q) q.symbol entries paired (Some first)) the_status text
+    (record_offences q.rule q.symbol entries paired (Some first)) the_status text
 IsAnswerByVerdict q entries paired (verdict.Malformed log bad) the_status text = ⊥
 
 -- The verdict on the records, and the answer by it.

@@ -1,24 +1,14 @@
 -- What is asked of the records of a symbol, and what is kept of them for the answer.
-use Rattle.std.specs.Prelude.{Bool, false, ◌||◌, List, [], if◌then◌else◌}
-use Rattle.audit_base.specs.declared.terms.Rule.{Rule}
-use Rattle.audit_base.specs.RuleKinds.{rule_of_call}
-use Rattle.further_checks.specs.declared.findings.FurtherChecks.{FurtherChecks}
+use Rattle.std.specs.Prelude.{Bool, false, List, [], if◌then◌else◌}
+use Rattle.further_checks.specs.FurtherRules.{asks_further}
 use Rattle.record_verdict.specs.declared.questions.Question.{Question}
 use Rattle.record_verdict.specs.RecordVerdicts.{question}
 use Rattle.symbol_offences.specs.declared.questions.Keeping.{Keeping}
 use Rattle.symbol_offences.specs.declared.questions.OffenceQuestion.{OffenceQuestion}
 
--- the rule that is asked about, as one of the five
-abbrev pub asked_rule : OffenceQuestion → Rule
-asked_rule q = rule_of_call q.rule
-
 -- the question of the audit of the symbol, without a table
 abbrev pub audit_question : OffenceQuestion → Question
-audit_question q = question (asked_rule q) q.symbol false
-
--- a further check is asked for
-abbrev pub asks_further : FurtherChecks → Bool
-asks_further checks = checks.resting_price || checks.trade_times
+audit_question q = question q.rule q.symbol false
 
 -- the records are kept where they are quoted, the times of trades where a further check is asked for
 abbrev pub keeping_for : OffenceQuestion → Keeping

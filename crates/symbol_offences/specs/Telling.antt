@@ -8,11 +8,14 @@ use Rattle.audit_base.specs.declared.orders.Deal.{Deal}
 use Rattle.audit_base.specs.declared.orders.Order.{Order}
 use Rattle.audit_base.specs.declared.records.OrderRecord.{OrderRecord}
 use Rattle.audit_base.specs.declared.records.TradeRecord.{TradeRecord}
+use Rattle.audit_base.specs.declared.terms.Rule.{Rule}
 use Rattle.audit_base.specs.declared.terms.Which.{Which}
 use Rattle.audit_report.specs.declared.statuses.Status.{Status}
 use Rattle.audit_report.specs.declared.statuses.Status.TheVariants as status
 use Rattle.audit_report.specs.declared.verdicts.Verdict.{Verdict}
 use Rattle.audit_report.specs.declared.verdicts.Verdict.TheVariants as verdict
+use Rattle.call_offences.specs.declared.listing.Listing.{Listing}
+use Rattle.call_offences.specs.Listings.{findings_of_listing}
 use Rattle.command_run.specs.declared.answers.Answer.{Answer}
 use Rattle.command_run.specs.Deciding.{IsAnswerOfKind}
 use Rattle.command_run.specs.VerdictAnswers.{IsAnswerWith, IsVerdictAnswer}
@@ -27,8 +30,13 @@ use Rattle.symbol_offences.specs.declared.symbol_logs.QuotedRecords.{QuotedRecor
 use Rattle.symbol_offences.specs.declared.symbol_logs.SymbolLogs.{SymbolLogs}
 use Rattle.symbol_offences.specs.OffenceAnswers.{has_none, IsAnswerToAccepted, IsAnswerToRejected, IsOffencesOfRecords}
 use Rattle.symbol_offences.specs.OffenceLines.{absent_line, quoted_offence}
-use Rattle.symbol_offences.specs.Questions.{asked_rule, audit_question, keeping_for}
+use Rattle.symbol_offences.specs.Questions.{audit_question, keeping_for}
 use Rattle.symbol_offences.specs.SymbolLogs.{IsSymbolLogs}
+
+-- they are all offences of the deals under the rule
+abbrev pub IsListingUnder : Rule → List Order → List Deal → Finding → Listing → Type 0
+IsListingUnder the_rule orders deals first listing =
+    findings_of_listing orders first listing ≡ offences_of the_rule orders deals first
 
 -- the lines of the offences of a list about these orders
 abbrev pub offences_quoted : List Order → QuotedRecords → List Offence → List ℕ
@@ -41,7 +49,7 @@ abbrev pub IsAnswerByDeals : OffenceQuestion → List Order → List Deal → Li
 IsAnswerByDeals q orders deals times quoted (verdict.Accepted accepted) =
     IsAnswerToAccepted quoted accepted (further_findings q.checks orders deals times)
 IsAnswerByDeals q orders deals times quoted (verdict.Rejected first) =
-    IsAnswerToRejected quoted orders first (offences_of (asked_rule q) orders deals first)
+    IsAnswerToRejected quoted orders first (offences_of q.rule orders deals first)
 IsAnswerByDeals q orders deals times quoted (verdict.Malformed log bad) =
     IsVerdictAnswer (verdict.Malformed log bad)
 

@@ -2,25 +2,24 @@
 ghost use Rattle.std.specs.Prelude.{◌≡◌, ◌∷◌, [], true, IfOk, length};
 ghost use Rattle.audit_base.specs.Deals.{IsDealList};
 ghost use Rattle.audit_base.specs.Orders.{IsOrderList};
-ghost use Rattle.audit_base.specs.RuleKinds.{rule_of_call};
 ghost use Rattle.audit_report.specs.declared.statuses.Status.TheVariants as status;
 ghost use Rattle.audit_report.specs.declared.verdicts.Verdict.TheVariants as verdict;
 ghost use Rattle.audit_report.specs.Texts.{IsVerdictInRange};
 ghost use Rattle.command_run.specs.Deciding.{IsAnswerOfKind};
 ghost use Rattle.command_run.specs.VerdictAnswers.{IsAnswerWith};
-ghost use Rattle.further_checks.specs.FurtherRules.{further_findings};
+ghost use Rattle.further_checks.specs.FurtherRules.{asks_further, further_findings};
 ghost use Rattle.log_verdict.specs.BothLogs.{HaveOneLimit, StaysWithin};
 ghost use Rattle.log_verdict.specs.Steps.{reading_by, FaultsNeverFall, KeepsShelfLogs};
 ghost use Rattle.offence_list.specs.Offences.{offences_of};
 ghost use Rattle.symbol_offences.specs.OffenceAnswers.{GivesOffencesOrStop, IsAnswerToAccepted, IsAnswerToRejected};
 ghost use Rattle.symbol_offences.specs.OffenceLines.{absent_line};
-ghost use Rattle.symbol_offences.specs.Questions.{asks_further, keeping_for};
+ghost use Rattle.symbol_offences.specs.Questions.{keeping_for};
 ghost use Rattle.symbol_offences.specs.SymbolLogs.{AreInLogOrder, IsReadyToTell};
 ghost use Rattle.symbol_offences.specs.Telling.{are_none, IsAnswerByDeals, IsAnswerBySome, IsAnswerToLogs};
 
 use crate::further::append_failures;
 use crate::listing::{all_offences, append_before_rule, append_listing};
-use crate::questions::{OffenceQuestion, asks_further};
+use crate::questions::OffenceQuestion;
 use crate::reading::read_symbol;
 use crate::symbol_logs::{QuotedRecords, SymbolLogs};
 use audit_base::faults::NoMemory;
@@ -28,7 +27,7 @@ use audit_base::findings::Finding;
 use audit_base::names::Name;
 use audit_base::orders::Deal;
 use audit_base::stamps::Stamp;
-use audit_base::terms::CallRule;
+use audit_base::terms::Rule;
 use audit_report::line_parts::{Part, append_line};
 use audit_report::reports::report_text;
 use audit_report::statuses::Status;
@@ -85,7 +84,7 @@ fn answer_before_rule(
 /// The answer where the rule rejects the deals with this finding.
 fn answer_rejected(
     alloc: Global,
-    rule: CallRule,
+    rule: Rule,
     orders: &OrderList<'_>,
     deals: &[Deal],
     quoted: &QuotedRecords,
@@ -94,7 +93,7 @@ fn answer_rejected(
     requires order_list { IsOrderList orders.now }
     requires deal_list { IsDealList orders.now deals.now }
     requires in_order { AreInLogOrder quoted.now }
-    ensures { let found = offences_of (rule_of_call rule) orders.now deals.now first.now in
+    ensures { let found = offences_of rule orders.now deals.now first.now in
         IfOk result (IsAnswerOfKind
         (IsAnswerToRejected quoted.now orders.now first.now found)) }
 {
@@ -142,7 +141,7 @@ fn answer_accepted(
     ensures { let found = further_findings checks orders.now deals.now times.now in
         IfOk result (IsAnswerOfKind (IsAnswerToAccepted quoted.now accepted found)) }
 {
-    if !asks_further(checks) {
+    if !checks.any() {
         return verdict_answer(alloc, &Verdict::Accepted(accepted));
     }
     let traded = totals_of(alloc, orders, deals)?;

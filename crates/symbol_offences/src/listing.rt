@@ -3,40 +3,69 @@ ghost use Rattle.std.specs.Prelude.{◌≡◌, ◌++◌, [], ◌∷◌, IfOk, On
 ghost use Rattle.audit_base.specs.Deals.{IsDealList};
 ghost use Rattle.audit_base.specs.Orders.{IsOrderList};
 ghost use Rattle.call_offences.specs.Inside.{AreOffencesInside, IsListingInside, IsOffenceInside};
-ghost use Rattle.call_offences.specs.Listings.{findings_of_listing, IsListingOf};
+ghost use Rattle.call_offences.specs.Listings.{findings_of_listing};
 ghost use Rattle.offence_list.specs.ListedOffences.{finding_of_offence, findings_of_offences};
+ghost use Rattle.offence_list.specs.Offences.{continuous_offences_of, offence_kind};
 ghost use Rattle.offence_report.specs.OffenceTexts.{offence_line};
 ghost use Rattle.symbol_offences.specs.OffenceLines.{offence_lines, quoted_offence};
 ghost use Rattle.symbol_offences.specs.Quotes.{quotes_with};
 ghost use Rattle.symbol_offences.specs.SymbolLogs.{AreInLogOrder};
-ghost use Rattle.symbol_offences.specs.Telling.{offences_quoted};
+ghost use Rattle.symbol_offences.specs.Telling.{IsListingUnder, offences_quoted};
 
 use crate::quotes::{append_quotes, ending_place};
 use crate::symbol_logs::QuotedRecords;
 use audit_base::faults::NoMemory;
 use audit_base::findings::Finding;
 use audit_base::orders::Deal;
-use audit_base::terms::CallRule;
+use audit_base::terms::Rule;
 use call_offences::listing::{Listing, call_offences};
+use continuous_offences::listing::continuous_offences;
+use offence_list::kinds::OffenceKind;
 use offence_list::offences::Offence;
 use offence_report::offence_lines::{append_count_line, append_offence_line};
 use order_list::lists::OrderList;
 use std::alloc::Global;
 
-/// Every offence of deals under the rule, whose first is known.
-pub(crate) fn all_offences(
+/// Every offence of deals in continuous trading, whose first is known.
+fn all_continuous_offences(
     alloc: Global,
-    rule: CallRule,
     orders: &OrderList<'_>,
     deals: &[Deal],
     first: &Finding,
 ) -> Result<Listing, NoMemory>
     requires order_list { IsOrderList orders.now }
     requires deal_list { IsDealList orders.now deals.now }
-    ensures list { IfOk result (IsListingOf rule orders.now deals.now first.now) }
+    ensures list { let kind = offence_kind first.now.property in
+        let offences = continuous_offences_of kind orders.now deals.now first.now in IfOk result
+        (λ found. findings_of_listing orders.now first.now found ≡ offences) }
     ensures inside { IfOk result (IsListingInside orders.now) }
 {
-    call_offences(alloc, rule, orders, deals, first)
+    match OffenceKind::of(first.property) {
+        OffenceKind::Alone => Ok(Listing::Alone),
+        OffenceKind::OfDeal | OffenceKind::OfPriority | OffenceKind::OfBook => {
+            let found = continuous_offences(alloc, orders, deals)?;
+            Ok(Listing::Listed(found))
+        }
+    }
+}
+
+/// Every offence of deals under the rule, whose first is known.
+pub(crate) fn all_offences(
+    alloc: Global,
+    rule: Rule,
+    orders: &OrderList<'_>,
+    deals: &[Deal],
+    first: &Finding,
+) -> Result<Listing, NoMemory>
+    requires order_list { IsOrderList orders.now }
+    requires deal_list { IsDealList orders.now deals.now }
+    ensures list { IfOk result (IsListingUnder rule orders.now deals.now first.now) }
+    ensures inside { IfOk result (IsListingInside orders.now) }
+{
+    match rule.call_rule() {
+        Some(rule) => call_offences(alloc, rule, orders, deals, first),
+        None => all_continuous_offences(alloc, orders, deals, first),
+    }
 }
 
 /// The line of a finding, and the records that it quotes, with the one that ended an order.

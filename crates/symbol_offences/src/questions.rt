@@ -1,19 +1,18 @@
 //! What is asked of the records of a symbol.
 ghost use Rattle.std.specs.Prelude.{◌≡◌, false};
-ghost use Rattle.audit_base.specs.RuleKinds.{rule_of_call};
 ghost use Rattle.record_verdict.specs.RecordVerdicts.{question};
-ghost use Rattle.symbol_offences.specs.Questions.{asks_further, keeping_for};
+ghost use Rattle.symbol_offences.specs.Questions.{keeping_for};
 
 use audit_base::names::Name;
-use audit_base::terms::{CallRule, Rule};
+use audit_base::terms::Rule;
 use further_checks::findings::FurtherChecks;
 use record_verdict::questions::Question;
 
-/// What is asked of the records of a symbol: every offence under a rule of a call, and of a symbol
-/// that the rule accepts every trade that fails a further check.
+/// What is asked of the records of a symbol: every offence under a rule, and of a symbol that the
+/// rule accepts every trade that fails a further check.
 #[derive(Clone, Copy, Debug)]
 pub struct OffenceQuestion {
-    pub rule: CallRule,
+    pub rule: Rule,
     pub symbol: Name,
     /// Whether the records that a letter quotes are written behind each offence.
     pub records: bool,
@@ -30,31 +29,13 @@ pub struct Keeping {
     pub times: bool,
 }
 
-/// A rule of a call as one of the five.
-fn rule_of(rule: CallRule) -> Rule
-    ensures { result ≡ rule_of_call rule }
-{
-    match rule {
-        CallRule::Matching => Rule::Matching,
-        CallRule::Fair => Rule::Fair,
-        CallRule::Greatest(rule) => rule.rule(),
-    }
-}
-
-/// Whether a further check is asked for.
-pub(crate) fn asks_further(checks: FurtherChecks) -> bool
-    ensures { result ≡ asks_further checks }
-{
-    checks.resting_price || checks.trade_times
-}
-
 impl OffenceQuestion {
     /// The same as the question of an audit, without a table.
     pub fn audit(&self) -> Question
-        ensures { result ≡ question (rule_of_call self.now.rule) self.now.symbol false }
+        ensures { result ≡ question self.now.rule self.now.symbol false }
     {
         Question {
-            rule: rule_of(self.rule),
+            rule: self.rule,
             symbol: self.symbol,
             table: false,
         }
@@ -66,7 +47,7 @@ impl OffenceQuestion {
     {
         Keeping {
             records: self.records,
-            times: asks_further(self.checks),
+            times: self.checks.any(),
         }
     }
 }

@@ -1,6 +1,7 @@
--- The run began with the shelf over the files and the sink over the output.
+-- The run began with the shelf over the files, the opener and the sink over the output.
+use Rattle.std.proofs.Common.{refl}
 use Rattle.desk_program.proofs.run_over.Goals as goal
 
 pub returns : goal.returns
 returns g c =
-    (_, (c.noted_files-shelf.ensures, c.noted_output-out.ensures), c.answer_words-status.ensures)
+    (_, (c.noted_files-shelf.ensures, refl, c.noted_output-out.ensures), c.answer_words-end.ensures)

@@ -2,6 +2,6 @@ use Rattle.std.proofs.Common.{sym, ◌∙◌}
 use Rattle.symbol_offences.proofs.AnswerLemmas.{as-accepted, none-fails}
 use Rattle.symbol_offences.proofs.answers.answer_accepted.Goals as goal
 
-pub returns-then-not-asks_further : goal.returns-then-not-asks_further
-returns-then-not-asks_further c =
-    as-accepted c.args.quoted.now c.args.accepted _ c.verdict_answer.result (none-fails c.args.checks c.args.orders.now c.args.deals.now c.args.times.now (sym c.asks_further.ensures ∙ c.if-not-asks_further.true)) c.verdict_answer.ensures
+pub returns-then-not-any : goal.returns-then-not-any
+returns-then-not-any c =
+    as-accepted c.args.quoted.now c.args.accepted _ c.verdict_answer.result (none-fails c.args.checks c.args.orders.now c.args.deals.now c.args.times.now (sym c.any.ensures ∙ c.if-not-any.true)) c.verdict_answer.ensures

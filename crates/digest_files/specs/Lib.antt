@@ -1,0 +1,4 @@
+-- What a reader must believe: what the opener over files refuses, and what a call that closes its
+-- database answers.
+pub mod FileDigestOpeners
+pub mod ClosedFilings

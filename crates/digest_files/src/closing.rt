@@ -1,0 +1,56 @@
+//! The call that files or checks, and the close of the database after it.
+ghost use Rattle.std.specs.Prelude.{◌≡◌, false, map};
+ghost use Rattle.std.specs.String.{string_bytes};
+ghost use Rattle.audit_base.specs.declared.terms.Which.{Which};
+ghost use Rattle.digest_files.specs.ClosedFilings.{FilesThenCloses};
+
+use case_run::statuses::CaseStatus;
+use filing_run::opener::DigestOpener;
+use filing_run::running::{FilingEnd, run_filing_seeded};
+use log_source::shelf::Shelf;
+use log_source::sink::Sink;
+use seeded_hash::seed::HashSeed;
+use std::alloc::Global;
+
+/// An opener that closes what it has opened, once nothing more is asked of it.
+///
+/// What handles a keeper by this knows nothing of what it is made of, so that its proof does not
+/// go by way of all that a database is made of.
+pub trait ClosingDigests: DigestOpener {
+    /// Closes the keeper that was opened last. What it has kept stays kept, also where the
+    /// close fails.
+    fn close(&self, keeper: Self::Book);
+}
+
+/// How a call ended whose database is closed: its status, and the shelf that its logs were read
+/// from.
+#[derive(Drop)]
+pub struct ClosedEnd<F> {
+    pub status: CaseStatus,
+    pub shelf: F,
+}
+
+/// Does what the words ask for, as `run_filing_seeded` does, and closes the database, where it was
+/// opened.
+pub fn file_and_close<F: Shelf, K: Sink, O: ClosingDigests>(
+    alloc: Global,
+    seed: HashSeed,
+    words: &[String],
+    shelf: F,
+    out: &mut K,
+    opener: &mut O,
+) -> ClosedEnd<F>
+    requires fresh { (which : Which) → (F.slot shelf which).started ≡ false }
+    ensures { FilesThenCloses F.Shelf shelf result.shelf (O.state opener.old) (O.state opener.new)
+        (map string_bytes words.now) (K.state out.old) (K.state out.new) result.status }
+{
+    let FilingEnd {
+        status,
+        shelf,
+        book,
+    } = run_filing_seeded(alloc, seed, words, shelf, out, opener);
+    if let Some(keeper) = book {
+        opener.close(keeper);
+    }
+    ClosedEnd { status, shelf }
+}

@@ -1,0 +1,11 @@
+mod LogLemmas
+mod JudgeLemmas
+mod FilingLemmas
+mod CheckLemmas
+mod ReadyLemmas
+mod WritingLemmas
+mod KeeperLemmas
+mod TopLemmas
+mod DayCaseLemmas
+mod DayLemmas
+mod OneTurnLemmas
