@@ -32,22 +32,14 @@ pub fn append_known_line(alloc: Global, out: &mut Vec<u8>) -> Result<(), NoMemor
 }
 
 /// `nocase,LABEL`.
-pub fn append_no_case_line(
-    alloc: Global,
-    label: &Name,
-    out: &mut Vec<u8>,
-) -> Result<(), NoMemory>
+pub fn append_no_case_line(alloc: Global, label: &Name, out: &mut Vec<u8>) -> Result<(), NoMemory>
     ensures { OnOk result (out.new.items ≡ out.old.items ++ text.no_case_line label.now) }
 {
     append_line(alloc, b"nocase", &[Part::Word(label.bytes())], out)
 }
 
 /// `case,LABEL,RULE,SYMBOL,accepted` or `case,LABEL,RULE,SYMBOL,PROPERTY,LOG,PLACE`.
-pub fn append_case_line(
-    alloc: Global,
-    case: &Case,
-    out: &mut Vec<u8>,
-) -> Result<(), NoMemory>
+pub fn append_case_line(alloc: Global, case: &Case, out: &mut Vec<u8>) -> Result<(), NoMemory>
     ensures { OnOk result (out.new.items ≡ out.old.items ++ text.case_line case.now) }
 {
     match case.offence {
