@@ -1,4 +1,5 @@
 mod EndLemmas
+pub mod MarkLemmas
 pub mod FindLemmas
 pub mod GrammarLemmas
 pub mod LawLemmas

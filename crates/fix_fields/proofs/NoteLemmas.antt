@@ -1,5 +1,5 @@
 -- Notes of tags, field by field.
-use Rattle.std.proofs.Common.{◌≡◌, ◌≢◌, ℕ, zero, suc, Bool, true, false, cond, eqb, Option, Some, None, List, [], ◌∷◌, ◌++◌, get_or, replicate, ap, sym, refl, ◌∙◌, inl, inr, arith}
+use Rattle.std.proofs.Common.{◌≡◌, ◌≢◌, ℕ, zero, suc, ◌-◌, Bool, true, false, cond, eqb, ltb, Option, Some, None, List, [], ◌∷◌, ◌++◌, get_or, replicate, ap, sym, refl, ◌∙◌, inl, inr, arith}
 use Rattle.std.specs.List.{find, list_all}
 use Rattle.std.specs.Option.{option_map}
 use Rattle.std.proofs.lemmas.Bool.{and_parts, cases_Bool, eqb-true}
@@ -8,7 +8,7 @@ use Rattle.fix_fields.specs.declared.field.Field.{Field}
 use Rattle.fix_fields.specs.declared.field.ValueSpan.{ValueSpan}
 use Rattle.fix_fields.specs.declared.field.ValueSpan.TheVariants.{Absent, One, Many}
 use Rattle.fix_fields.specs.declared.notes.TagNotes.{TagNotes}
-use Rattle.fix_fields.specs.TagNotes.{AreNotesOf, fields_with, first_span, note_at, span_of_note, note_place, span_of_tag, note_places, span_with_field}
+use Rattle.fix_fields.specs.TagNotes.{AreNotesOf, fields_with, first_span, note_at, span_of_note, note_place, span_of_tag, later_places, span_with_field}
 
 -- what is found in a list passes what all of it pass, and the test by which it was found
 module _ (P Q : ℕ × ℕ → Bool) where
@@ -26,22 +26,35 @@ module _ (P Q : ℕ × ℕ → Bool) where
 
 -- the tag that is noted at a place
 tag_at : ℕ → ℕ
-tag_at place = get_or (11 ∷ 31 ∷ 32 ∷ 35 ∷ 38 ∷ 40 ∷ 41 ∷ 43 ∷ 44 ∷ 49 ∷ 54 ∷ 55 ∷ 56 ∷ 59 ∷ 60 ∷ 110 ∷ 111 ∷ 150 ∷ 527 ∷ []) place 0
+tag_at place = cond (ltb place 61) place (get_or (110 ∷ 111 ∷ 150 ∷ 527 ∷ []) (place - 61) 0)
 
 place-some : (found : Option (ℕ × ℕ)) (place : ℕ) → option_map (λ p. p.1) found ≡ Some place → (x : ℕ × ℕ) × (found ≡ Some x) × (x.1 ≡ place)
 place-some None place is = absurd (cc is)
 place-some (Some x) place is = (x, refl, (cc))
 
 -- each place is that of its tag
-all-own : list_all (λ p. eqb (tag_at p.1) p.0) note_places ≡ true
+all-own : list_all (λ p. eqb (tag_at p.1) p.0) later_places ≡ true
 unfolding tag_at
 all-own = refl
 
-own-tag : (tag place : ℕ) → note_place tag ≡ Some place → tag_at place ≡ tag
-own-tag tag place is =
-    let some = place-some (find (λ p. eqb p.0 tag) note_places) place is in
-    let passes = found-passes (λ p. eqb p.0 tag) (λ p. eqb (tag_at p.1) p.0) note_places some.0 all-own some.1 in
+own-later : (tag place : ℕ) → option_map (λ p. p.1) (find (λ p. eqb p.0 tag) later_places) ≡ Some place → tag_at place ≡ tag
+own-later tag place is =
+    let some = place-some (find (λ p. eqb p.0 tag) later_places) place is in
+    let passes = found-passes (λ p. eqb p.0 tag) (λ p. eqb (tag_at p.1) p.0) later_places some.0 all-own some.1 in
     ap tag_at (sym some.2) ∙ eqb-true (tag_at some.0.1) some.0.0 passes.1 ∙ eqb-true some.0.0 tag passes.0
+
+own-below : (tag place : ℕ) → ltb tag 61 ≡ true → Some tag ≡ Some place → tag_at place ≡ tag
+unfolding tag_at
+own-below tag place low is =
+    let same : tag ≡ place = cc is in
+    ap (λ (n : ℕ). cond (ltb n 61) n (get_or (110 ∷ 111 ∷ 150 ∷ 527 ∷ []) (n - 61) 0)) (sym same) ∙ rw low refl
+
+own-by : (b : Bool) (tag place : ℕ) → ltb tag 61 ≡ b → cond b (Some tag) (option_map (λ p. p.1) (find (λ p. eqb p.0 tag) later_places)) ≡ Some place → tag_at place ≡ tag
+own-by true tag place low is = own-below tag place low is
+own-by false tag place high is = own-later tag place is
+
+own-tag : (tag place : ℕ) → note_place tag ≡ Some place → tag_at place ≡ tag
+own-tag tag place is = own-by (ltb tag 61) tag place refl is
 
 -- no two tags have one place
 place-apart : (a b p q : ℕ) → note_place a ≡ Some p → note_place b ≡ Some q → q ≡ p → b ≡ a
@@ -105,9 +118,9 @@ zeros (suc n) zero = refl
 zeros (suc n) (suc k) = zeros n k
 
 -- notes of no fields say that each tag is absent
-pub notes-none : (notes : TagNotes) → notes.counts ≡ replicate 19 0 → AreNotesOf notes []
+pub notes-none : (notes : TagNotes) → notes.counts ≡ replicate 65 0 → AreNotesOf notes []
 notes-none notes none tag place has =
-    let count : get_or notes.counts place 0 ≡ 0 = ap (λ (counts : List ℕ). get_or counts place 0) none ∙ zeros 19 place in
+    let count : get_or notes.counts place 0 ≡ 0 = ap (λ (counts : List ℕ). get_or counts place 0) none ∙ zeros 65 place in
     ap (λ (n : ℕ). span_of_note n (get_or notes.starts place 0) (get_or notes.ends place 0)) count
 
 -- what a note says, by its count

@@ -13,4 +13,5 @@ pub mod TagNotes
 pub mod Ordinary
 -- Part 2. What the private functions pass on to one another.
 pub mod FieldAt
+pub mod Marks
 pub mod Ends

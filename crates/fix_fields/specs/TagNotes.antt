@@ -1,5 +1,5 @@
 -- Notes of where the values of tags are.
-use Rattle.std.specs.Prelude.{◌≡◌, ℕ, ◌==◌, Option, Some, List, [], ◌∷◌, IsSome, slice_index, if◌then◌else◌}
+use Rattle.std.specs.Prelude.{◌≡◌, ℕ, ◌==◌, nat_lt, Option, Some, List, [], ◌∷◌, IsSome, slice_index, if◌then◌else◌}
 use Rattle.std.specs.List.{find}
 use Rattle.std.specs.Option.{option_map}
 use Rattle.fix_fields.specs.declared.field.Field.{Field}
@@ -24,17 +24,16 @@ first_span (field ∷ next ∷ fields) = Many field.from field.to
 abbrev pub span_of_tag : List Field → ℕ → ValueSpan
 span_of_tag fields tag = first_span (fields_with tag fields)
 
--- the tags that are noted, those that the tables of messages ask
--- for, each with the place of its note
-abbrev pub note_places : List (ℕ × ℕ)
-note_places =
-    (11, 0) ∷ (31, 1) ∷ (32, 2) ∷ (35, 3) ∷ (38, 4) ∷ (40, 5) ∷ (41, 6) ∷ (43, 7) ∷ (44, 8)
-    ∷ (49, 9) ∷ (54, 10) ∷ (55, 11) ∷ (56, 12) ∷ (59, 13) ∷ (60, 14) ∷ (110, 15) ∷ (111, 16)
-    ∷ (150, 17) ∷ (527, 18) ∷ []
+-- the greater tags that are noted, those that the tables of messages ask for, each with the place of
+-- its note
+abbrev pub later_places : List (ℕ × ℕ)
+later_places = (110, 61) ∷ (111, 62) ∷ (150, 63) ∷ (527, 64) ∷ []
 
--- the place of the note of a tag, where it is noted
+-- the place of the note of a tag, where it is noted: each tag below 61 is its own place
 abbrev pub note_place : ℕ → Option ℕ
-note_place tag = option_map (λ p. p.1) (find (λ p. p.0 == tag) note_places)
+note_place tag =
+    if nat_lt tag 61 then Some tag
+    else option_map (λ p. p.1) (find (λ p. p.0 == tag) later_places)
 
 -- the tag is noted
 abbrev pub IsNotedTag : ℕ → Type 0

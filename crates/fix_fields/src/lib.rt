@@ -13,6 +13,7 @@ mod ends;
 pub mod field;
 pub mod find;
 pub mod laws;
+mod marks;
 pub mod notes;
 mod pairs;
 pub mod split;

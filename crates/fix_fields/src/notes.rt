@@ -9,10 +9,14 @@ use crate::taker::FieldTaker;
 use std::alloc::AllocFailed;
 
 /// How many tags are noted.
-const NOTES: usize = 19;
+const NOTES: usize = 65;
+
+/// Tags below this number are all noted, since most tags of the tables are among them: so the place
+/// of a note is mostly the tag itself, and is not looked up.
+const LATER: u32 = 61;
 
 /// Where the values of those tags are that the tables of messages
-/// ask for, each at a place of its own.
+/// ask for, and of others, each at a place of its own.
 #[derive(Drop)]
 pub struct TagNotes {
     /// How many fields have the tag, two where there are more.
@@ -28,28 +32,16 @@ pub struct TagNotes {
 #[inline(always)]
 fn place_of(tag: u32) -> Option<usize>
     ensures value { result ≡ note_place tag }
-    ensures inside { IfSome result (λ place. place < 19) }
+    ensures inside { IfSome result (λ place. place < 65) }
 {
+    if tag < LATER {
+        return Some(tag as usize);
+    }
     match tag {
-        11 => Some(0),
-        31 => Some(1),
-        32 => Some(2),
-        35 => Some(3),
-        38 => Some(4),
-        40 => Some(5),
-        41 => Some(6),
-        43 => Some(7),
-        44 => Some(8),
-        49 => Some(9),
-        54 => Some(10),
-        55 => Some(11),
-        56 => Some(12),
-        59 => Some(13),
-        60 => Some(14),
-        110 => Some(15),
-        111 => Some(16),
-        150 => Some(17),
-        527 => Some(18),
+        110 => Some(61),
+        111 => Some(62),
+        150 => Some(63),
+        527 => Some(64),
         _ => None,
     }
 }
@@ -86,7 +78,7 @@ impl TagNotes {
     /// Notes a field at the place of its tag.
     #[inline(always)]
     fn put(&mut self, place: usize, field: Field)
-        requires { place < 19 }
+        requires { place < 65 }
         ensures here { note_at self.new place ≡ span_with_field (note_at self.old place) field }
         ensures others { (other : ℕ) → other ≢ place → note_at self.new other
             ≡ note_at self.old other }

@@ -1,8 +1,8 @@
 //! Reads a body as its list of fields, in one pass from left to right.
 //!
-//! The reader is given the bytes after the body too and reads no field there, since `memchr` looks
-//! at 32 bytes at once where there are as many. One iterator finds all ends of a body. Of the field
-//! before the next one only a length field is kept.
+//! The reader is given the bytes after the body too and reads no field there, since 64 bytes are
+//! looked at at once where there are as many. Of the field before the next one only a length field
+//! is kept.
 ghost use Rattle.std.specs.Prelude.{◌≡◌, ◌≤◌, ◌+◌, ℕ, List, [], None, Some, length, take, drop, IfOk, IfErr, IfSome, IfNone, IsOk, IsOkAnd, OnOk, OnErr};
 ghost use Rattle.std.specs.Option.{option_map, ForSome};
 ghost use Rattle.std.specs.Result.{IsErrOf};
@@ -16,12 +16,12 @@ ghost use Rattle.fix_fields.specs.FieldAt.{IsFieldAt, counter_of};
 
 use crate::ends::{ends_of, ends_of_front};
 use crate::field::{Field, FieldFault};
+use crate::marks::MarkedText;
 use crate::notes::TagNotes;
 use crate::pairs::is_length;
 use crate::tags::tag_at;
 use crate::taker::FieldTaker;
 use crate::values::value_size;
-use memchr::Memchr;
 use std::alloc::Global;
 
 const MSG_TYPE: u32 = 35;
@@ -119,7 +119,7 @@ pub fn note_front_fields(text: &[u8], size: usize, notes: &mut TagNotes) -> Resu
 }
 
 /// Reads the fields of a body, whose SOH bytes are given, into a list whose members are dropped.
-fn refill(body: &[u8], ends: Memchr<'_>, list: &mut Vec<Field>) -> Result<(), FieldFault>
+fn refill(body: &[u8], ends: MarkedText<'_>, list: &mut Vec<Field>) -> Result<(), FieldFault>
     requires size { length body.now ≤ longest_body }
     requires ends { HoldsEnds body.now 0 ends }
     ensures fields { OnOk result (AreFieldsOf body.now list.new.items) }
@@ -139,7 +139,7 @@ fn refill(body: &[u8], ends: Memchr<'_>, list: &mut Vec<Field>) -> Result<(), Fi
 }
 
 /// The same into an empty list; after a fault it holds the fields before that.
-fn append_fields(body: &[u8], ends: Memchr<'_>, list: &mut Vec<Field>) -> Result<(), FieldFault>
+fn append_fields(body: &[u8], ends: MarkedText<'_>, list: &mut Vec<Field>) -> Result<(), FieldFault>
     requires size { length body.now ≤ longest_body }
     requires ends { HoldsEnds body.now 0 ends }
     requires empty { list.old.items ≡ [] }
@@ -158,7 +158,7 @@ fn append_fields(body: &[u8], ends: Memchr<'_>, list: &mut Vec<Field>) -> Result
 /// that may count it is kept.
 fn hand_fields<T: FieldTaker>(
     body: &[u8],
-    mut ends: Memchr<'_>,
+    mut ends: MarkedText<'_>,
     taker: &mut T,
 ) -> Result<(), FieldFault>
     requires size { length body.now ≤ longest_body }
@@ -203,7 +203,12 @@ fn counter_of(field: Field) -> Option<Field>
 /// The field that begins at byte `at`, where `before` is the field right before it, and `ends`
 /// gives the SOH bytes from there on; None exactly where no field can be read there.
 #[inline(always)]
-fn field_at(body: &[u8], at: usize, before: Option<Field>, ends: &mut Memchr<'_>) -> Option<Field>
+fn field_at(
+    body: &[u8],
+    at: usize,
+    before: Option<Field>,
+    ends: &mut MarkedText<'_>,
+) -> Option<Field>
     requires before { ForSome before (λ f. HasRangeIn body.now f) }
     requires at { at ≤ length body.now }
     requires ends { HoldsEnds body.now at ends.old }

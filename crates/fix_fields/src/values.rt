@@ -11,10 +11,10 @@ ghost use Rattle.fix_fields.specs.FieldAt.{EndsAt, NoValue};
 
 use crate::ends::next_end;
 use crate::field::Field;
+use crate::marks::MarkedText;
 use crate::pairs::length_tag;
 use audit_base::digits::read_digits;
 use audit_base::sizes::SOH;
-use memchr::Memchr;
 
 /// The number of bytes of the value at the byte `from` of the body, where `before` is the field
 /// right before the field with this tag, and `ends` gives the SOH bytes from there on. None
@@ -25,7 +25,7 @@ pub fn value_size(
     before: Option<Field>,
     tag: u32,
     from: usize,
-    ends: &mut Memchr<'_>,
+    ends: &mut MarkedText<'_>,
 ) -> Option<usize>
     requires before { ForSome before (λ f. HasRangeIn body.now f) }
     requires from { from ≤ length body.now }
@@ -65,7 +65,7 @@ fn data_size(count: &[u8], bytes: &[u8]) -> Option<usize>
 
 /// How far the first SOH at the byte `from` or after it is from there.
 #[inline(always)]
-fn first_soh(body: &[u8], from: usize, ends: &mut Memchr<'_>) -> Option<usize>
+fn first_soh(body: &[u8], from: usize, ends: &mut MarkedText<'_>) -> Option<usize>
     requires from { from ≤ length body.now }
     requires ends { SeeksEnd body.now from ends.old }
     ensures first { IsFirstByte (is_byte soh) (drop from body.now) result }
@@ -77,7 +77,7 @@ fn first_soh(body: &[u8], from: usize, ends: &mut Memchr<'_>) -> Option<usize>
 
 /// The same of any other field.
 #[inline(always)]
-fn delimited_size(body: &[u8], from: usize, ends: &mut Memchr<'_>) -> Option<usize>
+fn delimited_size(body: &[u8], from: usize, ends: &mut MarkedText<'_>) -> Option<usize>
     requires from { from ≤ length body.now }
     requires ends { SeeksEnd body.now from ends.old }
     ensures end { IfSome result (EndsAt (drop from body.now)) }

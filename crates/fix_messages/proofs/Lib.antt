@@ -1,6 +1,7 @@
 pub mod TagLemmas
 pub mod LogLemmas
 pub mod FeedLemmas
+mod PartLemmas
 pub mod BodyLemmas
 pub mod SayLemmas
 pub mod ReadingLemmas

@@ -1,7 +1,9 @@
 //! Feeds: what takes a FIX log piece by piece, hands on its records,
 //! and stops at the first bad message.
-ghost use Rattle.std.specs.Prelude.{◌≡◌, ◌-◌, ◌<◌, ◌^◌, ℕ, List, [], All, None, Some, Ok, vec_len, IfOk, OnOk, MatchBool};
+ghost use Rattle.std.specs.Prelude.{◌≡◌, ◌-◌, ◌<◌, ◌≤◌, ◌^◌, ℕ, List, [], All, None, Some, Ok, length, vec_len, IfOk, OnOk, MatchBool};
 ghost use Rattle.log_source.specs.Collectors.{HasNineBytesEach, HasPlace};
+ghost use Rattle.log_source.specs.Feeds.{HasRoom};
+ghost use Rattle.log_source.specs.Handing.{HandsOnMore};
 ghost use Rattle.fix_framing.specs.Framing.{bytes_held};
 ghost use Rattle.fix_messages.specs.Feeds.{IsFixFeedOf, AnswersFixCollected, AnswersMessageRecords, IsFixFeedWithinLimit};
 ghost use Rattle.fix_messages.specs.Logs.{frame_reason, read_fix_log};
@@ -19,6 +21,10 @@ use fix_framing::headers::Fix44;
 use log_source::collector::Collector;
 use log_source::feed::Feed;
 use std::alloc::Global;
+
+/// How many bytes of a piece are framed at a time. A framer copies what it is fed, so it holds no
+/// second copy of a whole piece, and what it holds stays near the processor.
+const PART: usize = 32_768;
 
 /// What is kept of a log that comes in pieces. A piece may end anywhere. Only the
 /// message that isn't all there is kept as bytes. After a bad message further pieces
@@ -50,6 +56,19 @@ pub fn frame_reason(fault: FrameFault) -> Reason
         FrameFault::Truncated => Reason::Truncated,
         FrameFault::Trailer => Reason::Trailer,
         FrameFault::Checksum => Reason::Checksum,
+    }
+}
+
+// Where the part of a piece ends that begins at this byte.
+fn part_end(piece: &[u8], at: usize) -> usize
+    requires { at < length piece.now }
+    ensures more { at < result }
+    ensures inside { result ≤ length piece.now }
+{
+    if piece.len() - at > PART {
+        at + PART
+    } else {
+        piece.len()
     }
 }
 
@@ -137,6 +156,19 @@ impl<R: FixRecord, K: Collector<Entry = R>> FixFeed<K> {
         }
     }
 
+    // Hands on a part of a piece. After a bad message it is not looked at.
+    fn feed_part(&mut self, part: &[u8]) -> Result<(), NoMemory>
+        requires { HasRoom (IsFixFeedOf K.has_taken R.meaning) self.old part.now }
+        ensures { OnOk result (HandsOnMore (IsFixFeedOf K.has_taken R.meaning self.old)
+            (IsFixFeedOf K.has_taken R.meaning self.new) part.now) }
+    {
+        if self.bad.is_some() {
+            return Ok(());
+        }
+        self.framer.feed(part)?;
+        self.take_messages()
+    }
+
     /// The collector, which has been handed exactly the records of the log that has come, or its
     /// first bad message: what the reading of the whole log gives, for every log that the feed
     /// stands for. Each record is sound: one of life Market has the market price of its side.
@@ -197,10 +229,12 @@ impl<R: FixRecord, K: Collector<Entry = R>> Feed for FixFeed<K> {
     ghost stands_for = { IsFixFeedOf K.has_taken R.meaning };
 
     fn feed(&mut self, piece: &[u8]) -> Result<(), NoMemory> {
-        if self.bad.is_some() {
-            return Ok(());
+        let mut at = 0;
+        while at < piece.len() {
+            let end = part_end(piece, at);
+            self.feed_part(&piece[at..end])?;
+            at = end;
         }
-        self.framer.feed(piece)?;
-        self.take_messages()
+        Ok(())
     }
 }
