@@ -1,0 +1,262 @@
+//! Shapes of a picture, each with its class and its place on the paper.
+ghost use Rattle.std.specs.Prelude.{◌≡◌, ◌++◌, IfOk, OnOk};
+ghost use Rattle.page_plots.specs.Shapes as spec;
+
+use audit_base::faults::NoMemory;
+use itoa::Buffer;
+use page_markup::markup::Markup;
+use page_markup::words::{AttributeName, Tag};
+use page_parts::elements::{says, with_text_element};
+use std::alloc::Global;
+
+/// A point of the paper.
+#[derive(Clone, Copy, Debug, PartialEq, Eq)]
+pub struct Point {
+    /// From the left.
+    pub x: u32,
+    /// From the top.
+    pub y: u32,
+}
+
+/// Which point of a text is at its place.
+#[derive(Clone, Copy, Debug, PartialEq, Eq)]
+pub enum Anchor {
+    Start,
+    Middle,
+    End,
+}
+
+impl Anchor {
+    /// The word of the attribute.
+    fn word(self) -> &'static [u8]
+        ensures { result.now ≡ spec.anchor_word self }
+    {
+        match self {
+            Anchor::Start => b"start",
+            Anchor::Middle => b"middle",
+            Anchor::End => b"end",
+        }
+    }
+}
+
+/// With a rectangle behind it, whose numbers are written so.
+fn with_written_rectangle(
+    alloc: Global,
+    made: Markup,
+    class: &[u8],
+    x: &[u8],
+    y: &[u8],
+    width: &[u8],
+    height: &[u8],
+) -> Result<Markup, NoMemory>
+    ensures { IfOk result (λ shape. shape ≡ made
+        ++ spec.written_rectangle class.now x.now y.now width.now height.now) }
+{
+    let attributes = [
+        says(AttributeName::Class, class),
+        says(AttributeName::X, x),
+        says(AttributeName::Y, y),
+        says(AttributeName::Width, width),
+        says(AttributeName::Height, height),
+    ];
+    made.with_element(Tag::Rectangle, &attributes, &Markup::new(alloc))
+}
+
+/// With a rectangle behind it.
+pub fn with_rectangle(
+    alloc: Global,
+    made: Markup,
+    class: &[u8],
+    corner: Point,
+    width: u32,
+    height: u32,
+) -> Result<Markup, NoMemory>
+    ensures { IfOk result
+        (λ shape. shape ≡ made ++ spec.rectangle class.now corner width height) }
+{
+    let (mut left, mut top) = (Buffer::new(), Buffer::new());
+    let (mut wide, mut high) = (Buffer::new(), Buffer::new());
+    let x = left.format(corner.x).as_bytes();
+    let y = top.format(corner.y).as_bytes();
+    let width = wide.format(width).as_bytes();
+    let height = high.format(height).as_bytes();
+    with_written_rectangle(alloc, made, class, x, y, width, height)
+}
+
+/// With a straight line behind it, whose numbers are written so.
+fn with_written_line(
+    alloc: Global,
+    made: Markup,
+    class: &[u8],
+    x1: &[u8],
+    y1: &[u8],
+    x2: &[u8],
+    y2: &[u8],
+) -> Result<Markup, NoMemory>
+    ensures { IfOk result (λ shape. shape ≡ made
+        ++ spec.written_line class.now x1.now y1.now x2.now y2.now) }
+{
+    let attributes = [
+        says(AttributeName::Class, class),
+        says(AttributeName::X1, x1),
+        says(AttributeName::Y1, y1),
+        says(AttributeName::X2, x2),
+        says(AttributeName::Y2, y2),
+    ];
+    made.with_element(Tag::Line, &attributes, &Markup::new(alloc))
+}
+
+/// With a straight line behind it.
+pub fn with_line(
+    alloc: Global,
+    made: Markup,
+    class: &[u8],
+    from: Point,
+    to: Point,
+) -> Result<Markup, NoMemory>
+    ensures { IfOk result (λ shape. shape ≡ made ++ spec.straight_line class.now from to) }
+{
+    let (mut from_x, mut from_y) = (Buffer::new(), Buffer::new());
+    let (mut to_x, mut to_y) = (Buffer::new(), Buffer::new());
+    let x1 = from_x.format(from.x).as_bytes();
+    let y1 = from_y.format(from.y).as_bytes();
+    let x2 = to_x.format(to.x).as_bytes();
+    let y2 = to_y.format(to.y).as_bytes();
+    with_written_line(alloc, made, class, x1, y1, x2, y2)
+}
+
+/// With a circle behind it, whose numbers are written so.
+fn with_written_circle(
+    alloc: Global,
+    made: Markup,
+    class: &[u8],
+    x: &[u8],
+    y: &[u8],
+    radius: &[u8],
+) -> Result<Markup, NoMemory>
+    ensures { IfOk result (λ shape. shape ≡ made
+        ++ spec.written_circle class.now x.now y.now radius.now) }
+{
+    let attributes = [
+        says(AttributeName::Class, class),
+        says(AttributeName::CenterX, x),
+        says(AttributeName::CenterY, y),
+        says(AttributeName::Radius, radius),
+    ];
+    made.with_element(Tag::Circle, &attributes, &Markup::new(alloc))
+}
+
+/// With a circle behind it.
+pub fn with_circle(
+    alloc: Global,
+    made: Markup,
+    class: &[u8],
+    centre: Point,
+    radius: u32,
+) -> Result<Markup, NoMemory>
+    ensures { IfOk result (λ shape. shape ≡ made ++ spec.circle class.now centre radius) }
+{
+    let (mut left, mut top, mut wide) = (Buffer::new(), Buffer::new(), Buffer::new());
+    let x = left.format(centre.x).as_bytes();
+    let y = top.format(centre.y).as_bytes();
+    let radius = wide.format(radius).as_bytes();
+    with_written_circle(alloc, made, class, x, y, radius)
+}
+
+/// With a text of a picture behind it, whose numbers are written so.
+fn with_written_label(
+    made: Markup,
+    class: &[u8],
+    x: &[u8],
+    y: &[u8],
+    anchor: &[u8],
+    text: &Markup,
+) -> Result<Markup, NoMemory>
+    ensures { IfOk result (λ shape. shape ≡ made
+        ++ spec.written_label class.now x.now y.now anchor.now text.now) }
+{
+    let attributes = [
+        says(AttributeName::Class, class),
+        says(AttributeName::X, x),
+        says(AttributeName::Y, y),
+        says(AttributeName::TextAnchor, anchor),
+    ];
+    made.with_element(Tag::SvgText, &attributes, text)
+}
+
+/// With a text of a picture behind it.
+pub fn with_label(
+    alloc: Global,
+    made: Markup,
+    class: &[u8],
+    at: Point,
+    anchor: Anchor,
+    words: &[u8],
+) -> Result<Markup, NoMemory>
+    ensures { IfOk result
+        (λ shape. shape ≡ made ++ spec.label class.now at anchor words.now) }
+{
+    let (mut left, mut top) = (Buffer::new(), Buffer::new());
+    let x = left.format(at.x).as_bytes();
+    let y = top.format(at.y).as_bytes();
+    let text = Markup::new(alloc).with_text(words)?;
+    with_written_label(made, class, x, y, anchor.word(), &text)
+}
+
+/// With a line through points behind it, as the words of a path.
+pub fn with_path(alloc: Global, made: Markup, class: &[u8], path: &[u8]) -> Result<Markup, NoMemory>
+    ensures { IfOk result (λ shape. shape ≡ made ++ spec.path class.now path.now) }
+{
+    let attributes = [
+        says(AttributeName::Class, class),
+        says(AttributeName::PathData, path),
+    ];
+    made.with_element(Tag::Path, &attributes, &Markup::new(alloc))
+}
+
+/// Appends a point to the words of a path.
+pub fn append_point(path: &mut Vec<u8>, at: Point) -> Result<(), NoMemory>
+    ensures { OnOk result (path.new.items ≡ path.old.items ++ spec.path_point at) }
+{
+    let (mut x, mut y) = (Buffer::new(), Buffer::new());
+    path.extend_from_slice(x.format(at.x).as_bytes())?;
+    path.push(b' ')?;
+    path.extend_from_slice(y.format(at.y).as_bytes())?;
+    path.push(b' ')?;
+    Ok(())
+}
+
+/// With a picture behind it, of these shapes: its title, which a screen reader reads in its place,
+/// and the coordinates of its paper.
+pub fn with_picture(
+    alloc: Global,
+    made: Markup,
+    paper: &[u8],
+    title: &[u8],
+    shapes: &Markup,
+) -> Result<Markup, NoMemory>
+    ensures { IfOk result
+        (λ more. more ≡ made ++ spec.svg paper.now title.now shapes.now) }
+{
+    let inner = with_text_element(alloc, Markup::new(alloc), Tag::Title, title)?;
+    let inner = inner.with_markup(shapes)?;
+    let attributes = [
+        says(AttributeName::ViewBox, paper),
+        says(AttributeName::Role, b"img"),
+    ];
+    made.with_element(Tag::Svg, &attributes, &inner)
+}
+
+/// With shapes behind it that belong together, and the title that a pointer or a reader finds there.
+pub fn with_group(
+    alloc: Global,
+    made: Markup,
+    title: &[u8],
+    shapes: &Markup,
+) -> Result<Markup, NoMemory>
+    ensures { IfOk result (λ more. more ≡ made ++ spec.group title.now shapes.now) }
+{
+    let inner = with_text_element(alloc, Markup::new(alloc), Tag::Title, title)?;
+    let inner = inner.with_markup(shapes)?;
+    made.with_element(Tag::Group, &[], &inner)
+}
