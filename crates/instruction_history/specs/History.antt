@@ -20,3 +20,10 @@ pub record IsHistory (orders : List Order) (keys : Keys) : Type 0 where
   pub sided : (side : Side) (key : Key) →
       option_and_then (index_on side) (record_seen_in keys key)
       ≡ order_on_side_with_key orders side key
+
+-- the orders are a regular order list with keys of their own
+pub record IsHistoryOrders (orders : List Order) : Type 0 where
+  pub order_list : IsOrderList orders
+  pub regular : Regular orders
+  pub numbers : OrdersInRange orders
+  pub own_keys : HaveOwnKeys orders

@@ -7,6 +7,7 @@ ghost use Rattle.instruction_history.specs.MarketPrices.{AreRecordsMarketPriced,
 
 use super::faults::HistoryFault;
 use super::history_draft::{AuditedSymbol, draft_of};
+use super::history_orders::HistoryOrders;
 use super::history_so_far::HistorySoFar;
 use audit_base::names::{Key, Name};
 use audit_base::records::OrderRecord;
@@ -97,6 +98,15 @@ impl History {
         ensures keys { HaveOwnKeys result }
     {
         OrderList::of(&self.orders, &self.keys)
+    }
+
+    /// The order list alone, once no order is asked for by its key any more. Never fails: what finds
+    /// many keys is given back where there is memory for a copy of them.
+    pub fn into_orders(self) -> HistoryOrders
+        ensures { result ≡ self }
+    {
+        let History { orders, keys } = self;
+        HistoryOrders::of(orders, keys)
     }
 
     /// The index in the order list of the order with the key, which no other order has; None

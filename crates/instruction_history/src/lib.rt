@@ -14,5 +14,6 @@ pub mod faults;
 mod findings;
 pub mod history;
 pub mod history_draft;
+pub mod history_orders;
 mod history_so_far;
 pub mod symbol_history;

@@ -18,6 +18,7 @@ use audit_base::names::Name;
 use audit_base::orders::Deal;
 use audit_base::records::TradeRecord;
 use instruction_history::history::History;
+use instruction_history::history_orders::HistoryOrders;
 use log_source::collector::Collector;
 use seeded_hash::seed::HashSeed;
 use std::alloc::Global;
@@ -34,7 +35,8 @@ pub struct DealsDraft<M> {
 /// The deals of the trades of a log, between the orders of a history, or their first finding.
 #[derive(Drop)]
 pub struct ResolvedTrades {
-    pub history: History,
+    /// The order list of the history.
+    pub history: HistoryOrders,
     /// How many records the log has, of all symbols.
     pub count: u32,
     pub deals: Vec<Deal>,
@@ -57,7 +59,8 @@ impl<M: AuditedHistory> DealsDraft<M> {
         }
     }
 
-    /// The deals, where the trades are sound, or their first finding. Takes no memory.
+    /// The deals, where the trades are sound, or their first finding. What finds ids and keys is
+    /// given up.
     pub fn end(self) -> ResolvedTrades
         requires { HasPlace (IsDealsDraft M.symbol M.orders) self }
         ensures history { result.history ≡ M.orders }

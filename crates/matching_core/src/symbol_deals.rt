@@ -72,7 +72,8 @@ impl SymbolDeals {
     }
 
     /// The deals between the orders of the history, where the trades are sound, or their first finding.
-    /// `count` is how many records the log has, of all symbols. Takes no memory.
+    /// `count` is how many records the log has, of all symbols. The ids are given up, and what finds
+    /// the keys of many orders.
     pub fn end(self, history: History, count: u32) -> ResolvedTrades
         requires { HasFewTrades history self }
         ensures history { result.history ≡ history }
@@ -85,10 +86,13 @@ impl SymbolDeals {
         ensures numbers { result.finding ≡ None → DealsInRange result.deals.items }
     {
         let SymbolDeals { sound, flaw } = self;
+        let SoundDeals { deals, ids } = sound;
+        // Before the keys are copied.
+        drop(ids);
         ResolvedTrades {
-            history,
+            history: history.into_orders(),
             count,
-            deals: sound.deals,
+            deals,
             finding: finding_of(flaw),
         }
     }

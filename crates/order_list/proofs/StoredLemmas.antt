@@ -45,6 +45,14 @@ pub numbered-kept : (old new : Keys) (stored : List StoredOrder) → ((number : 
 numbered-kept old new stored keeps are =
     All-weaker (λ t. IsNumbered old (number_of t)) (λ t. IsNumbered new (number_of t)) (λ t is. (keeps (number_of t) is).inside) stored are
 
+-- the orders beside two tables in which each number is that of the same key
+pub stored-same : (old new : Keys) (stored : List StoredOrder) → ((number : KeyNumber) → key_in new number ≡ key_in old number) → orders_of new stored ≡ orders_of old stored
+stored-same old new [] same = refl
+stored-same old new (s ∷ rest) same =
+    let own : order_of new s ≡ order_of old s = ap (λ (key : Key). order_of_stored_and_key key s) (same (number_of s)) in
+    let others : orders_of new rest ≡ orders_of old rest = stored-same old new rest same in
+    λ i. own i ∷ others i
+
 -- an order that a record ends
 pub stored-end : (keys : Keys) (stored more : List StoredOrder) (i place : ℕ) (s t : StoredOrder) → i < length stored → s ≡ get_or stored i s → number_of t ≡ number_of s
     → ((key : Key) → order_of_stored_and_key key t ≡ with_ending place (order_of_stored_and_key key s)) → more ≡ slice_set stored i t

@@ -1,5 +1,5 @@
 -- What the keys of a history name, as two maps hold it, and which key has a number.
-use Rattle.std.specs.Prelude.{◌≡◌, ◌<◌, ℕ, List, ◌∷◌, [], Option, Some, None, length, option_and_then, slice_get, if◌then◌else◌}
+use Rattle.std.specs.Prelude.{◌≡◌, ◌<◌, ℕ, List, ◌∷◌, [], Option, Some, None, length, option_and_then, option_map, slice_get, if◌then◌else◌}
 use Rattle.indexmap.specs.IndexMap.{get}
 use Rattle.audit_base.specs.declared.names.Key.{Key}
 use Rattle.audit_base.specs.declared.terms.Side.{Side}
@@ -10,12 +10,24 @@ use Rattle.seeded_hash.specs.ShortPairs.{same_block, short_pair_of, value_by_pai
 use Rattle.order_list.specs.declared.keys.Keys.{Keys}
 use Rattle.order_list.specs.declared.keys.KeyNumber.{KeyNumber}
 use Rattle.order_list.specs.declared.keys.SeenRecord.{SeenRecord}
+use Rattle.order_list.specs.declared.kept_seen.KeptSeen.{KeptSeen}
+use Rattle.order_list.specs.KeptSeen.{seen_from}
+
+-- what the maps have of a key, if it is there
+abbrev pub kept_in : Keys → Key → Option KeptSeen
+kept_in keys key =
+    value_by_pair (get same_block keys.short) (get same_key keys.long key)
+    (short_pair_of key.firm key.id)
+
+-- one key more: it has this, and every other key has what it had
+abbrev pub PutsKey : Keys → Keys → Key → KeptSeen → Type 0
+PutsKey old new key kept =
+    (other : Key) → kept_in new other
+    ≡ (if same_key key other then Some kept else kept_in old other)
 
 -- what a key names in the maps, if it is there
 abbrev pub record_seen_in : Keys → Key → Option SeenRecord
-record_seen_in keys key =
-    value_by_pair (get same_block keys.short) (get same_key keys.long key)
-    (short_pair_of key.firm key.id)
+record_seen_in keys key = option_map seen_from (kept_in keys key)
 
 -- one key more: it names this, and every other key names what it did
 abbrev pub AddsKey : Keys → Keys → Key → SeenRecord → Type 0
@@ -41,18 +53,24 @@ key_of_pair pair =
 abbrev pub no_key : Key
 no_key = record { firm = 63 ∷ []; id = 63 ∷ [] }
 
--- the key of an entry of either map
-abbrev pub short_key : Option (ShortPair × SeenRecord) → Key
-short_key None = no_key
-short_key (Some entry) = key_of_pair entry.0
+-- the key of a pair that is listed
+abbrev pub listed_key : Option ShortPair → Key
+listed_key None = no_key
+listed_key (Some pair) = key_of_pair pair
 
-abbrev pub long_key : Option (Key × SeenRecord) → Key
+-- the key of an entry of either map; where there is no entry of a short key, the one that is listed
+abbrev pub short_key : Option ShortPair → Option (ShortPair × KeptSeen) → Key
+short_key listed None = listed_key listed
+short_key listed (Some entry) = key_of_pair entry.0
+
+abbrev pub long_key : Option (Key × KeptSeen) → Key
 long_key None = no_key
 long_key (Some entry) = entry.0
 
 -- the key that has a number
 abbrev pub key_in : Keys → KeyNumber → Key
-key_in keys number = if number.is_short then short_key (slice_get keys.short.entries number.index)
+key_in keys number = if number.is_short
+    then short_key (slice_get keys.listed.items number.index) (slice_get keys.short.entries number.index)
     else long_key (slice_get keys.long.entries number.index)
 
 -- some key has the number

@@ -1,5 +1,6 @@
 -- What public contracts cite.
 pub mod Changed
+pub mod KeptSeen
 pub mod Keys
 pub mod Stored
 -- What the crates above pass on.

@@ -2,11 +2,14 @@
 //!
 //! A key is kept as the pair of its firm and its id where the two are short, and only a
 //! longer key as it is.
-ghost use Rattle.std.specs.Prelude.{◌≡◌, true, false, None, IfOk, OnOk, slice_get};
+ghost use Rattle.std.specs.Prelude.{◌≡◌, ◌≤◌, [], true, false, None, IfOk, OnOk, length, slice_get, vec_capacity};
 ghost use Rattle.audit_base.specs.declared.names.Key.{Key};
-ghost use Rattle.order_list.specs.Keys.{index_on, record_seen_in, name_from, key_of_pair, no_key, key_in, short_key, long_key};
-ghost use Rattle.order_list.specs.Keys.{AddsKey, AddsNumber};
+ghost use Rattle.indexmap.specs.IndexMap.{keys as keys_of_map};
+ghost use Rattle.order_list.specs.declared.keys.KeyNumber.{KeyNumber as ANumber};
+ghost use Rattle.order_list.specs.Keys.{index_on, record_seen_in, name_from, key_of_pair, no_key, key_in, listed_key, short_key, long_key};
+ghost use Rattle.order_list.specs.Keys.{AddsKey, AddsNumber, PutsKey, kept_in};
 
+use super::kept_seen::{KeptSeen, seen_of};
 use audit_base::faults::NoMemory;
 use audit_base::names::{Key, Name, is_name, name_of};
 use audit_base::terms::Side;
@@ -15,6 +18,10 @@ use seeded_hash::blocks::BlockSeed;
 use seeded_hash::seed::HashSeed;
 use seeded_hash::short_pairs::ShortPair;
 use std::alloc::Global;
+
+/// From so many short keys on, what finds them is given up where it is not needed any more. Below
+/// it the copy of the keys costs more time than the memory is worth.
+const MANY_KEYS: usize = 262_144;
 
 /// What a key names.
 #[derive(Clone, Copy)]
@@ -51,12 +58,21 @@ pub struct AddedKey {
     pub number: KeyNumber,
 }
 
+/// What was kept of a key before it was put in, and its number.
+#[derive(Clone, Copy)]
+struct PutKey {
+    earlier: Option<KeptSeen>,
+    number: KeyNumber,
+}
+
 /// What the keys of the records so far name.
 #[derive(Drop)]
 pub struct Keys {
-    short: IndexMap<ShortPair, SeenRecord, BlockSeed>,
+    short: IndexMap<ShortPair, KeptSeen, BlockSeed>,
     /// The keys that are not short.
-    long: IndexMap<Key, SeenRecord, HashSeed>,
+    long: IndexMap<Key, KeptSeen, HashSeed>,
+    /// The short keys, once they are kept for their numbers alone.
+    listed: Vec<ShortPair>,
 }
 
 /// A text as a name; where it is none, `?`.
@@ -88,6 +104,23 @@ fn no_key() -> Key
         firm: name_of(b"?"),
         id: name_of(b"?"),
     }
+}
+
+/// The keys of a map in their order, in a vector that has room for them. The memory of the map is
+/// given back.
+fn keys_in_order(
+    map: IndexMap<ShortPair, KeptSeen, BlockSeed>,
+    room: Vec<ShortPair>,
+) -> Vec<ShortPair>
+    requires empty { room.items ≡ [] }
+    requires room { length map.entries ≤ vec_capacity room }
+    ensures { result.items ≡ keys_of_map map }
+{
+    let mut listed = room;
+    for pair in map.into_keys() {
+        listed.push_reserved(pair);
+    }
+    listed
 }
 
 /// An index of a map as it is kept. A map has no more keys than a log has records, so it fits.
@@ -128,13 +161,36 @@ impl Keys {
         Keys {
             short: IndexMap::with_hasher(alloc, BlockSeed::of(seed)),
             long: IndexMap::with_hasher(alloc, seed),
+            listed: Vec::new(alloc),
         }
     }
 
-    /// What the key of this firm and this id names, if a record has it. A key is a copy of both
-    /// names, which only a long one needs.
-    pub fn find(&self, firm: &Name, id: &Name) -> Option<SeenRecord>
-        ensures { result ≡ record_seen_in self.now (record { firm = firm.now; id = id.now }) }
+    /// The same keys with the same numbers. Where there are many, they are not found by their names
+    /// any more, and the memory of what finds them is given back. Where there is no memory for the
+    /// copy, all stays.
+    pub fn for_numbers(self) -> Keys
+        ensures { (number : ANumber) → key_in result number ≡ key_in self number }
+    {
+        if self.short.len() < MANY_KEYS || !self.listed.is_empty() {
+            return self;
+        }
+        let alloc = *self.short.allocator();
+        let Ok(room) = Vec::with_capacity(alloc, self.short.len()) else {
+            return self;
+        };
+        let seed = *self.short.hasher();
+        let Keys { short, long, .. } = self;
+        Keys {
+            short: IndexMap::with_hasher(alloc, seed),
+            long,
+            listed: keys_in_order(short, room),
+        }
+    }
+
+    /// What is kept of the key of this firm and this id, if a record has it. A key is a copy of
+    /// both names, which only a long one needs.
+    fn kept(&self, firm: &Name, id: &Name) -> Option<KeptSeen>
+        ensures { result ≡ kept_in self.now (record { firm = firm.now; id = id.now }) }
     {
         match ShortPair::of(firm.bytes(), id.bytes()) {
             Some(short) => self.short.get(&short).copied(),
@@ -148,6 +204,34 @@ impl Keys {
         }
     }
 
+    /// What the key of this firm and this id names, if a record has it.
+    pub fn find(&self, firm: &Name, id: &Name) -> Option<SeenRecord>
+        ensures { result ≡ record_seen_in self.now (record { firm = firm.now; id = id.now }) }
+    {
+        seen_of(self.kept(firm, id))
+    }
+
+    /// One more key, by what is kept of it.
+    fn put(&mut self, key: &Key, kept: KeptSeen) -> Result<PutKey, NoMemory>
+        ensures earlier { IfOk result (λ put. put.earlier ≡ kept_in self.old key.now) }
+        ensures puts { OnOk result (PutsKey self.old self.new key.now kept) }
+        ensures number { IfOk result (λ put. put.earlier ≡ None
+            → AddsNumber self.old self.new key.now put.number) }
+    {
+        match ShortPair::of(key.firm.bytes(), key.id.bytes()) {
+            Some(short) => {
+                let number = short_number(kept_index(self.short.len())?);
+                let earlier = self.short.insert(short, kept)?;
+                Ok(PutKey { earlier, number })
+            }
+            None => {
+                let number = long_number(kept_index(self.long.len())?);
+                let earlier = self.long.insert(*key, kept)?;
+                Ok(PutKey { earlier, number })
+            }
+        }
+    }
+
     /// One more key: what it named before, and where nothing, its number. Where it named something,
     /// it names the new record now.
     pub fn add(&mut self, key: &Key, seen: SeenRecord) -> Result<AddedKey, NoMemory>
@@ -156,18 +240,12 @@ impl Keys {
         ensures number { IfOk result (λ added. added.earlier ≡ None
             → AddsNumber self.old self.new key.now added.number) }
     {
-        match ShortPair::of(key.firm.bytes(), key.id.bytes()) {
-            Some(short) => {
-                let number = short_number(kept_index(self.short.len())?);
-                let earlier = self.short.insert(short, seen)?;
-                Ok(AddedKey { earlier, number })
-            }
-            None => {
-                let number = long_number(kept_index(self.long.len())?);
-                let earlier = self.long.insert(*key, seen)?;
-                Ok(AddedKey { earlier, number })
-            }
-        }
+        let kept = KeptSeen::of(seen)?;
+        let put = self.put(key, kept)?;
+        Ok(AddedKey {
+            earlier: seen_of(put.earlier),
+            number: put.number,
+        })
     }
 
     /// The key that has a number.
@@ -183,10 +261,21 @@ impl Keys {
 
     /// The short key at an index.
     fn short_key(&self, index: u32) -> Key
-        ensures { result ≡ short_key (slice_get self.now.short.entries index) }
+        ensures { let listed = slice_get self.now.listed.items index in
+            result ≡ short_key listed (slice_get self.now.short.entries index) }
     {
         match self.short.get_index(index as usize) {
             Some((pair, _)) => key_of_pair(pair),
+            None => self.listed_key(index),
+        }
+    }
+
+    /// The short key at an index, where they are kept for their numbers alone.
+    fn listed_key(&self, index: u32) -> Key
+        ensures { result ≡ listed_key (slice_get self.now.listed.items index) }
+    {
+        match self.listed.get(index as usize) {
+            Some(pair) => key_of_pair(pair),
             None => no_key(),
         }
     }

@@ -4,6 +4,7 @@
 
 pub mod changed;
 mod findings;
+mod kept_seen;
 pub mod keys;
 pub mod listed;
 pub mod lists;
