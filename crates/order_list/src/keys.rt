@@ -21,7 +21,7 @@ use std::alloc::Global;
 
 /// From so many short keys on, what finds them is given up where it is not needed any more. Below
 /// it the copy of the keys costs more time than the memory is worth.
-const MANY_KEYS: usize = 262_144;
+const MANY_KEYS: usize = 131_072;
 
 /// What a key names.
 #[derive(Clone, Copy)]
