@@ -21,7 +21,7 @@ use Rattle.continuous_audit.proofs.FlawLemmas.{upto-n}
 use Rattle.offence_list.specs.ContinuousLists.{crossing_finding, order_of_record_meets}
 use Rattle.continuous_offences.specs.Books.{waits, waits_on}
 use Rattle.continuous_offences.specs.Crossing.{best_of_side}
-use Rattle.continuous_offences.specs.Resting.{stands_with}
+use Rattle.order_arrivals.specs.Resting.{stands_with}
 
 module _ (orders : List Order) (list : IsOrderList orders) (deals : List Deal) (n : ℕ) (n_inside : n < length orders) where
   abbrev p : ℕ

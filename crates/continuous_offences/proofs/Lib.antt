@@ -1,4 +1,3 @@
-mod ArrivalLemmas
 mod BookLemmas
 mod CrossingLemmas
 mod EnterLemmas

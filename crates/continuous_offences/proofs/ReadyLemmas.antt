@@ -11,12 +11,12 @@ use Rattle.continuous_audit.specs.Scans.{IsSplitAt}
 use Rattle.continuous_audit.proofs.NumberLemmas.{traded-now}
 use Rattle.continuous_offences.specs.declared.books.Books.{Books}
 use Rattle.continuous_offences.specs.declared.dealt.Dealt.{Dealt}
-use Rattle.continuous_offences.specs.declared.market.Market.{Market}
+use Rattle.order_arrivals.specs.declared.market.Market.{Market}
 use Rattle.continuous_offences.specs.declared.state.State.{State}
-use Rattle.continuous_offences.specs.Arrivals.{AreArrivals}
+use Rattle.order_arrivals.specs.Arrivals.{AreArrivals}
 use Rattle.continuous_offences.specs.Books.{AreBooksOf}
 use Rattle.continuous_offences.specs.Dealt.{IsDealt, deals_of, orders_of, place_of}
-use Rattle.continuous_offences.specs.Markets.{HaveTraded, IsMarket}
+use Rattle.order_arrivals.specs.Markets.{HaveTraded, IsMarket}
 use Rattle.continuous_offences.specs.States.{IsReady}
 use Rattle.continuous_offences.proofs.EnterLemmas.{books-later}
 

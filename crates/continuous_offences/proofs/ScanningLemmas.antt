@@ -27,11 +27,11 @@ use Rattle.continuous_audit.proofs.ScanLemmas.{running-read}
 use Rattle.offence_list.specs.declared.offences.Offence.{Offence}
 use Rattle.offence_list.specs.declared.offences.Offence.TheVariants.{Inactive, Limit, Quantity}
 use Rattle.offence_list.specs.ListedOffences.{finding_of_offence}
-use Rattle.continuous_offences.specs.declared.arrivals.Arrivals.{Arrivals}
-use Rattle.continuous_offences.specs.Arrivals.{AreArrivals, flag_at}
+use Rattle.order_arrivals.specs.declared.arrivals.Arrivals.{Arrivals}
+use Rattle.order_arrivals.specs.Arrivals.{AreArrivals, flag_at}
 use Rattle.continuous_offences.specs.DealFacts.{deal_offence, facts_with, is_over_size, incoming_shown, resting_shown}
 use Rattle.continuous_offences.specs.Scanning.{IsFirstFound}
-use Rattle.continuous_offences.proofs.ArrivalLemmas.{rests-is}
+use Rattle.order_arrivals.proofs.ArrivalLemmas.{rests-is}
 use Rattle.continuous_offences.proofs.FoundLemmas.{found-more}
 
 -- the first of what is wrong with a deal, and its finding

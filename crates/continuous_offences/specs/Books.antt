@@ -10,7 +10,7 @@ use Rattle.order_book.specs.declared.books.Resting.{Resting}
 use Rattle.continuous_offences.specs.declared.books.Books.{Books}
 use Rattle.continuous_offences.specs.declared.dealt.Dealt.{Dealt}
 use Rattle.continuous_offences.specs.Dealt.{deals_of, orders_of, place_of}
-use Rattle.continuous_offences.specs.Resting.{rests_with}
+use Rattle.order_arrivals.specs.Resting.{rests_with}
 
 -- an order rests, where no record before `place` ends it and it has traded what it trades before
 -- `next`: before a place these are this place, and after the deals of its record `next` is the next

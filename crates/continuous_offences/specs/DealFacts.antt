@@ -13,11 +13,11 @@ use Rattle.call_offences.specs.Inside.{IsOffenceInside}
 use Rattle.offence_list.specs.declared.offences.Offence.{Offence}
 use Rattle.offence_list.specs.declared.offences.Offence.TheVariants.{Inactive, Limit, Quantity}
 use Rattle.offence_list.specs.ListedOffences.{finding_of_offence}
-use Rattle.continuous_offences.specs.declared.arrivals.Arrivals.{Arrivals}
+use Rattle.order_arrivals.specs.declared.arrivals.Arrivals.{Arrivals}
 use Rattle.continuous_offences.specs.declared.deal_offence.Account.{Account}
 use Rattle.continuous_offences.specs.declared.deal_offence.DealFacts.{DealFacts}
-use Rattle.continuous_offences.specs.Arrivals.{flag_at}
-use Rattle.continuous_offences.specs.Resting.{rests_with}
+use Rattle.order_arrivals.specs.Arrivals.{flag_at}
+use Rattle.order_arrivals.specs.Resting.{rests_with}
 
 -- an order trades more than its Size
 abbrev pub is_over_size : Account → Bool

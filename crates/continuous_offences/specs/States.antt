@@ -1,10 +1,10 @@
 -- What is kept from one order to the next.
 use Rattle.std.specs.Prelude.{◌<◌, ℕ}
 use Rattle.audit_base.specs.Orders.{place_at}
-use Rattle.continuous_offences.specs.declared.market.Market.{Market}
+use Rattle.order_arrivals.specs.declared.market.Market.{Market}
 use Rattle.continuous_offences.specs.declared.state.State.{State}
 use Rattle.continuous_offences.specs.Books.{AreBooksOf}
-use Rattle.continuous_offences.specs.Markets.{HaveTraded}
+use Rattle.order_arrivals.specs.Markets.{HaveTraded}
 
 -- before the deals of an order: what each order has traded in those of the orders before it, and
 -- the books have all of these that rest before any later place

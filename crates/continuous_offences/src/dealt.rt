@@ -5,15 +5,15 @@ ghost use Rattle.audit_base.specs.Orders.{order_at};
 ghost use Rattle.continuous_offences.specs.Books.{waits};
 ghost use Rattle.continuous_offences.specs.Dealt.{IsDealt, deals_of, orders_of, place_of, shown_after};
 ghost use Rattle.continuous_offences.specs.Passing.{own_side};
-ghost use Rattle.continuous_offences.specs.Resting.{stands_with};
+ghost use Rattle.order_arrivals.specs.Resting.{stands_with};
 
-use super::arrivals::Arrivals;
-use super::market::Market;
-use super::resting::{rests, stands};
 use super::scanning::shown;
 use audit_base::flaws::TradedOrder;
 use audit_base::terms::Side;
 use matching_core::totals::left_of;
+use order_arrivals::arrivals::Arrivals;
+use order_arrivals::market::Market;
+use order_arrivals::resting::{rests, stands};
 
 /// What is known after the deals of the order at `order`.
 #[derive(Clone, Copy)]

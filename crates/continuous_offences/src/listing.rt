@@ -6,14 +6,14 @@ ghost use Rattle.call_offences.specs.Inside.{AreOffencesInside};
 ghost use Rattle.offence_list.specs.ContinuousLists as list;
 ghost use Rattle.offence_list.specs.ListedOffences.{findings_of_offences};
 
-use super::arrivals::arrivals_of;
-use super::market::Market;
 use super::state::State;
 use audit_base::faults::NoMemory;
 use audit_base::orders::Deal;
 use continuous_audit::incoming_deals::sort_incoming_deals;
 use offence_list::answers::push_answer;
 use offence_list::offences::Offence;
+use order_arrivals::arrivals::arrivals_of;
+use order_arrivals::market::Market;
 use order_list::lists::OrderList;
 use std::alloc::Global;
 

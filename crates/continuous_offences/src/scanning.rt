@@ -4,20 +4,20 @@ ghost use Rattle.std.specs.Option.{option_or};
 ghost use Rattle.audit_base.specs.Deals.{NamesOrders, number_at};
 ghost use Rattle.audit_base.specs.Orders.{place_at};
 ghost use Rattle.continuous_audit.specs.Records.{AreTradedBefore, conservation_at};
-ghost use Rattle.continuous_offences.specs.Arrivals.{AreArrivals};
+ghost use Rattle.order_arrivals.specs.Arrivals.{AreArrivals};
 ghost use Rattle.continuous_offences.specs.DealFacts.{IsOffenceOf, account_with, facts_with, shown_with};
-ghost use Rattle.continuous_offences.specs.Markets.{HaveTraded, IsMarket};
+ghost use Rattle.order_arrivals.specs.Markets.{HaveTraded, IsMarket};
 
-use super::arrivals::Arrivals;
 use super::deal_offence::{Account, DealFacts, deal_offence};
-use super::market::Market;
-use super::resting::rests;
-use super::running::Totals;
 use audit_base::flaws::TradedOrder;
 use audit_base::orders::Deal;
 use continuous_audit::incoming_deals::resting_of;
 use matching_core::checking::add_deal;
 use offence_list::offences::Offence;
+use order_arrivals::arrivals::Arrivals;
+use order_arrivals::market::Market;
+use order_arrivals::resting::rests;
+use order_arrivals::running::Totals;
 use order_list::listed::is_within;
 use order_list::lists::OrderList;
 

@@ -3,24 +3,24 @@ ghost use Rattle.std.specs.Prelude.{◌≡◌, ◌<◌, suc, OnOk, IfOk, length}
 ghost use Rattle.continuous_audit.specs.Records.{priority_at};
 ghost use Rattle.offence_list.specs.ContinuousLists.{crossing_finding, offence_at_place};
 ghost use Rattle.audit_base.specs.Orders.{place_at};
-ghost use Rattle.continuous_offences.specs.Arrivals.{AreArrivals};
+ghost use Rattle.order_arrivals.specs.Arrivals.{AreArrivals};
 ghost use Rattle.continuous_offences.specs.DealFacts.{IsOffenceOf};
 ghost use Rattle.continuous_offences.specs.Books.{AreBooksOf};
 ghost use Rattle.continuous_offences.specs.Dealt.{IsDealt, deals_of, orders_of, place_of};
-ghost use Rattle.continuous_offences.specs.Markets.{IsMarket};
+ghost use Rattle.order_arrivals.specs.Markets.{IsMarket};
 ghost use Rattle.continuous_offences.specs.Passing.{AreDealsOf};
 ghost use Rattle.continuous_offences.specs.States.{IsReady};
 
-use super::arrivals::Arrivals;
 use super::books::Books;
 use super::crossing::crossing_offence;
 use super::dealt::Dealt;
-use super::market::Market;
 use super::passing::first_passed_over;
-use super::running::Totals;
 use super::scanning::{first_deal_offence, first_of};
 use audit_base::faults::NoMemory;
 use offence_list::offences::Offence;
+use order_arrivals::arrivals::Arrivals;
+use order_arrivals::market::Market;
+use order_arrivals::running::Totals;
 use std::alloc::Global;
 
 /// What the orders have traded, and which of them may rest.

@@ -4,7 +4,7 @@ use Rattle.offence_list.specs.Answers.{answers_below}
 use Rattle.offence_list.specs.ContinuousLists.{continuous_offences, offence_at_place}
 use Rattle.offence_list.specs.ListedOffences.{finding_of_offence}
 use Rattle.offence_list.proofs.ListLemmas.{mapped-further}
-use Rattle.continuous_offences.proofs.ArrivalLemmas.{market-read}
+use Rattle.order_arrivals.proofs.ArrivalLemmas.{market-read}
 use Rattle.continuous_offences.proofs.ReadyLemmas.{ready-further}
 use Rattle.continuous_offences.proofs.StateLemmas.{inside-further}
 use Rattle.continuous_offences.proofs.listing.continuous_offences.Goals as goal

@@ -1,5 +1,5 @@
 use Rattle.std.proofs.Common.{◌∙◌, sym, arith}
-use Rattle.continuous_offences.proofs.ArrivalLemmas.{named-read}
+use Rattle.order_arrivals.proofs.ArrivalLemmas.{named-read}
 use Rattle.continuous_offences.proofs.PassedLemmas.{best-inside, passed-all, passed-at, passed-clean, passed-side}
 use Rattle.continuous_offences.proofs.passing.first_passed_over.Goals as goal
 

@@ -6,8 +6,9 @@ use Rattle.audit_base.specs.ContinuousOffences.{conservation_finding}
 use Rattle.continuous_audit.specs.Scans.{incoming_order_at}
 use Rattle.continuous_audit.proofs.ScanLemmas.{running-read}
 use Rattle.continuous_offences.specs.DealFacts.{deal_offence}
-use Rattle.continuous_offences.proofs.ArrivalLemmas.{named-read}
-use Rattle.continuous_offences.proofs.FoundLemmas.{found-least, split-next}
+use Rattle.order_arrivals.proofs.ArrivalLemmas.{named-read}
+use Rattle.continuous_offences.proofs.FoundLemmas.{found-least}
+use Rattle.order_arrivals.proofs.SplitLemmas.{split-next}
 use Rattle.continuous_offences.proofs.ScanningLemmas.{conservation-away, first-read}
 use Rattle.continuous_offences.proofs.scanning.first_deal_offence.Goals as goal
 

@@ -7,7 +7,7 @@ use Rattle.continuous_offences.specs.Books.{AreBooksOf}
 use Rattle.continuous_offences.specs.DealFacts.{IsOffenceOf}
 use Rattle.continuous_offences.specs.Dealt.{deals_of, orders_of, place_of}
 use Rattle.continuous_offences.specs.Passing.{best_waiting, own_side, side_against}
-use Rattle.continuous_offences.specs.Resting.{stands_with}
+use Rattle.order_arrivals.specs.Resting.{stands_with}
 use Rattle.continuous_offences.proofs.CrossingLemmas.{none-stands, stands}
 use Rattle.continuous_offences.proofs.StateLemmas.{crossing-is, waiting-on-side}
 use Rattle.continuous_offences.proofs.state.crossed.Goals as goal

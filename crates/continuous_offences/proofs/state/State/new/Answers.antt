@@ -1,6 +1,6 @@
 use Rattle.std.proofs.Common.{◌≡◌, ◌∙◌, ap, ℕ, length}
 use Rattle.std.specs.Prelude.{replicate}
-use Rattle.continuous_offences.proofs.ArrivalLemmas.{traded-first}
+use Rattle.order_arrivals.proofs.ArrivalLemmas.{traded-first}
 use Rattle.continuous_offences.proofs.EnterLemmas.{books-none}
 use Rattle.continuous_offences.proofs.state.State.new.Goals as goal
 

@@ -2,8 +2,8 @@ use Rattle.std.proofs.Common.{inl, inr, ◌∙◌, ap, arith}
 use Rattle.std.proofs.lemmas.Bool.{cases_eq}
 use Rattle.continuous_audit.specs.Scans.{incoming_order_at}
 use Rattle.continuous_audit.proofs.ScanLemmas.{running-read}
-use Rattle.continuous_offences.proofs.FoundLemmas.{split-next}
-use Rattle.continuous_offences.proofs.running.Totals.add_deals_of.Goals as goal
+use Rattle.order_arrivals.proofs.SplitLemmas.{split-next}
+use Rattle.order_arrivals.proofs.running.Totals.add_deals_of.Goals as goal
 
 pub loop-self-preserved : goal.loop-self-preserved
 loop-self-preserved c =

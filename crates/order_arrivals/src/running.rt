@@ -1,8 +1,8 @@
 //! What each order has traded in the deals of the first orders.
 ghost use Rattle.std.specs.Prelude.{◌≡◌, ◌<◌, ◌≤◌, suc, IfOk, length, replicate};
-ghost use Rattle.continuous_offences.specs.Markets.{HaveTraded, IsMarket};
+ghost use Rattle.order_arrivals.specs.Markets.{HaveTraded, IsMarket};
 
-use super::market::Market;
+use crate::market::Market;
 use audit_base::faults::NoMemory;
 use matching_core::checking::add_deal;
 use matching_core::totals::zeros;
@@ -10,15 +10,15 @@ use std::alloc::Global;
 
 /// What each order has traded in the first of the incoming deals.
 #[derive(Drop)]
-pub(crate) struct Totals {
-    pub(crate) traded: Vec<u128>,
+pub struct Totals {
+    pub traded: Vec<u128>,
     /// How many of the incoming deals are added.
-    pub(crate) added: usize,
+    pub added: usize,
 }
 
 impl Totals {
     /// Nothing traded by any of this many orders.
-    pub(crate) fn new(alloc: Global, count: usize) -> Result<Totals, NoMemory>
+    pub fn new(alloc: Global, count: usize) -> Result<Totals, NoMemory>
         ensures traded { IfOk result (λ t. t.traded.items ≡ replicate count 0) }
         ensures added { IfOk result (λ t. t.added ≡ 0) }
     {
@@ -27,7 +27,7 @@ impl Totals {
     }
 
     /// Adds the deals of the order at `order`, where those of the orders before it are added.
-    pub(crate) fn add_deals_of(&mut self, market: &Market<'_>, order: usize)
+    pub fn add_deals_of(&mut self, market: &Market<'_>, order: usize)
         requires market { IsMarket market.now }
         requires order { order < length market.now.orders.now }
         requires before { HaveTraded market.now order self.old.added self.old.traded.items }

@@ -5,13 +5,13 @@ use Rattle.audit_base.specs.declared.orders.Deal.{Deal}
 use Rattle.audit_base.specs.Continuous.{chain_traded_quantity, has_entered, is_cancelled_at_place, size_of_order}
 use Rattle.audit_base.specs.Deals.{number_at}
 use Rattle.audit_base.specs.Orders.{order_at}
-use Rattle.continuous_offences.specs.declared.arrivals.Arrivals.{Arrivals}
-use Rattle.continuous_offences.specs.declared.arrivals.TradedSums.{TradedSums}
-use Rattle.continuous_offences.specs.declared.market.Market.{Market}
+use Rattle.order_arrivals.specs.declared.arrivals.Arrivals.{Arrivals}
+use Rattle.order_arrivals.specs.declared.arrivals.TradedSums.{TradedSums}
+use Rattle.order_arrivals.specs.declared.market.Market.{Market}
 use Rattle.chain_sums.specs.Sums.{amount_total}
 use Rattle.chain_sums.specs.Families.{AreFamilies}
-use Rattle.continuous_offences.specs.Markets.{HaveTraded}
-use Rattle.continuous_offences.specs.Resting.{rests_with}
+use Rattle.order_arrivals.specs.Markets.{HaveTraded}
+use Rattle.order_arrivals.specs.Resting.{rests_with}
 
 -- the flag at an index of a list, or false past its end
 abbrev pub flag_at : List Bool → ℕ → Bool

@@ -5,9 +5,9 @@ use order_list::lists::OrderList;
 
 /// The orders and the deals, which stay the same.
 #[derive(Clone, Copy)]
-pub(crate) struct Market<'a> {
-    pub(crate) orders: &'a OrderList<'a>,
-    pub(crate) deals: &'a [Deal],
+pub struct Market<'a> {
+    pub orders: &'a OrderList<'a>,
+    pub deals: &'a [Deal],
     /// The deals by their incoming orders.
-    pub(crate) incoming_deals: &'a [IncomingDeal],
+    pub incoming_deals: &'a [IncomingDeal],
 }

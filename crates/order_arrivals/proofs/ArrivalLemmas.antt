@@ -18,12 +18,12 @@ use Rattle.continuous_audit.specs.IncomingDeals.{AreIncomingDeals, incoming_deal
 use Rattle.std.proofs.lemmas.List.Sums.{sum_by-append, sum_by-cons}
 use Rattle.continuous_audit.specs.Scans.{deal_index_at, incoming_deal_past_end}
 use Rattle.chain_sums.specs.Sums.{AreNoAmounts, ChainAmounts, IsAmountAdded}
-use Rattle.continuous_offences.specs.declared.arrivals.Arrivals.{Arrivals}
-use Rattle.continuous_offences.specs.declared.arrivals.TradedSums.{TradedSums}
-use Rattle.continuous_offences.specs.declared.market.Market.{Market}
-use Rattle.continuous_offences.specs.Arrivals.{AreArrivals, AreTradedSums, enters_where, target_rests_with}
-use Rattle.continuous_offences.specs.Markets.{HaveTraded, IsMarket}
-use Rattle.continuous_offences.specs.Resting.{rests_with}
+use Rattle.order_arrivals.specs.declared.arrivals.Arrivals.{Arrivals}
+use Rattle.order_arrivals.specs.declared.arrivals.TradedSums.{TradedSums}
+use Rattle.order_arrivals.specs.declared.market.Market.{Market}
+use Rattle.order_arrivals.specs.Arrivals.{AreArrivals, AreTradedSums, enters_where, target_rests_with}
+use Rattle.order_arrivals.specs.Markets.{HaveTraded, IsMarket}
+use Rattle.order_arrivals.specs.Resting.{rests_with}
 
 -- whether an order of an earlier record rests before a place
 rest-bools : (l u : Bool) → (l && u) ≡ ((l && true) && u)

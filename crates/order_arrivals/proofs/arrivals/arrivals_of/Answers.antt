@@ -1,7 +1,7 @@
 use Rattle.std.proofs.Common.{◌≡◌, arith, subst, refl, ℕ, suc, ◌+◌, length}
-use Rattle.continuous_offences.specs.Arrivals.{AreArrivals, AreTradedSums}
-use Rattle.continuous_offences.proofs.ArrivalLemmas.{arrivals-first, sums-first}
-use Rattle.continuous_offences.proofs.arrivals.arrivals_of.Goals as goal
+use Rattle.order_arrivals.specs.Arrivals.{AreArrivals, AreTradedSums}
+use Rattle.order_arrivals.proofs.ArrivalLemmas.{arrivals-first, sums-first}
+use Rattle.order_arrivals.proofs.arrivals.arrivals_of.Goals as goal
 
 pub loop-order-init : goal.loop-order-init
 loop-order-init c = record {

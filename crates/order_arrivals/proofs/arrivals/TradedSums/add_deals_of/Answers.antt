@@ -3,9 +3,9 @@ use Rattle.std.proofs.lemmas.Bool.{cases_eq}
 use Rattle.chain_sums.specs.Families.{AreFamilies}
 use Rattle.continuous_audit.specs.Scans.{incoming_order_at}
 use Rattle.continuous_audit.proofs.ScanLemmas.{running-read}
-use Rattle.continuous_offences.proofs.ArrivalLemmas.{added-both, named-read}
-use Rattle.continuous_offences.proofs.FoundLemmas.{split-next}
-use Rattle.continuous_offences.proofs.arrivals.TradedSums.add_deals_of.Goals as goal
+use Rattle.order_arrivals.proofs.ArrivalLemmas.{added-both, named-read}
+use Rattle.order_arrivals.proofs.SplitLemmas.{split-next}
+use Rattle.order_arrivals.proofs.arrivals.TradedSums.add_deals_of.Goals as goal
 
 pub loop-self-preserved : goal.loop-self-preserved
 loop-self-preserved c =

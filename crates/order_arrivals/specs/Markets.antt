@@ -5,7 +5,7 @@ use Rattle.audit_base.specs.Deals.{IsDealList, deal_at}
 use Rattle.audit_base.specs.declared.orders.Deal.{Deal}
 use Rattle.continuous_audit.specs.IncomingDeals.{AreIncomingDeals}
 use Rattle.continuous_audit.specs.Scans.{AreRunningTotals, IsSplitAt, deal_index_at}
-use Rattle.continuous_offences.specs.declared.market.Market.{Market}
+use Rattle.order_arrivals.specs.declared.market.Market.{Market}
 
 -- the deals are over the order list, and each belongs to its incoming order
 pub record IsMarket (m : Market) : Type 0 where

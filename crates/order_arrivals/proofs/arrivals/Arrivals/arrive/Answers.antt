@@ -6,10 +6,10 @@ use Rattle.audit_base.proofs.ContinuousLemmas.{target-below}
 use Rattle.chain_sums.specs.Sums.{amount_total}
 use Rattle.continuous_audit.proofs.KeptLemmas.{before-walked}
 use Rattle.continuous_audit.proofs.NumberLemmas.{traded-then}
-use Rattle.continuous_offences.specs.declared.arrivals.Arrivals.{Arrivals}
-use Rattle.continuous_offences.specs.Arrivals.{enters_where, target_rests_with}
-use Rattle.continuous_offences.proofs.ArrivalLemmas.{arrived, entered-is, few-incoming}
-use Rattle.continuous_offences.proofs.arrivals.Arrivals.arrive.Goals as goal
+use Rattle.order_arrivals.specs.declared.arrivals.Arrivals.{Arrivals}
+use Rattle.order_arrivals.specs.Arrivals.{enters_where, target_rests_with}
+use Rattle.order_arrivals.proofs.ArrivalLemmas.{arrived, entered-is, few-incoming}
+use Rattle.order_arrivals.proofs.arrivals.Arrivals.arrive.Goals as goal
 
 pub target_rests-target_rests-requires-clause-inside : goal.target_rests-target_rests-requires-clause-inside
 target_rests-target_rests-requires-clause-inside c t e =

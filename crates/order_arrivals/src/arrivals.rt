@@ -6,11 +6,11 @@ ghost use Rattle.audit_base.specs.Deals.{number_at};
 ghost use Rattle.audit_base.specs.Orders.{IsOrderList, order_at};
 ghost use Rattle.chain_sums.specs.Families.{AreFamilies};
 ghost use Rattle.chain_sums.specs.Sums.{amount_total};
-ghost use Rattle.continuous_offences.specs.Arrivals.{AreArrivals, AreTradedSums, enters_where, target_rests_with};
-ghost use Rattle.continuous_offences.specs.Markets.{IsMarket};
+ghost use Rattle.order_arrivals.specs.Arrivals.{AreArrivals, AreTradedSums, enters_where, target_rests_with};
+ghost use Rattle.order_arrivals.specs.Markets.{IsMarket};
 
-use super::market::Market;
-use super::resting::rests;
+use crate::market::Market;
+use crate::resting::rests;
 use audit_base::faults::NoMemory;
 use audit_base::numbers::Quantity;
 use chain_sums::sums::ChainSums;
@@ -21,11 +21,11 @@ use std::alloc::Global;
 
 /// Before, Entered and Size of the first orders, by their indices.
 #[derive(Drop)]
-pub(crate) struct Arrivals {
+pub struct Arrivals {
     /// Before: what the chain of an order has traded before its own place.
-    pub(crate) chain_traded: Vec<u128>,
-    pub(crate) entered: Vec<bool>,
-    pub(crate) sizes: Vec<u64>,
+    pub chain_traded: Vec<u128>,
+    pub entered: Vec<bool>,
+    pub sizes: Vec<u64>,
 }
 
 /// What each order has traded in the first of the incoming deals, with sums along chains.
@@ -146,7 +146,7 @@ impl TradedSums {
 }
 
 /// Before, Entered and Size of each order. In n log n steps for n orders and deals.
-pub(crate) fn arrivals_of(alloc: Global, market: &Market<'_>) -> Result<Arrivals, NoMemory>
+pub fn arrivals_of(alloc: Global, market: &Market<'_>) -> Result<Arrivals, NoMemory>
     requires { IsMarket market.now }
     ensures { IfOk result (AreArrivals market.now.orders.now market.now.deals.now
         (length market.now.orders.now)) }

@@ -1,5 +1,5 @@
-use Rattle.continuous_offences.specs.Arrivals.{AreArrivals, AreTradedSums}
-use Rattle.continuous_offences.proofs.arrivals.arrivals_of.Given as goal
+use Rattle.order_arrivals.specs.Arrivals.{AreArrivals, AreTradedSums}
+use Rattle.order_arrivals.proofs.arrivals.arrivals_of.Given as goal
 
 abbrev pub invariant-loop-order : goal.invariant-loop-order
 invariant-loop-order l = record {
