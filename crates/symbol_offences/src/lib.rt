@@ -3,10 +3,10 @@
 //! Each log is read once, piece by piece: `order_log` and `trade_log` are handed its records and
 //! keep what the verdict needs, and beside it, where that is asked for, the times of the symbol's
 //! trades and the records themselves. `reading` reads one log after the other. `answers` judges
-//! what they give and tells it: an accepted log as an audit does, a rejected one with a line for
-//! each offence (`listing`), or for each trade that fails a further check (`further`), and behind
-//! each line the records that a letter quotes (`quotes`, `record_lines`, found by `places`). A
-//! symbol that no record has is told to be absent.
+//! what they give, and `verdict_answers` tells it: an accepted log as an audit does, a rejected one
+//! with a line for each offence (`listing`), or for each trade that fails a further check
+//! (`further`), and behind each line the records that a letter quotes (`quotes`, `record_lines`,
+//! found by `places`). A symbol that no record has is told to be absent.
 #![tactic(auto)]
 
 pub mod answers;
@@ -20,3 +20,4 @@ pub mod reading;
 mod record_lines;
 pub mod symbol_logs;
 pub mod trade_log;
+mod verdict_answers;

@@ -1,4 +1,4 @@
-//! The records of a log of a shelf, written in either form as they are read.
+//! The records of a log of a shelf, written in either form.
 ghost use Rattle.std.specs.Prelude.{◌≡◌, ◌≤◌, ◌≢◌, Err};
 ghost use Rattle.log_source.specs.Sources.{longest_read};
 ghost use Rattle.log_verdict.specs.Collecting.{CollectsLog, CollectsTrades, TouchesOnly};

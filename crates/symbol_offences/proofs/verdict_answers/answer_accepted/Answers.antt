@@ -1,6 +1,6 @@
 use Rattle.std.proofs.Common.{sym, ◌∙◌}
 use Rattle.symbol_offences.proofs.AnswerLemmas.{as-accepted, none-fails}
-use Rattle.symbol_offences.proofs.answers.answer_accepted.Goals as goal
+use Rattle.symbol_offences.proofs.verdict_answers.answer_accepted.Goals as goal
 
 pub returns-then-not-any : goal.returns-then-not-any
 returns-then-not-any c =

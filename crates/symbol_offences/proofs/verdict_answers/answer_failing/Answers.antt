@@ -2,7 +2,7 @@ use Rattle.std.proofs.Common.{◌∙◌, ◌++◌, sym, ap, ℕ, List}
 use Rattle.further_checks.specs.FurtherTexts.{further_text}
 use Rattle.symbol_offences.specs.OffenceLines.{failure_lines}
 use Rattle.symbol_offences.proofs.AnswerLemmas.{as-accepted, as-failing, no-first}
-use Rattle.symbol_offences.proofs.answers.answer_failing.Goals as goal
+use Rattle.symbol_offences.proofs.verdict_answers.answer_failing.Goals as goal
 
 pub returns-in_default : goal.returns-in_default
 returns-in_default c =
