@@ -28,7 +28,7 @@ use Rattle.continuous_audit.specs.Endings.{AreEndings}
 use Rattle.continuous_audit.specs.Holding.{IsListOfAmounts, resting_left_before}
 use Rattle.continuous_audit.specs.Progress.{IsFirstState, IsReadyAt}
 use Rattle.continuous_audit.specs.Records.{AreChainTradedNumbers, AreLeftBefore, AreSizes, ConformsAndIsUncrossed}
-use Rattle.continuous_audit.specs.Scans.{AreRunningTotals, IsSplitAt}
+use Rattle.continuous_audit.specs.Scans.{AreRunningTotals, AreWithinGreatestSize, IsSplitAt}
 use Rattle.continuous_audit.proofs.NumberLemmas.{traded-at}
 use Rattle.continuous_audit.proofs.RestLemmas.{resting_left-future}
 use Rattle.continuous_audit.proofs.VerdictLemmas.{calm-first}
@@ -85,7 +85,7 @@ module _ (m : Market) (is : IsMarket m) where
         bounded = λ x. let z = zero-in (length orders) x in omega arith;
       });
       chain_ended = subst (HaveChainsEnded orders 0) (sym bare.numbers.order_numbers.chain_ended) (record { count = length-replicate {A = Bool} (length orders) false; is = λ x lt. absurd (omega arith) });
-      sizes = subst (AreSizes orders deals 0) (sym bare.numbers.order_numbers.sizes) (record { count = length-replicate {A = ℕ} (length orders) 0; is = λ x lt. absurd (omega arith) });
+      sizes = subst (AreSizes orders deals 0) (sym bare.numbers.order_numbers.sizes) (record { count = length-replicate {A = ℕ} (length orders) 0; is = λ x lt. absurd (omega arith); most = λ x. let z = zero-in (length orders) x in omega arith });
       left = subst (AreLeftBefore orders deals 0 (place_at orders 0)) (sym bare.numbers.order_numbers.left) (record { count = length-replicate {A = ℕ} (length orders) 0; is = λ x lt. absurd (omega arith) });
       running = record {
         totals = subst (λ (at : ℕ). AreRunningTotals orders deals m.incoming_deals.now at state.numbers.running.traded.items) (sym bare.numbers.added) (subst (AreRunningTotals orders deals m.incoming_deals.now 0) (sym bare.numbers.traded) (record {
@@ -95,6 +95,7 @@ module _ (m : Market) (is : IsMarket m) where
           fits = λ x lt. let z = zero-in (length orders) x in omega arith;
         }));
         split = subst (IsSplitAt m.incoming_deals.now 0) (sym bare.numbers.added) (record { early = λ i lt below. absurd (omega arith); late = λ i le below. omega arith });
+        most = subst AreWithinGreatestSize (sym bare.numbers.traded) (λ x. let z = zero-in (length orders) x in omega arith);
       };
     };
     books = empty-hold orders is.order_list deals state.books_so_far bare.books_so_far;

@@ -3,7 +3,7 @@ use Rattle.std.proofs.Common.{◌≡◌, ◌≢◌, ◌<◌, ◌≤◌, ◌+◌,
 use Rattle.std.specs.Prelude.{nat_lt, ◌==◌, Contains}
 use Rattle.std.proofs.lemmas.Bool.{cases_Bool, cases_lt, lt-ltb, le-ltb, ltb-true, eq-eqb, ne_eqb, eqb-true, and_parts, cond-true, cond-false}
 use Rattle.std.proofs.lemmas.List.Elements.{All-nil, All-head, All-tail, All-cons, All-weaker, All-contains_itself}
-use Rattle.std.proofs.lemmas.List.Sums.{sum_by-cons, sum_by-le-sum_by, sum_by_more_le_part}
+use Rattle.std.proofs.lemmas.List.Sums.{sum_by-cons, sum_by_more_le_part}
 use Rattle.audit_base.specs.declared.terms.Side.{Side}
 use Rattle.audit_base.specs.declared.orders.Order.{Order}
 use Rattle.audit_base.specs.Sums.{sum_below}
@@ -15,14 +15,6 @@ use Rattle.continuous_audit.specs.Fills.{fill_of, quantity_filled, fills_of, res
 use Rattle.continuous_audit.specs.Holding.{IsRestingOn}
 use Rattle.continuous_audit.proofs.HoldLemmas.{parts-apart}
 use Rattle.continuous_audit.proofs.WalkLemmas.{none-left, filled-cons}
-
--- what is filled of one order is within all that is filled
-pub filled-le : (fills : List Fill) (k : ℕ) → quantity_filled fills k ≤ total_filled fills
-filled-le fills k = sum_by-le-sum_by (λ (f : Fill). cond (f.index == k) f.quantity 0) (λ (f : Fill). f.quantity) fills (λ f. part (f.index == k) f.quantity)
-  where
-    part : (b : Bool) (q : ℕ) → cond b q 0 ≤ q
-    part true q = omega arith
-    part false q = omega arith
 
 -- the fills so far and the next are within all of them
 pub filled-next : (fills : List Fill) (i k : ℕ) (d : Fill) → i < length fills → quantity_filled (take i fills) k + (get_or fills i d).quantity ≤ total_filled fills

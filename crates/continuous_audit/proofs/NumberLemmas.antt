@@ -59,12 +59,16 @@ module _ (orders : List Order) (deals : List Deal) (n : ℕ) (n_inside : n < len
     ];
   })
 
-  pub sizes-more : (sizes ys : List ℕ) (z : ℕ) → AreSizes orders deals n sizes → z ≡ size_of_order orders deals n → ys ≡ slice_set sizes n z → AreSizes orders deals (suc n) ys
-  sizes-more sizes ys z old is made = subst (AreSizes orders deals (suc n)) (sym made) (record {
+  pub sizes-more : (sizes ys : List ℕ) (z : ℕ) → AreSizes orders deals n sizes → z ≡ size_of_order orders deals n → z ≤ 10 ^ 12 → ys ≡ slice_set sizes n z → AreSizes orders deals (suc n) ys
+  sizes-more sizes ys z old is fits made = subst (AreSizes orders deals (suc n)) (sym made) (record {
     count = length-set {A = ℕ} sizes n z ∙ old.count;
     is = λ x lt. elim (cases_eq x n) [
       | inl e ↦ subst (λ (y : ℕ). number_at (slice_set sizes n z) y ≡ size_of_order orders deals y) (sym e) (get_or-set_same {A = ℕ} sizes n z 0 (omega (arith, old.count)) ∙ is)
       | inr ne ↦ get_or-set_other {A = ℕ} sizes n x z 0 ne ∙ old.is x (omega (arith, ne))
+    ];
+    most = λ x. elim (cases_eq x n) [
+      | inl e ↦ subst (λ (y : ℕ). number_at (slice_set sizes n z) y ≤ 10 ^ 12) (sym e) (let g = get_or-set_same {A = ℕ} sizes n z 0 (omega (arith, old.count)) in omega arith)
+      | inr ne ↦ let g = get_or-set_other {A = ℕ} sizes n x z 0 ne in let f = old.most x in omega arith
     ];
   })
 

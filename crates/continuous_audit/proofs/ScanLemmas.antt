@@ -30,7 +30,7 @@ use Rattle.continuous_audit.specs.declared.order_numbers.OrderNumbers.{OrderNumb
 use Rattle.continuous_audit.specs.IncomingDeals.{AreIncomingDeals, incoming_deal_of, running_total}
 use Rattle.continuous_audit.specs.Flaws.{order_with_shown}
 use Rattle.continuous_audit.specs.Records.{IsKnownBeforeDeals}
-use Rattle.continuous_audit.specs.Scans.{AreRunningTotals, IsSplitAt, deal_index_at, incoming_deal_past_end, incoming_order_at}
+use Rattle.continuous_audit.specs.Scans.{AreRunningTotals, AreWithinGreatestSize, IsSplitAt, deal_index_at, incoming_deal_past_end, incoming_order_at}
 use Rattle.continuous_audit.specs.DealFindings as by_deal
 use Rattle.continuous_audit.proofs.FlawLemmas.{IsDealUpto, upto-n, deal-upto}
 use Rattle.continuous_audit.proofs.IncomingLemmas.{incoming-cause, running-upto}
@@ -62,6 +62,26 @@ first-broken f resting_order incoming_order bid ask true true false b a = refl
 first-broken f resting_order incoming_order bid ask true true true true a = refl
 first-broken f resting_order incoming_order bid ask true true true false true = refl
 first-broken f resting_order incoming_order bid ask true true true false false = refl
+
+-- where there is none, neither order trades more than its Size
+none-broken : (resting_order incoming_order bid ask : TradedOrder) (r e w b a : Bool) → first_broken resting_order incoming_order bid ask r e w b a ≡ None → (b ≡ false) × (a ≡ false)
+none-broken resting_order incoming_order bid ask false e w b a none = absurd (cc)
+none-broken resting_order incoming_order bid ask true false w b a none = absurd (cc)
+none-broken resting_order incoming_order bid ask true true false b a none = absurd (cc)
+none-broken resting_order incoming_order bid ask true true true true a none = absurd (cc)
+none-broken resting_order incoming_order bid ask true true true false true none = absurd (cc)
+none-broken resting_order incoming_order bid ask true true true false false none = (refl, refl)
+
+within-size : (x : Account) → by_deal.is_over_size x ≡ false → x.traded ≤ x.size
+within-size x off = elim (cases_lt x.size x.traded) [
+  | inl over ↦ let on = lt-ltb _ _ over in absurd (cc)
+  | inr within ↦ within
+]
+
+no-evidence : (d : Deal) (bid ask : Order) (deal_record : RecordOfDeal) (known : Accounts) → by_deal.deal_evidence d bid ask deal_record known ≡ None → (known.bid.traded ≤ known.bid.size) × (known.ask.traded ≤ known.ask.size)
+no-evidence d bid ask deal_record known none =
+    let off = none-broken (by_deal.resting_account bid ask known).shown (by_deal.incoming_account bid ask known).shown known.bid.shown known.ask.shown (by_deal.resting_waits bid ask deal_record.place known) deal_record.entered (is_price_within bid ask d) (by_deal.is_over_size known.bid) (by_deal.is_over_size known.ask) none in
+    (within-size known.bid off.0, within-size known.ask off.1)
 
 -- of two accounts that are shown as two orders, that which a test picks is shown as
 -- the one that it picks
@@ -328,6 +348,29 @@ module _ (orders : List Order) (list : IsOrderList orders) (deals : List Deal) (
       let ta = at_is ∙ ask-now orders deals incoming_deals at lt xs run d d_is named q q_is (omega arith) ∙ ap (λ (x : Deal). running_total deals incoming_deals (at + 1) x.ask) d_is in
       checked orders list deals deal_list incoming_deals are n n_inside deal_record.entered order_numbers known at lt of bt at' tb ta
       ∙ sym (λ i. option_map (finding_by orders list deals deal_list incoming_deals are n n_inside (d_is i)) (by_deal.deal_evidence (d_is i) (b i) (a i) (record { place = place i; entered = deal_record.entered }) (record { bid = kb i; ask = ka i })))
+
+  -- where it shows nothing, no order trades more than the greatest Size
+  pub most-read : AreWithinGreatestSize xs → (bid ask : Order) (deal_record : RecordOfDeal) (order_numbers : OrderNumbers) → AreWithinGreatestSize order_numbers.sizes.items → (accounts : Accounts) (bt at' : ℕ) → accounts.bid ≡ by_deal.account_of order_numbers d.bid bt → accounts.ask ≡ by_deal.account_of order_numbers d.ask at' → bt ≡ get_or xs d.bid 0 + q → at' ≡ get_or xs d.ask 0 + q
+      → by_deal.deal_evidence d bid ask deal_record accounts ≡ None → (zs : List ℕ) → zs ≡ slice_set (slice_set xs d.bid (get_or xs d.bid 0 + q)) d.ask (get_or xs d.ask 0 + q) → AreWithinGreatestSize zs
+  most-read most bid ask deal_record order_numbers sizes accounts bt at' b_is a_is bt_is at_is none zs made = subst AreWithinGreatestSize (sym made) (λ x. elim (cases_eq x d.bid) [
+    | inl e ↦ subst (λ (y : ℕ). number_at (slice_set (slice_set xs d.bid (get_or xs d.bid 0 + q)) d.ask (get_or xs d.ask 0 + q)) y ≤ 10 ^ 12) (sym e)
+        (let now = at_bid orders deals incoming_deals at lt xs run d d_is named q q_is (omega arith) in
+        let traded_is : accounts.bid.traded ≡ bt = ap (λ (c : Account). c.traded) b_is in
+        let size_is : accounts.bid.size ≡ number_at order_numbers.sizes.items d.bid = ap (λ (c : Account). c.size) b_is in
+        let within = (no-evidence d bid ask deal_record accounts none).0 in
+        let top = sizes d.bid in
+        omega arith)
+    | inr not_bid ↦ elim (cases_eq x d.ask) [
+      | inl e ↦ subst (λ (y : ℕ). number_at (slice_set (slice_set xs d.bid (get_or xs d.bid 0 + q)) d.ask (get_or xs d.ask 0 + q)) y ≤ 10 ^ 12) (sym e)
+          (let now = at_ask orders deals incoming_deals at lt xs run d d_is named q q_is (omega arith) in
+          let traded_is : accounts.ask.traded ≡ at' = ap (λ (c : Account). c.traded) a_is in
+          let size_is : accounts.ask.size ≡ number_at order_numbers.sizes.items d.ask = ap (λ (c : Account). c.size) a_is in
+          let within = (no-evidence d bid ask deal_record accounts none).1 in
+          let top = sizes d.ask in
+          omega arith)
+      | inr not_ask ↦ let same = at_other orders deals incoming_deals at lt xs run d d_is named q q_is (omega arith) x not_bid not_ask in let old = most x in omega arith
+    ]
+  ])
 
   -- the orders that it shows are in the list
   pub inside-read : (bid ask : Order) (deal_record : RecordOfDeal) (order_numbers : OrderNumbers) (accounts : Accounts) (bt at' : ℕ) → accounts.bid ≡ by_deal.account_of order_numbers d.bid bt → accounts.ask ≡ by_deal.account_of order_numbers d.ask at' → IfSome (by_deal.deal_evidence d bid ask deal_record accounts) (IsEvidenceInside orders)

@@ -1,8 +1,8 @@
 -- What is known after an order has traded at its record.
 use Rattle.std.proofs.Common.{◌≡◌, ◌<◌, ◌≤◌, ◌+◌, ◌-◌, ◌*◌, ◌^◌, ℕ, min, suc, List, ◌++◌, length, map, get_or, Bool, true, refl, sym, ap, ◌∙◌, arith, inl, inr, subst, All}
 use Rattle.std.specs.Prelude.{slice_set}
-use Rattle.std.proofs.lemmas.Bool.{cases_eq}
-use Rattle.std.proofs.lemmas.List.{length-append, length-map}
+use Rattle.std.proofs.lemmas.Bool.{cases_eq, cases_lt}
+use Rattle.std.proofs.lemmas.List.{get_or_past, length-append, length-map}
 use Rattle.std.proofs.lemmas.List.Elements.{All-append, All-map}
 use Rattle.audit_base.specs.declared.terms.Side.{Side}
 use Rattle.audit_base.specs.declared.terms.Side.TheVariants.{Buy, Sell}
@@ -11,6 +11,8 @@ use Rattle.audit_base.specs.declared.orders.Deal.{Deal}
 use Rattle.audit_base.specs.Orders.{order_at, side_at, limit_at, place_at, other_side, IsOrderList}
 use Rattle.audit_base.specs.Continuous.{traded_before, chain_traded_quantity, size_in_ledger, size_of_order, left_before}
 use Rattle.audit_base.specs.Deals.{number_at}
+use Rattle.audit_base.proofs.OrderLemmas.{place-rises}
+use Rattle.continuous_laws.proofs.PlaceLemmas.{traded-none}
 use Rattle.order_book.specs.declared.books.Resting.{Resting}
 use Rattle.continuous_audit.specs.declared.books.Books.{Books}
 use Rattle.continuous_audit.specs.declared.fills.Fill.{Fill}
@@ -22,7 +24,7 @@ use Rattle.continuous_audit.specs.Fills.{quantity_filled, fills_of, resting_afte
 use Rattle.continuous_audit.specs.Holding.{resting_left_before, resting_left_after_deals}
 use Rattle.continuous_audit.specs.Matching.{AreFillsApplied, AreExpectedDeals, AreTradesSoFar, IsMatchedUnder}
 use Rattle.continuous_audit.specs.Pairs.{IsFillPairInRange, fill_pair}
-use Rattle.continuous_audit.proofs.FilledLemmas.{filled-le, walk-count}
+use Rattle.continuous_audit.proofs.FilledLemmas.{walk-count}
 use Rattle.continuous_audit.proofs.MatchLemmas.{set-at, set-other, set-length, traded-other, traded-own, books-after, pairs-after, fills-inside, fills-inside-any, fills-sized, arrival-is}
 use Rattle.continuous_audit.proofs.NumberLemmas.{chain_ended-more}
 
@@ -103,6 +105,23 @@ module _ (orders : List Order) (list : IsOrderList orders) (n : ℕ) (n_inside :
       pairs = pairs-after orders list n n_inside deals is old.books_so_far.books old_is.books q q_is old.pairs.items new.pairs.items old_is.pairs (h.pairs ∙ ap (λ (fs : List Fill). old.pairs.items ++ map (fill_pair s n) fs) h.fills_are);
     }
 
+    -- an earlier order trades at most what is left of it, and a later one nothing
+    filled-within : (x : ℕ) → x < n → quantity_filled fills x ≤ number_at old.order_numbers.left.items x
+    filled-within x lt =
+        let more = traded-other orders list n n_inside deals is old.books_so_far.books old_is.books q q_is x (omega arith) (λ e. omega arith) in
+        let all : quantity_filled fills x ≡ quantity_filled all_fills x = ap (λ (fs : List Fill). quantity_filled fs x) h.fills_are in
+        let was = old_is.left_is x lt in
+        let within : past (suc p) x ≤ size_of_order orders deals x = (is.conforms.each p).conservation.within x (omega arith) in
+        omega arith
+
+    traded-later : (x : ℕ) → n < x → number_at new.traded.items x ≡ 0
+    traded-later x later = elim (cases_lt x (length orders)) [
+      | inl lt ↦ traded-now x lt ∙ traded-none orders deals (suc p) x (place-rises orders list n x later lt)
+      | inr past_end ↦
+          let long : length new.traded.items ≡ length orders = set-length h.mid_traded new.traded.items n (q - rest) h.traded ∙ h.applied.traded_count ∙ counted.traded_count in
+          get_or_past new.traded.items x 0 (omega arith)
+    ]
+
     dealt-new : q ≤ 10 ^ 12 → All (IsFillPairInRange (length orders)) (map (fill_pair s n) fills)
     dealt-new fits = subst (λ (fs : List Fill). All (IsFillPairInRange (length orders)) (map (fill_pair s n) fs)) (sym h.fills_are)
         (All-map (IsFillPairInRange (length orders)) (fill_pair s n) all_fills (λ k d lt.
@@ -132,12 +151,22 @@ module _ (orders : List Order) (list : IsOrderList orders) (n : ℕ) (n_inside :
             ];
           };
           traded_fits = λ x. elim (cases_eq x n) [
-            | inl e ↦ let v = set-at h.mid_traded new.traded.items n (q - rest) x (omega arith) h.traded e in omega arith
+            | inl e ↦
+                let v = set-at h.mid_traded new.traded.items n (q - rest) x (omega arith) h.traded e in
+                let w = set-at h.mid_left new.order_numbers.left.items n rest x (omega arith) h.left e in
+                omega arith
             | inr ne ↦
-                let v = set-other h.mid_traded new.traded.items n (q - rest) x h.traded ne in
-                let w = h.applied.traded_is x in
+                let v = set-other h.mid_left new.order_numbers.left.items n rest x h.left ne in
+                let left = h.applied.left_is x in
                 let was = counted.traded_fits x in
-                omega (arith, filled-le fills x)
+                elim (cases_lt x n) [
+                  | inl less ↦
+                      let w = set-other h.mid_traded new.traded.items n (q - rest) x h.traded ne in
+                      let more = h.applied.traded_is x in
+                      let within = filled-within x less in
+                      omega arith
+                  | inr later ↦ let none = traded-later x (omega (arith, ne)) in omega arith
+                ]
           ];
           dealt = subst (All (IsFillPairInRange (length orders))) (sym h.pairs) (All-append (IsFillPairInRange (length orders)) old.pairs.items (map (fill_pair s n) fills) counted.dealt (dealt-new fits));
           within =

@@ -1,5 +1,5 @@
 -- What the list of a book is to hold.
-use Rattle.std.specs.Prelude.{◌≡◌, ◌<◌, ◌≤◌, ◌-◌, ◌⊎◌, ℕ, suc, Bool, true, false, ◌&&◌, Option, None, Some, List, All, AllPairs, Contains, [], ◌∷◌, length, slice_index_or, nat_lt, if◌then◌else◌}
+use Rattle.std.specs.Prelude.{◌≡◌, ◌<◌, ◌≤◌, ◌-◌, ◌⊎◌, ℕ, suc, Bool, true, false, ◌&&◌, Option, None, Some, List, All, AllPairs, Contains, [], ◌∷◌, length, nat_lt, if◌then◌else◌}
 use Rattle.audit_base.specs.declared.terms.Side.{Side}
 use Rattle.audit_base.specs.declared.terms.Side.TheVariants.{Buy, Sell}
 use Rattle.audit_base.specs.declared.orders.Order.{Order}

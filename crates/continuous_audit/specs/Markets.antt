@@ -11,7 +11,7 @@ use Rattle.continuous_audit.specs.IncomingDeals.{AreIncomingDeals}
 use Rattle.continuous_audit.specs.Endings.{AreEndings}
 use Rattle.continuous_audit.specs.Holding.{IsFilledInFront, resting_left_before, resting_left_after_deals}
 use Rattle.continuous_audit.specs.Records.{ConformsBelow, conservation_at}
-use Rattle.continuous_audit.specs.Scans.{AreRunningTotals, IsLeftRefreshed, IsSplitAt, deal_index_at}
+use Rattle.continuous_audit.specs.Scans.{AreRunningTotals, AreWithinGreatestSize, IsLeftRefreshed, IsSplitAt, deal_index_at}
 
 -- the deals are over the order list, and each deal and each order that is ended
 -- belongs to its record
@@ -29,11 +29,13 @@ ConformsBefore m order = ConformsBelow m.orders.now m.deals.now (place_at m.orde
 abbrev pub IsConserved : Market → ℕ → Type 0
 IsConserved m order = conservation_at m.orders.now m.deals.now order ≡ None
 
--- what each order has traded in the deals of the orders before this one
+-- what each order has traded in the deals of the orders before this one, which is at most the
+-- greatest Size
 pub record HaveTraded (m : Market) (order : ℕ) (running : RunningTotals) : Type 0 where
   pub totals : AreRunningTotals m.orders.now m.deals.now m.incoming_deals.now running.added
       running.traded.items
   pub split : IsSplitAt m.incoming_deals.now order running.added
+  pub most : AreWithinGreatestSize running.traded.items
 
 -- what is left of the orders of the incoming deals from an index on, as far as these are added, is
 -- their size less what they have traded, and of the others what it was

@@ -1,5 +1,5 @@
 -- What is known of the Expected trades before an order arrives, and after it has traded.
-use Rattle.std.specs.Prelude.{◌≡◌, ◌<◌, ◌≤◌, ◌+◌, ◌-◌, ◌*◌, ◌^◌, ℕ, suc, List, [], All, length, replicate}
+use Rattle.std.specs.Prelude.{◌≡◌, ◌<◌, ◌≤◌, ◌+◌, ◌-◌, ◌^◌, ℕ, suc, List, [], All, length, replicate}
 use Rattle.audit_base.specs.declared.orders.Order.{Order}
 use Rattle.audit_base.specs.declared.orders.Deal.{Deal}
 use Rattle.audit_base.specs.Orders.{place_at}
@@ -31,12 +31,14 @@ pub record AreFillsApplied (fills : List Fill)
   pub left_is : (order : ℕ) → number_at left order
       ≡ number_at old_left order - quantity_filled fills order
 
--- whatever the deals are: there is a number for each order, what was traded is not too great, and
--- the pairs, the orders in the books and the one that waits to enter are together at most n
+-- whatever the deals are: there is a number for each order, what it has traded and has left are
+-- together at most the greatest Size, and the pairs, the orders in the books and the one that waits
+-- to enter are together at most n
 pub record AreTradesSoFar (orders : List Order) (n waiting : ℕ) (t : TradesSoFar) : Type 0 where
   pub traded_count : length t.traded.items ≡ length orders
   pub order_numbers : AreNumbersInBounds orders n t.order_numbers
-  pub traded_fits : (order : ℕ) → number_at t.traded.items order ≤ n * 10 ^ 12
+  pub traded_fits : (order : ℕ) → number_at t.traded.items order
+      + number_at t.order_numbers.left.items order ≤ 10 ^ 12
   pub dealt : All (IsFillPairInRange (length orders)) t.pairs.items
   pub within : length t.pairs.items + resting_count t.books_so_far.books + waiting ≤ n
 

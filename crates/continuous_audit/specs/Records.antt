@@ -12,7 +12,7 @@ use Rattle.audit_base.specs.Deals.{number_at}
 use Rattle.continuous_audit.specs.declared.order_numbers.OrderNumbers.{OrderNumbers}
 use Rattle.continuous_audit.specs.Holding.{IsUncrossedBefore}
 use Rattle.continuous_audit.specs.Chains.{IsChainTradedBounded}
-use Rattle.continuous_audit.specs.Scans.{AreTotalsSmall}
+use Rattle.continuous_audit.specs.Scans.{AreTotalsSmall, AreWithinGreatestSize}
 
 -- the rule holds at each place below this one
 abbrev pub ConformsBelow : List Order → List Deal → ℕ → Type 0
@@ -33,11 +33,12 @@ pub record AreChainTradedNumbers (orders : List Order) (deals : List Deal) (m : 
   pub fits : (order : ℕ) → number_at chain_traded order ≤ 2 ^ 126
   pub bounded : IsChainTradedBounded chain_traded
 
--- Size of each of the first m orders
+-- Size of each of the first m orders, and none is over the greatest
 pub record AreSizes (orders : List Order) (deals : List Deal) (m : ℕ)
     (sizes : List ℕ) : Type 0 where
   pub count : length sizes ≡ length orders
   pub is : (order : ℕ) → order < m → number_at sizes order ≡ size_of_order orders deals order
+  pub most : AreWithinGreatestSize sizes
 
 -- what is left of each of the first m orders before a place
 pub record AreLeftBefore (orders : List Order) (deals : List Deal) (m place : ℕ)

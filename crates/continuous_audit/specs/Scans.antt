@@ -59,6 +59,10 @@ pub record IsLeftRefreshed (deals : List Deal) (incoming_deals : List IncomingDe
       ⊎ ((number_at new order ≡ number_at old order) × ((index : ℕ) → start ≤ index → index < end
       → names_order order (deal_at deals (deal_index_at incoming_deals index)) ≡ false))
 
+-- each number is at most 10^12, the greatest Size
+abbrev pub AreWithinGreatestSize : List ℕ → Type 0
+AreWithinGreatestSize numbers = (order : ℕ) → number_at numbers order ≤ 10 ^ 12
+
 -- what each order has traded is there, and at most 2^72
 pub record AreTotalsSmall (orders : List Order) (traded : List ℕ) : Type 0 where
   pub count : length traded ≡ length orders

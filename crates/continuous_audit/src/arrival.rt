@@ -68,7 +68,7 @@ pub struct Arrival {
 /// The arrival of an order at its own record, from what the earlier ones have traded and have left.
 pub fn arrive_order(
     orders: &OrderList<'_>,
-    traded: &[u128],
+    traded: &[u64],
     order_numbers: &OrderNumbers,
     order: usize,
 ) -> Arrival

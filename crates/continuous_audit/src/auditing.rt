@@ -1,5 +1,5 @@
 //! Whether deals conform to the rule of continuous trading.
-ghost use Rattle.std.specs.Prelude.{IfOk};
+ghost use Rattle.std.specs.Prelude.{◌≡◌, IfOk};
 ghost use Rattle.audit_base.specs.Orders.{IsOrderList};
 ghost use Rattle.audit_base.specs.Deals.{IsDealList};
 ghost use Rattle.continuous_audit.specs.Audits.{IsContinuousOutcome};
@@ -16,6 +16,17 @@ use matching_core::outcomes::{Outcome, Reached};
 use matching_core::totals::{Totals, volume_of};
 use order_list::lists::OrderList;
 use std::alloc::Global;
+
+/// The numbers as a verdict has them.
+fn widen(alloc: Global, numbers: &[u64]) -> Result<Vec<u128>, NoMemory>
+    ensures { IfOk result (λ wide. wide.items ≡ numbers.now) }
+{
+    let mut wide = Vec::with_capacity(alloc, numbers.len())?;
+    for (index, number) in numbers.iter().enumerate() {
+        wide.push(u128::from(*number))?;
+    }
+    Ok(wide)
+}
 
 /// The audit of the rule of continuous trading. Conforms exactly where it holds, unless it is out
 /// of memory: with what each order traded, and the volume. Else Broken has the first offence: an
@@ -45,8 +56,10 @@ pub fn audit_continuous(
     if let Some(finding) = state.first_offence(&market)? {
         return Ok(Outcome::Broken(finding));
     }
+    let traded = state.into_traded();
+    let wide = widen(alloc, &traded)?;
     Ok(Outcome::Conforms(Reached {
-        traded: Totals::of(state.numbers.running.traded, volume),
+        traded: Totals::of(wide, volume),
         bound: None,
     }))
 }

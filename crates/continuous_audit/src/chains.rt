@@ -15,7 +15,7 @@ use order_list::lists::OrderList;
 
 /// What the orders of the chain of an order have traded: its target, the target's
 /// target, and so on.
-fn chain_total(orders: &OrderList<'_>, traded: &[u128], order: usize) -> u128
+fn chain_total(orders: &OrderList<'_>, traded: &[u64], order: usize) -> u128
     requires order_list { IsOrderList orders.now }
     requires order { order < length orders.now }
     requires traded { AreTotalsSmall orders.now traded.now }
@@ -25,7 +25,7 @@ fn chain_total(orders: &OrderList<'_>, traded: &[u128], order: usize) -> u128
     let mut total: u128 = 0;
     let mut target = orders.at(order).target();
     while let Some(index) = target {
-        total += traded[index];
+        total += traded[index] as u128;
         target = orders.at(index).target();
     }
     total
@@ -35,7 +35,7 @@ fn chain_total(orders: &OrderList<'_>, traded: &[u128], order: usize) -> u128
 /// ended, as in every history, this is what the target has traded, and the target's own Before.
 pub fn traded_by_chain(
     orders: &OrderList<'_>,
-    traded: &[u128],
+    traded: &[u64],
     order_numbers: &OrderNumbers,
     order: usize,
 ) -> u128
@@ -50,7 +50,7 @@ pub fn traded_by_chain(
 {
     if let Some(target) = orders.at(order).target() {
         if order_numbers.is_chain_ended(target) {
-            return traded[target] + order_numbers.chain_traded_of(target);
+            return traded[target] as u128 + order_numbers.chain_traded_of(target);
         }
     }
     chain_total(orders, traded, order)

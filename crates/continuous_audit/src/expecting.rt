@@ -19,7 +19,6 @@ use super::order_numbers::OrderNumbers;
 use super::pairs::{number_pairs, sort_pairs};
 use audit_base::faults::NoMemory;
 use audit_base::orders::Deal;
-use matching_core::totals::zeros;
 use order_list::lists::OrderList;
 use std::alloc::Global;
 
@@ -27,7 +26,7 @@ use std::alloc::Global;
 fn no_trades(alloc: Global, count: usize) -> Result<TradesSoFar, NoMemory>
     ensures { IfOk result (AreTradesAtStart count) }
 {
-    let traded = zeros(alloc, count)?;
+    let traded = vec![in alloc; 0u64; count]?;
     let order_numbers = OrderNumbers::new(alloc, count)?;
     Ok(TradesSoFar {
         traded,

@@ -6,15 +6,14 @@ ghost use Rattle.continuous_audit.specs.Scans.{HasDeals};
 
 use super::market::Market;
 use super::scanning::RunningTotals;
-use matching_core::totals::left_of;
 
 /// What is left of an order.
-pub fn left_at(sizes: &[u64], traded: &[u128], order: usize) -> u64
+pub fn left_at(sizes: &[u64], traded: &[u64], order: usize) -> u64
     requires sizes { order < length sizes.now }
     requires traded { order < length traded.now }
     ensures { result ≡ number_at sizes.now order - number_at traded.now order }
 {
-    left_of(sizes[order], traded[order])
+    sizes[order].saturating_sub(traded[order])
 }
 
 /// Sets a number of an order.

@@ -18,7 +18,6 @@ use super::pairs::{FillPair, push_pairs};
 use super::spreading::enter_own;
 use audit_base::faults::NoMemory;
 use audit_base::terms::Side;
-use matching_core::totals::left_of;
 use order_list::listed::ListedOrder;
 use order_list::lists::OrderList;
 
@@ -26,7 +25,7 @@ use order_list::lists::OrderList;
 /// and the pairs that have traded.
 #[derive(Drop)]
 pub struct TradesSoFar {
-    pub traded: Vec<u128>,
+    pub traded: Vec<u64>,
     pub order_numbers: OrderNumbers,
     pub books_so_far: BooksSoFar,
     /// What the last order trades.
@@ -35,7 +34,7 @@ pub struct TradesSoFar {
 }
 
 /// Sets what an order has traded.
-fn set_total(traded: &mut Vec<u128>, order: usize, total: u128)
+fn set_total(traded: &mut Vec<u64>, order: usize, total: u64)
     requires { order < vec_len traded.old }
     ensures { traded.new.items ≡ slice_set traded.old.items order total }
 {
@@ -43,23 +42,22 @@ fn set_total(traded: &mut Vec<u128>, order: usize, total: u128)
 }
 
 /// Adds a fill to what its order has traded, and takes it from what is left of it.
-fn apply_fill(fill: &Fill, traded: &mut Vec<u128>, left: &mut Vec<u64>)
+fn apply_fill(fill: &Fill, traded: &mut Vec<u64>, left: &mut Vec<u64>)
     requires traded_inside { fill.now.index < vec_len traded.old }
     requires left_inside { fill.now.index < vec_len left.old }
-    requires fits { number_at traded.old.items fill.now.index + fill.now.quantity < 2 ^ 128 }
+    requires fits { number_at traded.old.items fill.now.index + fill.now.quantity < 2 ^ 64 }
     ensures { AreFillsApplied (fill.now ∷ []) traded.old.items left.old.items traded.new.items
         left.new.items }
 {
-    let quantity = fill.quantity as u128;
-    traded[fill.index] += quantity;
-    left[fill.index] = left_of(left[fill.index], quantity);
+    traded[fill.index] += fill.quantity;
+    left[fill.index] = left[fill.index].saturating_sub(fill.quantity);
 }
 
 /// Adds fills to what their orders have traded, and takes them from what is left of these.
-fn apply_fills(fills: &[Fill], traded: &mut Vec<u128>, left: &mut Vec<u64>)
+fn apply_fills(fills: &[Fill], traded: &mut Vec<u64>, left: &mut Vec<u64>)
     requires traded_inside { All (λ f. f.index < vec_len traded.old) fills.now }
     requires left_inside { All (λ f. f.index < vec_len left.old) fills.now }
-    requires fits { (x : ℕ) → number_at traded.old.items x + total_filled fills.now < 2 ^ 128 }
+    requires fits { (x : ℕ) → number_at traded.old.items x + total_filled fills.now < 2 ^ 64 }
     ensures { AreFillsApplied fills.now traded.old.items left.old.items traded.new.items
         left.new.items }
 {
@@ -121,7 +119,7 @@ fn trade_order(
         &mut so_far.traded,
         &mut so_far.order_numbers.left,
     );
-    set_total(&mut so_far.traded, order, (arrival.size - left) as u128);
+    set_total(&mut so_far.traded, order, arrival.size - left);
     set_amount(&mut so_far.order_numbers.left, order, left);
     push_pairs(own.side(), order, &so_far.fills, &mut so_far.pairs)
 }

@@ -12,7 +12,6 @@ use super::order_numbers::OrderNumbers;
 use super::scanning::{RunningTotals, check_deals};
 use audit_base::faults::NoMemory;
 use audit_base::flaws::{Flaw, TradedOrder};
-use matching_core::totals::zeros;
 use std::alloc::Global;
 
 /// What is known of the orders, and at which of the incoming deals those of the last one begin.
@@ -29,7 +28,7 @@ impl DealingState {
         ensures { IfOk result (AreNumbersAtStart count) }
     {
         let order_numbers = OrderNumbers::new(alloc, count)?;
-        let traded = zeros(alloc, count)?;
+        let traded = vec![in alloc; 0u64; count]?;
         let running = RunningTotals { traded, added: 0 };
         Ok(DealingState {
             order_numbers,
@@ -45,7 +44,7 @@ impl DealingState {
     {
         TradedOrder {
             index: order,
-            traded: self.running.traded[order] + self.order_numbers.chain_traded[order],
+            traded: self.running.traded[order] as u128 + self.order_numbers.chain_traded[order],
         }
     }
 

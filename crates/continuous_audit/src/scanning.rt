@@ -1,5 +1,6 @@
 //! The deals of one record, one after another.
-ghost use Rattle.std.specs.Prelude.{◌≡◌, ◌≤◌, ◌<◌, suc, None, length};
+ghost use Rattle.std.specs.Prelude.{◌≡◌, ◌≢◌, ◌≤◌, ◌<◌, ◌+◌, ◌^◌, suc, None, length, slice_index, vec_len};
+ghost use Rattle.matching_core.specs.DealFlaws.{traded_with_deal};
 ghost use Rattle.continuous_audit.specs.Flaws.{IsFindingOfFlaw};
 ghost use Rattle.continuous_audit.specs.Markets.{HaveTraded, IsMarket};
 ghost use Rattle.continuous_audit.specs.Records.{IsKnownBeforeDeals, conservation_at};
@@ -8,14 +9,32 @@ use super::checking::{Accounts, RecordOfDeal, deal_evidence};
 use super::market::Market;
 use super::order_numbers::OrderNumbers;
 use audit_base::flaws::Flaw;
-use matching_core::checking::add_deal;
 
 /// What each order has traded in the first of the incoming deals.
 #[derive(Drop)]
 pub struct RunningTotals {
-    pub traded: Vec<u128>,
+    /// At most the greatest Size as long as no deal has a flaw, so 64 bits are enough.
+    pub traded: Vec<u64>,
     /// How many of the incoming deals are added.
     pub added: usize,
+}
+
+/// Adds the quantity of a deal to what its two orders trade, and gives what they then trade.
+fn add_quantity(traded: &mut Vec<u64>, bid: usize, ask: usize, quantity: u64) -> (u64, u64)
+    requires bid { bid < vec_len traded.old }
+    requires ask { ask < vec_len traded.old }
+    requires apart { bid ≢ ask }
+    requires bid_fits { slice_index traded.old.items bid + quantity < 2 ^ 64 }
+    requires ask_fits { slice_index traded.old.items ask + quantity < 2 ^ 64 }
+    ensures added { traded.new.items ≡ traded_with_deal traded.old.items bid ask quantity }
+    ensures bid { result.0 ≡ slice_index traded.old.items bid + quantity }
+    ensures ask { result.1 ≡ slice_index traded.old.items ask + quantity }
+{
+    let bid_traded = traded[bid] + quantity;
+    let ask_traded = traded[ask] + quantity;
+    traded[bid] = bid_traded;
+    traded[ask] = ask_traded;
+    (bid_traded, ask_traded)
 }
 
 /// Adds what the deals of the order at `order` trade, up to the first that has a flaw.
@@ -47,12 +66,12 @@ pub fn check_deals(
             return None;
         }
         let deal = &deals[incoming.deal as usize];
-        let quantity = deal.quantity.value() as u128;
+        let quantity = deal.quantity.value();
         let traded = &mut running.traded;
-        let (bid_traded, ask_traded) = add_deal(traded, deal.bid, deal.ask, quantity);
+        let (bid_traded, ask_traded) = add_quantity(traded, deal.bid, deal.ask, quantity);
         let known = Accounts {
-            bid: order_numbers.account(deal.bid, bid_traded),
-            ask: order_numbers.account(deal.ask, ask_traded),
+            bid: order_numbers.account(deal.bid, bid_traded as u128),
+            ask: order_numbers.account(deal.ask, ask_traded as u128),
         };
         let (bid, ask) = (orders.at(deal.bid), orders.at(deal.ask));
         if let Some(evidence) = deal_evidence(deal, &bid, &ask, deal_record, known) {

@@ -34,6 +34,13 @@ impl State {
         })
     }
 
+    /// What each order has traded. All else that the state has is given back.
+    pub fn into_traded(self) -> Vec<u64>
+        ensures { result.items ≡ self.numbers.running.traded.items }
+    {
+        self.numbers.running.traded
+    }
+
     /// What the deals of the order at `order` do to the numbers and the books, or their first flaw.
     fn trade(&mut self, market: &Market<'_>, order: usize) -> Option<Flaw>
         requires market { IsMarket market.now }

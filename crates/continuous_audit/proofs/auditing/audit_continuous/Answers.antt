@@ -1,4 +1,4 @@
-use Rattle.std.proofs.Common.{◌∙◌, ℕ, List, Option, IfSome, Ok, refl, sym, ap, subst}
+use Rattle.std.proofs.Common.{◌≡◌, ◌∙◌, ℕ, List, Option, IfSome, Ok, refl, sym, ap, subst}
 use Rattle.audit_base.specs.declared.findings.Finding.{Finding}
 use Rattle.audit_base.specs.Deals.{AreTotals}
 use Rattle.audit_base.specs.ContinuousOffences.{IsContinuousOffence}
@@ -26,9 +26,10 @@ returns c =
     let state = c.first_offence.new.self in
     let market : IsMarket (record { orders = c.args.orders; deals = c.args.deals; incoming_deals = c.deref.result; endings = c.deref-2.result }) = market-read _ c.in_ok-incoming_deals.incoming_deals.items c.in_ok-endings.endings.items c.requires.order_list c.requires.deal_list c.deref.ensures.value c.deref-2.ensures.value c.in_ok-incoming_deals.ensures c.in_ok-endings.ensures in
     let conforms = last-conforms _ market state ready in
+    let traded_is : c.in_ok-wide.wide.items ≡ state.numbers.running.traded.items = c.in_ok-wide.ensures ∙ c.deref-3.ensures.value ∙ c.into_traded-traded.ensures in
     record {
       conforms = conforms;
-      totals = subst (λ (t : List ℕ × ℕ). AreTotals c.args.orders.now c.args.deals.now t.0) (sym c.of.ensures) (last-totals _ market state ready);
+      totals = subst (λ (t : List ℕ × ℕ). AreTotals c.args.orders.now c.args.deals.now t.0) (sym c.of.ensures) (subst (AreTotals c.args.orders.now c.args.deals.now) (sym traded_is) (last-totals _ market state ready));
       volume_is = ap (λ (t : List ℕ × ℕ). t.1) c.of.ensures ∙ c.volume_of-volume.ensures;
       no_bound = refl;
       only = λ regular bid ask. c.continuous_uniqueness.ensures.only c.args.orders.now c.args.deals.now c.requires.order_list regular c.deals_in_range.ensures conforms bid ask;

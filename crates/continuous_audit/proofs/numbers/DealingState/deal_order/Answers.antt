@@ -24,7 +24,7 @@ check_deals-requires-clause-known c =
     record {
       arrived = o.entered_is;
       chain_traded = before-more orders deals c.args.order c.requires.order _ c.note.new.self.chain_traded.items c.arrive_order-arrival.result.chain_traded c.requires.known.chain_traded o.chain_traded_is c.arrive_order-arrival.ensures.fits.bounded c.requires.market.order_list.fits_indices c.note.ensures.chain_traded;
-      sizes = sizes-more orders deals c.args.order c.requires.order _ _ c.arrive_order-arrival.result.size c.requires.known.sizes o.size_is c.note.ensures.sizes;
+      sizes = sizes-more orders deals c.args.order c.requires.order _ _ c.arrive_order-arrival.result.size c.requires.known.sizes o.size_is c.arrive_order-arrival.ensures.fits.most c.note.ensures.sizes;
       left = subst (AreLeftBefore orders deals c.args.order (place_at orders c.args.order)) (sym c.note.ensures.left) c.requires.known.left;
     }
 
@@ -41,10 +41,10 @@ returns-clause-dealt c = λ e.
       known = record {
         chain_traded = before-more orders deals c.args.order c.requires.order _ _ c.arrive_order-arrival.result.chain_traded c.requires.known.chain_traded o.chain_traded_is c.arrive_order-arrival.ensures.fits.bounded c.requires.market.order_list.fits_indices c.note.ensures.chain_traded;
         chain_ended = chain_ended-more orders deals c.args.order c.requires.order _ _ c.arrive_order-arrival.result.chain_ended c.requires.known.chain_ended c.arrive_order-arrival.ensures.fits.chain_ended c.note.ensures.chain_ended;
-        sizes = sizes-more orders deals c.args.order c.requires.order _ _ c.arrive_order-arrival.result.size c.requires.known.sizes o.size_is c.note.ensures.sizes;
+        sizes = sizes-more orders deals c.args.order c.requires.order _ _ c.arrive_order-arrival.result.size c.requires.known.sizes o.size_is c.arrive_order-arrival.ensures.fits.most c.note.ensures.sizes;
         left = left-after_deals c.args.market.now.orders.now c.requires.market.order_list c.args.market.now.deals.now c.requires.market.deal_list c.args.market.now.incoming_deals.now c.requires.market.incoming_deals c.args.order c.requires.order c.args.self.now.running.added c.check_deals.new.running.added c.deref-2.result.now c.check_deals.new.running.traded.items c.note.new.self.left.items c.refresh_left.new.left.items _ c.left_at-left.result
             c.requires.known.running.split traded.split traded.totals
-            (sizes-more orders deals c.args.order c.requires.order _ _ c.arrive_order-arrival.result.size c.requires.known.sizes o.size_is (c.deref-2.ensures.value ∙ c.note.ensures.sizes))
+            (sizes-more orders deals c.args.order c.requires.order _ _ c.arrive_order-arrival.result.size c.requires.known.sizes o.size_is c.arrive_order-arrival.ensures.fits.most (c.deref-2.ensures.value ∙ c.note.ensures.sizes))
             (subst (AreLeftBefore orders deals c.args.order (place_at orders c.args.order)) (sym c.note.ensures.left) c.requires.known.left) c.refresh_left.ensures.refreshed
             (c.left_at-left.ensures ∙ (λ i. number_at ((c.deref-3.ensures.value ∙ sym c.deref-2.ensures.value) i) c.args.order - number_at (c.deref-4.ensures.value i) c.args.order))
             c.set_amount.ensures;
