@@ -1,1 +1,3 @@
 mod ShapeLemmas
+pub mod SeriesLemmas
+mod PlotLemmas

@@ -1,10 +1,6 @@
 -- Elements of four and of five attributes, and shapes one after another.
-use Rattle.std.proofs.Common.{◌≡◌, ◌<◌, ◌+◌, ℕ, suc, List, [], ◌∷◌, ◌++◌, length, sym, ap, ◌∙◌, add-one, get_or, take}
-use Rattle.std.specs.List.{flat_map}
-use Rattle.std.proofs.Math.Seq.{take-suc}
-use Rattle.std.proofs.lemmas.Grind.{flat_map-append}
+use Rattle.std.proofs.Common.{◌≡◌, ℕ, List, [], ◌∷◌, ◌++◌, sym, ap, ◌∙◌}
 use Rattle.std.proofs.lemmas.List.{append_assoc, append-nil}
-use Rattle.audit_base.proofs.OffenceLemmas.{get_or-default}
 use Rattle.page_markup.specs.declared.markup.Attribute.{Attribute}
 use Rattle.page_markup.specs.declared.words.AttributeName.{AttributeName}
 use Rattle.page_markup.specs.declared.words.Tag.{Tag}
@@ -43,17 +39,3 @@ five-said tag p q r s t k l m n o a b c d e one two three four five inner inside
     let texts = five-texts (attribute_text p) (attribute_text q) (attribute_text r) (attribute_text s) (attribute_text t) in
     (λ i. element tag (texts i) (same i))
     ∙ (λ i. element tag (said-is p k a one.name one.value i ++ said-is q l b two.name two.value i ++ said-is r m c three.name three.value i ++ said-is s n d four.name four.value i ++ said-is t o e five.name five.value i) inside)
-
--- shapes of the first members of a list, and of one more
-pub shapes-more : {A : Type 0} (f : A → List ℕ) (made : List ℕ) (xs : List A) (i : ℕ) (x : A) → i < length xs → x ≡ get_or xs i x → (old new : List ℕ) → old ≡ made ++ flat_map f (take i xs) → new ≡ old ++ f x → new ≡ made ++ flat_map f (take (i + 1) xs)
-shapes-more {A = A} f made xs i x lt is old new was now =
-    let front = flat_map f (take i xs) in
-    let one : f x ≡ flat_map f (get_or xs i x ∷ []) = sym (append-nil (f x)) ∙ ap (λ (y : A). f y ++ []) is in
-    now ∙ ap (λ (o : List ℕ). o ++ f x) was ∙ append_assoc made front (f x)
-    ∙ ap (λ (z : List ℕ). made ++ (front ++ z)) one
-    ∙ ap (λ (z : List ℕ). made ++ z) (sym (flat_map-append f (take i xs) (get_or xs i x ∷ [])))
-    ∙ ap (λ (ys : List A). made ++ flat_map f ys) (sym (take-suc xs i x lt) ∙ ap (λ (k : ℕ). take k xs) (sym (add-one i)))
-
--- the same, where the member is read by its index
-pub shapes-next : {A : Type 0} (f : A → List ℕ) (made : List ℕ) (xs : List A) (i : ℕ) (d : A) → i < length xs → (old new : List ℕ) → old ≡ made ++ flat_map f (take i xs) → new ≡ old ++ f (get_or xs i d) → new ≡ made ++ flat_map f (take (i + 1) xs)
-shapes-next {A = A} f made xs i d lt old new was now = shapes-more f made xs i (get_or xs i d) lt (get_or-default xs i d (get_or xs i d) lt) old new was now

@@ -1,5 +1,5 @@
 -- The axes of a plot of prices: a line for each marked price, a mark for each marked number.
-use Rattle.std.specs.Prelude.{ℕ, List, ◌+◌, ◌-◌, ◌++◌, codes, decimal}
+use Rattle.std.specs.Prelude.{ℕ, List, ◌+◌, ◌++◌, codes, decimal}
 use Rattle.std.specs.List.{flat_map}
 use Rattle.audit_base.specs.Numbers.{price_text}
 use Rattle.page_plots.specs.declared.axes.Axes.{Axes}

@@ -1,5 +1,4 @@
--- What a reader must believe: how shapes are written, and the axes of a picture.
+-- What a reader must believe: how shapes are written, the axes of a picture, and where numbers lie.
 pub mod Shapes
 pub mod Axes
--- What private functions pass on.
 pub mod Plots

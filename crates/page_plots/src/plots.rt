@@ -1,8 +1,11 @@
-//! Where the numbers and prices of a plot lie on its paper. No contract says where: a number beyond
-//! an axis lies at its end, and what is added up stops at the greatest number.
-ghost use Rattle.std.specs.Prelude.{◌<◌, ◌≤◌, ◌^◌};
+//! Where the numbers and prices of a plot lie on its paper: as far from its left end, or above its
+//! lower end, as they lie from the start of their axis. A number beyond an axis lies at its end.
+ghost use Rattle.std.specs.Prelude.{◌≡◌, ◌<◌, ◌≤◌, ◌-◌, ◌^◌, ◌++◌, ◌∷◌, [], IfOk, OnOk, map, nat_lt, if◌then◌else◌, Some, None};
+ghost use Rattle.std.specs.List.{flat_map};
 ghost use Rattle.page_layout.specs.Axes.{IsAxis};
-ghost use Rattle.page_plots.specs.Plots.{IsPlot};
+ghost use Rattle.page_layout.specs.Rounds.{IsLeastRound};
+ghost use Rattle.page_plots.specs.Plots as spec;
+ghost use Rattle.page_plots.specs.Plots.{AreAxesOf, AreMarks, AreNumberTicks, ArePriceTicks, IsPlot};
 
 use crate::axes::{Axes, BOTTOM, LEFT, NumberTick, PriceTick};
 use audit_base::faults::NoMemory;
@@ -26,19 +29,22 @@ pub struct Plot {
 
 /// The number, or the greatest one of an axis.
 fn capped(number: u128) -> u128
-    ensures { result ≤ 10 ^ 30 }
+    ensures same { result ≡ spec.capped number }
+    ensures bounded { result ≤ 10 ^ 30 }
 {
     if number < FARTHEST { number } else { FARTHEST }
 }
 
 /// The axis from one number to another, or to the next one where that is not greater.
-fn axis_of(first: u128, last: u128, length: u32) -> Axis
-    requires { length ≤ 10000 }
+fn axis_between(length: u32, first: u128, last: u128) -> Axis
+    requires first { first ≤ 10 ^ 30 }
+    requires last { last ≤ 10 ^ 30 }
+    requires length { length ≤ 10000 }
+    ensures same { result ≡ spec.axis_between length first last }
     ensures axis { IsAxis result }
     ensures order { result.first ≤ result.last }
+    ensures length { result.length ≡ length }
 {
-    let first = capped(first);
-    let last = capped(last);
     let last = if first < last { last } else { first + 1 };
     Axis {
         first,
@@ -47,20 +53,37 @@ fn axis_of(first: u128, last: u128, length: u32) -> Axis
     }
 }
 
-/// The step from one mark of an axis to the next, of which there are about so many.
-fn step_of(axis: Axis, marks: u128) -> u128
-    requires axis { IsAxis axis }
-    requires some { 0 < marks }
-    requires few { marks ≤ 1000 }
-    ensures some { 0 < result }
-    ensures bounded { result ≤ 10 ^ 30 }
+/// The room above and below the prices of a plot. One price alone gets room by its own size, so that
+/// the marks round it are plain prices.
+fn room_of(lowest: u64, highest: u64) -> u128
+    ensures same { result ≡ spec.room_of lowest highest }
+    ensures bounded { result ≤ 2 ^ 64 }
 {
-    let step = capped(round_step(axis.last.saturating_sub(axis.first), marks));
-    if step == 0 { 1 } else { step }
+    let span = if lowest < highest {
+        highest - lowest
+    } else {
+        highest
+    };
+    u128::from(span) / 10 + 1
+}
+
+/// The marks of an axis, of which there are about so many.
+fn marks_of(alloc: Global, axis: Axis, most: u128) -> Result<Vec<u128>, NoMemory>
+    requires axis { IsAxis axis }
+    requires order { axis.first ≤ axis.last }
+    requires some { 0 < most }
+    requires few { most ≤ 1000 }
+    ensures { IfOk result (λ marks. AreMarks axis most marks.items) }
+{
+    let step = round_step(axis.last - axis.first, most);
+    let marks = ticks_of(alloc, axis.first, axis.last, step)?;
+    Ok(marks)
 }
 
 /// The price of this many units, if there is one.
-fn price_at(number: u128) -> Option<Price> {
+fn price_at(number: u128) -> Option<Price>
+    ensures { result ≡ (if nat_lt number (10 ^ 18) then Some number else None) }
+{
     match u64::try_from(number) {
         Ok(units) => Price::of(units),
         Err(_) => None,
@@ -68,27 +91,24 @@ fn price_at(number: u128) -> Option<Price> {
 }
 
 impl Plot {
-    /// The plot from these numbers to those, with room above and below the prices.
+    /// The plot from one number to another, with room above and below the prices.
     pub fn of(first: u128, last: u128, lowest: u64, highest: u64) -> Plot
-        ensures { IsPlot result }
+        ensures same { result ≡ spec.plot_between first last lowest highest }
+        ensures plot { IsPlot result }
     {
+        let room = room_of(lowest, highest);
         let (low, high) = (u128::from(lowest), u128::from(highest));
-        // One price alone gets room by its own size, so that the marks round it are plain prices.
-        let span = if low < high {
-            high.saturating_sub(low)
-        } else {
-            high
-        };
-        let room = span / 10 + 1;
         Plot {
-            across: axis_of(first, last, 400),
-            up: axis_of(low.saturating_sub(room), high.saturating_add(room), 260),
+            across: axis_between(400, capped(first), capped(last)),
+            up: axis_between(260, low.saturating_sub(room), high + room),
         }
     }
 
     /// Where a number of the first axis lies, from the left of the paper.
     pub fn x(self, number: u128) -> u16
         requires { IsPlot self }
+        ensures place { result ≡ spec.x_of self number }
+        ensures inside { result ≤ 468 }
     {
         (LEFT + self.across.point(number)) as u16
     }
@@ -96,13 +116,16 @@ impl Plot {
     /// Where a price lies, from the top of the paper.
     pub fn y(self, price: u64) -> u16
         requires { IsPlot self }
+        ensures place { result ≡ spec.y_of self price }
+        ensures inside { (44 ≤ result) × (result ≤ 304) }
     {
-        BOTTOM.saturating_sub(self.up.point(u128::from(price))) as u16
+        (BOTTOM - self.up.point(u128::from(price))) as u16
     }
 
     /// What is marked on the axes.
     pub fn axes(self, alloc: Global) -> Result<Axes, NoMemory>
         requires { IsPlot self }
+        ensures { IfOk result (AreAxesOf self) }
     {
         Ok(Axes {
             prices: self.price_ticks(alloc)?,
@@ -110,35 +133,77 @@ impl Plot {
         })
     }
 
-    /// The round prices of the plot.
-    fn price_ticks(self, alloc: Global) -> Result<Vec<PriceTick>, NoMemory>
+    /// Adds a mark of the axis of prices, where the number is a price.
+    fn push_price(self, ticks: &mut Vec<PriceTick>, number: u128) -> Result<(), NoMemory>
         requires { IsPlot self }
+        ensures { OnOk result
+            (ticks.new.items ≡ ticks.old.items ++ spec.placed_price self number) }
     {
-        let step = step_of(self.up, 5);
+        if let Some(price) = price_at(number) {
+            ticks.push(PriceTick {
+                price,
+                y: self.y(price.units()),
+            })?;
+        }
+        Ok(())
+    }
+
+    /// These marks of the axis of prices, each at its place.
+    fn placed_prices(self, alloc: Global, marks: &[u128]) -> Result<Vec<PriceTick>, NoMemory>
+        requires { IsPlot self }
+        ensures { IfOk result
+            (λ ticks. ticks.items ≡ flat_map (spec.placed_price self) marks.now) }
+    {
         let mut ticks = Vec::new(alloc);
-        for number in ticks_of(alloc, self.up.first, self.up.last, step)? {
-            if let Some(price) = price_at(number) {
-                ticks.push(PriceTick {
-                    price,
-                    y: self.y(price.units()),
-                })?;
-            }
+        for &mark in marks {
+            self.push_price(&mut ticks, mark)?;
         }
         Ok(ticks)
     }
 
-    /// The round numbers of the plot, from the left.
+    /// The prices that are marked.
+    fn price_ticks(self, alloc: Global) -> Result<Vec<PriceTick>, NoMemory>
+        requires { IsPlot self }
+        ensures { IfOk result (λ ticks. ArePriceTicks self ticks.items) }
+    {
+        let marks = marks_of(alloc, self.up, 5)?;
+        let ticks = self.placed_prices(alloc, &marks)?;
+        Ok(ticks)
+    }
+
+    /// Adds a mark of the first axis.
+    fn push_number(self, ticks: &mut Vec<NumberTick>, number: u128) -> Result<(), NoMemory>
+        requires { IsPlot self }
+        ensures { OnOk result
+            (ticks.new.items ≡ ticks.old.items ++ spec.placed_number self number ∷ []) }
+    {
+        ticks.push(NumberTick {
+            number,
+            x: self.x(number),
+        })?;
+        Ok(())
+    }
+
+    /// These marks of the first axis, each at its place.
+    fn placed_numbers(self, alloc: Global, marks: &[u128]) -> Result<Vec<NumberTick>, NoMemory>
+        requires { IsPlot self }
+        ensures { IfOk result
+            (λ ticks. ticks.items ≡ map (spec.placed_number self) marks.now) }
+    {
+        let mut ticks = Vec::new(alloc);
+        for &mark in marks {
+            self.push_number(&mut ticks, mark)?;
+        }
+        Ok(ticks)
+    }
+
+    /// The numbers that are marked, from the left.
     fn number_ticks(self, alloc: Global) -> Result<Vec<NumberTick>, NoMemory>
         requires { IsPlot self }
+        ensures { IfOk result (λ ticks. AreNumberTicks self ticks.items) }
     {
-        let step = step_of(self.across, 4);
-        let mut ticks = Vec::new(alloc);
-        for number in ticks_of(alloc, self.across.first, self.across.last, step)? {
-            ticks.push(NumberTick {
-                number,
-                x: self.x(number),
-            })?;
-        }
+        let marks = marks_of(alloc, self.across, 4)?;
+        let ticks = self.placed_numbers(alloc, &marks)?;
         Ok(ticks)
     }
 }

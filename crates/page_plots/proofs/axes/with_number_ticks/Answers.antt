@@ -1,5 +1,5 @@
 use Rattle.page_plots.specs.Axes.{number_tick}
-use Rattle.page_plots.proofs.ShapeLemmas.{shapes-next}
+use Rattle.page_plots.proofs.SeriesLemmas.{shapes-next}
 use Rattle.page_plots.proofs.axes.with_number_ticks.Goals as goal
 
 pub loop-tick-preserved : goal.loop-tick-preserved

@@ -1,5 +1,5 @@
 use Rattle.page_plots.specs.Axes.{price_tick}
-use Rattle.page_plots.proofs.ShapeLemmas.{shapes-more}
+use Rattle.page_plots.proofs.SeriesLemmas.{shapes-more}
 use Rattle.page_plots.proofs.axes.with_price_ticks.Goals as goal
 
 pub loop-tick-preserved : goal.loop-tick-preserved

@@ -1,7 +1,7 @@
-use Rattle.std.proofs.Common.{◌≡◌, ◌++◌, ◌∙◌, ℕ, List, decimal}
+use Rattle.std.proofs.Common.{◌≡◌, ◌++◌, ◌∙◌, decimal}
 use Rattle.std.proofs.lemmas.Result.{IfOk-weaker}
 use Rattle.page_markup.specs.Escapes.{escaped}
-use Rattle.page_plots.specs.Shapes.{anchor_word, written_label}
+use Rattle.page_plots.specs.Shapes.{written_label}
 use Rattle.page_plots.proofs.shapes.with_label.Goals as goal
 
 pub returns : goal.returns
