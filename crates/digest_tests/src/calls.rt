@@ -1,0 +1,130 @@
+//! Calls of the programs over whatever opens a database, and what they say. No function here knows
+//! what a database is made of.
+use crate::logs::{shelf_of_logs, split_words};
+use audit_base::faults::NoMemory;
+use case_files::closing::{Closing, run_and_close};
+use case_keeper::casebook::Casebook;
+use case_keeper::keeper::Keeper;
+use case_run::running::run_case;
+use case_run::statuses::CaseStatus;
+use digest_files::closing::{ClosingDigests, file_and_close};
+use filing_run::opener::DigestOpener;
+use filing_run::running::{FilingEnd, run_filing};
+use log_source::memory_sink::MemorySink;
+use seeded_hash::seed::HashSeed;
+use std::alloc::Global;
+
+/// What a command says: the number of its status, and its lines.
+#[derive(Drop)]
+pub(crate) struct Said {
+    pub(crate) number: u8,
+    pub(crate) lines: Vec<u8>,
+}
+
+impl Said {
+    /// Whether it is this status with these lines.
+    pub(crate) fn is(&self, number: u8, lines: &str) -> bool {
+        self.number == number && self.lines.as_slice() == lines.as_bytes()
+    }
+}
+
+/// A sink for what a command writes.
+fn empty_sink(alloc: Global) -> Result<MemorySink, NoMemory> {
+    MemorySink::new(alloc, 4096, 4096, Vec::new(alloc))
+}
+
+/// What a command says that ended with this status.
+fn said_of(alloc: Global, status: CaseStatus, out: &MemorySink) -> Result<Said, NoMemory> {
+    Ok(Said {
+        number: status.number(),
+        lines: Vec::from_slice(alloc, out.bytes())?,
+    })
+}
+
+/// What `casebook` says to these words over a casebook.
+fn say_over_book<B: Keeper>(
+    alloc: Global,
+    line: &str,
+    book: &mut Casebook<B>,
+) -> Result<Said, NoMemory> {
+    let words = split_words(alloc, line)?;
+    let mut out = empty_sink(alloc)?;
+    let mut shelf = shelf_of_logs(alloc)?;
+    let status = run_case(alloc, &words, &mut shelf, &mut out, book);
+    said_of(alloc, status, &out)
+}
+
+/// What `casebook` says to these words over a keeper, and the keeper.
+pub(crate) fn say_over_keeper<B: Keeper>(
+    alloc: Global,
+    line: &str,
+    keeper: B,
+) -> (Result<Said, NoMemory>, B) {
+    let mut book = Casebook::new(keeper);
+    let said = say_over_book(alloc, line, &mut book);
+    (said, book.into_keeper())
+}
+
+/// What `casebook` says to these words, the first of which names the database.
+pub(crate) fn say_by_casebook<O: Closing>(
+    alloc: Global,
+    line: &str,
+    opener: &mut O,
+) -> Result<Said, NoMemory> {
+    let words = split_words(alloc, line)?;
+    let mut out = empty_sink(alloc)?;
+    let mut shelf = shelf_of_logs(alloc)?;
+    let seed = HashSeed::fixed();
+    let status = run_and_close(alloc, seed, &words, &mut shelf, &mut out, opener);
+    said_of(alloc, status, &out)
+}
+
+/// What `desk` says to these words of a filing, and then closes.
+pub(crate) fn say_by_desk<O: ClosingDigests>(
+    alloc: Global,
+    line: &str,
+    opener: &mut O,
+) -> Result<Said, NoMemory> {
+    let words = split_words(alloc, line)?;
+    let mut out = empty_sink(alloc)?;
+    let shelf = shelf_of_logs(alloc)?;
+    let ended = file_and_close(alloc, HashSeed::fixed(), &words, shelf, &mut out, opener);
+    said_of(alloc, ended.status, &out)
+}
+
+/// What `desk` says to the words of a filing, and the keeper of what is on file, if it was opened.
+#[derive(Drop)]
+pub(crate) struct Filed<B> {
+    pub(crate) said: Result<Said, NoMemory>,
+    pub(crate) book: Option<B>,
+}
+
+fn try_filing<O: DigestOpener>(
+    alloc: Global,
+    line: &str,
+    opener: &mut O,
+) -> Result<Filed<O::Book>, NoMemory> {
+    let words = split_words(alloc, line)?;
+    let mut out = empty_sink(alloc)?;
+    let shelf = shelf_of_logs(alloc)?;
+    let FilingEnd { status, book, .. } = run_filing(alloc, &words, shelf, &mut out, opener);
+    Ok(Filed {
+        said: said_of(alloc, status, &out),
+        book,
+    })
+}
+
+/// What `desk` says to these words of a filing.
+pub(crate) fn file_by_desk<O: DigestOpener>(
+    alloc: Global,
+    line: &str,
+    opener: &mut O,
+) -> Filed<O::Book> {
+    match try_filing(alloc, line, opener) {
+        Ok(filed) => filed,
+        Err(fault) => Filed {
+            said: Err(fault),
+            book: None,
+        },
+    }
+}

@@ -1,0 +1,83 @@
+//! Commands over a connection to a database, over any store.
+use crate::calls::{Filed, Said, file_by_desk, say_over_keeper};
+use crate::connection_opener::ConnectionOpener;
+use crate::keepers::say_together;
+use crate::tables::{append_rows, digest_rows};
+use audit_base::faults::NoMemory;
+use case_sqlite::sql_keeper::SqlKeeper;
+use digest_sqlite::sql_digest_keeper::SqlDigestKeeper;
+use sqlite::{Alter, Connection};
+use std::alloc::Global;
+use std::process::Abort;
+
+/// What is done with a database.
+#[derive(Clone, Copy)]
+pub(crate) enum Command {
+    /// The words of a command of `casebook`, behind the name of the database.
+    Casebook(&'static str),
+    /// The words of a filing of `desk`.
+    Desk(&'static str),
+    /// Its keeper files cases together.
+    Together,
+    /// It is listed by `casebook`, and its rows of digests are shown behind that.
+    Show,
+}
+
+/// What a command says, and the connection.
+pub(crate) type Answered<S> = (Result<Said, NoMemory>, Connection<S>);
+
+fn by_casebook<S: Alter>(alloc: Global, line: &str, connection: Connection<S>) -> Answered<S> {
+    let (said, keeper) = say_over_keeper(alloc, line, SqlKeeper::new(alloc, connection));
+    (said, keeper.into_connection())
+}
+
+fn by_desk<R: AllocGlobal + Abort, S: Alter + Drop>(
+    rt: &R,
+    line: &str,
+    connection: Connection<S>,
+) -> Answered<S> {
+    let mut opener = ConnectionOpener::of(rt.alloc(), connection);
+    let Filed { said, book } = file_by_desk(rt.alloc(), line, &mut opener);
+    (said, opener.into_connection(rt, book))
+}
+
+fn together<S: Alter>(alloc: Global, connection: Connection<S>) -> Answered<S> {
+    let mut keeper = SqlDigestKeeper::new(alloc, connection);
+    let said = say_together(alloc, &mut keeper);
+    (said, keeper.into_connection())
+}
+
+/// Appends the rows of digests to what was said, with the status of a keeper that failed where they
+/// are not shown.
+fn with_digests<S: Alter>(
+    mut said: Said,
+    connection: &mut Connection<S>,
+) -> Result<Said, NoMemory> {
+    match digest_rows(connection) {
+        Ok(rows) => append_rows(&rows, &mut said.lines)?,
+        Err(_) => said.number = 8,
+    }
+    Ok(said)
+}
+
+fn show<S: Alter>(alloc: Global, connection: Connection<S>) -> Answered<S> {
+    let (said, mut connection) = by_casebook(alloc, "list", connection);
+    match said {
+        Ok(said) => (with_digests(said, &mut connection), connection),
+        Err(fault) => (Err(fault), connection),
+    }
+}
+
+/// Does a command.
+pub(crate) fn answer<R: AllocGlobal + Abort, S: Alter + Drop>(
+    rt: &R,
+    command: Command,
+    connection: Connection<S>,
+) -> Answered<S> {
+    match command {
+        Command::Casebook(line) => by_casebook(rt.alloc(), line, connection),
+        Command::Desk(line) => by_desk(rt, line, connection),
+        Command::Together => together(rt.alloc(), connection),
+        Command::Show => show(rt.alloc(), connection),
+    }
+}

@@ -1,0 +1,24 @@
+//! Tests of cases with digests, as texts: what `desk` and `casebook` say over one database, and
+//! the rows that are in it. The database is on a disk in memory whose files may stop, or in a file.
+#![tactic(auto)]
+
+#[cfg(test)]
+mod calls;
+#[cfg(test)]
+mod commands;
+#[cfg(test)]
+mod connection_opener;
+#[cfg(test)]
+mod disk_rows;
+#[cfg(test)]
+mod disks;
+#[cfg(test)]
+mod file_rows;
+#[cfg(test)]
+mod keepers;
+#[cfg(test)]
+mod logs;
+#[cfg(test)]
+mod stopped_rows;
+#[cfg(test)]
+mod tables;
