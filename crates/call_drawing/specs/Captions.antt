@@ -1,0 +1,49 @@
+-- What stands below the picture of a call: what its colours and marks are, and what is not drawn.
+use Rattle.std.specs.Prelude.{ℕ, Bool, true, false, ◌||◌, nat_lt, List, [], ◌++◌, codes, decimal, if◌then◌else◌}
+use Rattle.call_picture.specs.declared.pictures.CallPicture.{CallPicture}
+use Rattle.call_picture.specs.declared.pictures.SidePicture.{SidePicture}
+use Rattle.call_picture.specs.declared.windows.Drawn.{Drawn}
+use Rattle.page_markup.specs.declared.words.Tag.TheVariants as tag
+use Rattle.page_plots.specs.declared.shapes.Anchor.TheVariants.{Start}
+use Rattle.page_parts.specs.Elements.{text_element}
+use Rattle.page_plots.specs.Shapes.{label, rectangle}
+
+-- what the two colours are
+abbrev pub legend : List ℕ
+legend =
+    rectangle (codes "bidtraded") (record { x = 68; y = 332 }) 16 9
+    ++ label (codes "bids") (record { x = 89; y = 340 }) Start (codes "bids")
+    ++ rectangle (codes "asktraded") (record { x = 124; y = 332 }) 16 9
+    ++ label (codes "asks") (record { x = 145; y = 340 }) Start (codes "asks")
+
+-- what a bar of a side is
+unfoldable pub bar_words : Bool → List ℕ
+bar_words false = codes " Each bar is an order."
+bar_words true = codes " Each bar is all orders of one limit."
+
+-- steps of a side are left out
+abbrev pub leaves_out : Drawn → Bool
+leaves_out drawn = nat_lt 0 drawn.better || nat_lt 0 drawn.worse
+
+-- how many limits of a side are not drawn, where some are not
+abbrev pub left_out_words : Drawn → List ℕ
+left_out_words drawn = if leaves_out drawn
+    then codes " Not drawn: " ++ decimal drawn.better ++ codes " better limits, "
+    ++ decimal drawn.worse ++ codes " worse limits."
+    else []
+
+-- what is said of a side
+abbrev pub side_words : List ℕ → SidePicture → List ℕ
+side_words name picture =
+    name ++ bar_words picture.by_limit ++ left_out_words picture.drawn
+
+-- what every picture of a call shows
+unfoldable pub picture_words : List ℕ
+picture_words = codes "A bar is as wide as its quantity, and filled as far as it traded. Bids lie above their limit, asks below, the best ones at the left. The marks 1 and 2 are those of the table."
+
+-- the caption, with a paragraph for each side
+abbrev pub caption : CallPicture → List ℕ
+caption picture =
+    text_element tag.Paragraph picture_words
+    ++ text_element tag.Paragraph (side_words (codes "Bids:") picture.bids)
+    ++ text_element tag.Paragraph (side_words (codes "Asks:") picture.asks)

@@ -1,0 +1,90 @@
+-- The section of a page that has the picture of a call.
+use Rattle.std.specs.Prelude.{◌≡◌, ℕ, List, [], ◌++◌, Option, None, Some, codes}
+use Rattle.audit_base.specs.declared.findings.Finding.{Finding}
+use Rattle.audit_base.specs.declared.findings.Short.{Short}
+use Rattle.audit_base.specs.declared.orders.Deal.{Deal}
+use Rattle.audit_base.specs.declared.orders.Order.{Order}
+use Rattle.audit_base.specs.declared.terms.Side.TheVariants.{Buy, Sell}
+use Rattle.call_picture.specs.declared.pictures.CallPicture.{CallPicture}
+use Rattle.call_picture.specs.Pictures.{IsCallPicture}
+use Rattle.page_markup.specs.declared.words.Tag.TheVariants as tag
+use Rattle.page_plots.specs.Axes.{axes_shapes}
+use Rattle.page_parts.specs.Elements.{element, section}
+use Rattle.page_plots.specs.Shapes.{svg}
+use Rattle.call_drawing.specs.declared.layouts.CallLayout.{CallLayout}
+use Rattle.call_drawing.specs.declared.sections.Marked.{Marked}
+use Rattle.call_drawing.specs.Captions.{caption, legend}
+use Rattle.call_drawing.specs.Lines.{greatest_shapes, price_shapes, volume_shapes}
+use Rattle.call_drawing.specs.Marks.{shown_mark_if_there}
+use Rattle.call_drawing.specs.Extents.{plot_of}
+use Rattle.call_drawing.specs.Placed.{IsLayoutOf}
+use Rattle.call_drawing.specs.Steps.{side_shapes}
+
+-- what is marked in the picture: of an accepted log the price, of a finding also its orders and the
+-- greatest volume that it tells
+abbrev pub marked_by : Option Finding → Option ℕ → Marked
+marked_by None price = record { first = None; second = None; short = None; price = price }
+marked_by (Some finding) price = record {
+  first = finding.first;
+  second = finding.second;
+  short = finding.short;
+  price = price;
+}
+
+-- the steps of both sides
+abbrev pub both_sides : List Order → CallLayout → List ℕ
+both_sides orders layout =
+    side_shapes orders Buy layout.bids ++ side_shapes orders Sell layout.asks
+
+-- the lines
+abbrev pub call_lines : CallPicture → Marked → CallLayout → List ℕ
+call_lines numbers marked layout =
+    price_shapes layout.price_y marked.price ++ volume_shapes layout.volume numbers.volume
+    ++ greatest_shapes layout.greatest marked.short
+
+-- the marks of the orders of the evidence
+abbrev pub call_marks : List Order → Marked → CallLayout → List ℕ
+call_marks orders marked layout =
+    shown_mark_if_there orders layout (codes "1") marked.first
+    ++ shown_mark_if_there orders layout (codes "2") marked.second
+
+-- the shapes of the picture
+abbrev pub call_shapes : List Order → CallPicture → Marked → CallLayout → List ℕ
+call_shapes orders numbers marked layout =
+    axes_shapes layout.axes (codes "quantity, best orders first") ++ both_sides orders layout
+    ++ call_lines numbers marked layout ++ call_marks orders marked layout ++ legend
+
+-- the caption, as an element of the figure
+abbrev pub figure_caption : CallPicture → List ℕ
+figure_caption numbers = element tag.FigureCaption [] (caption numbers)
+
+-- the figure, with this in it
+abbrev pub figure : List ℕ → List ℕ
+figure inner = element tag.Figure [] inner
+
+-- the section: the picture, and its caption
+abbrev pub call_section : List Order → CallPicture → Marked → CallLayout → List ℕ
+call_section orders numbers marked layout = section (codes "The orders of the call") (figure
+    (svg (codes "0 0 480 346") (codes "Bids and asks by price and quantity")
+    (call_shapes orders numbers marked layout) ++ figure_caption numbers))
+
+-- the greatest volume, where the finding tells it
+abbrev pub greatest_of : Option Short → ℕ
+greatest_of None = 0
+greatest_of (Some short) = short.greatest
+
+-- the section of a page that has the picture of a call with these numbers: its parts lie where their
+-- numbers lie in the plot
+pub record IsDrawnSection (orders : List Order) (numbers : CallPicture) (marked : Marked)
+    (text : List ℕ) : Type 0 where
+  pub layout : CallLayout
+  pub laid_out : IsLayoutOf (plot_of numbers (greatest_of marked.short)) numbers
+      (greatest_of marked.short) marked.price layout
+  pub written : text ≡ call_section orders numbers marked layout
+
+-- the section that has the picture of these orders and deals
+pub record IsCallSection (orders : List Order) (deals : List Deal) (marked : Marked)
+    (text : List ℕ) : Type 0 where
+  pub numbers : CallPicture
+  pub numbers_are : IsCallPicture orders deals numbers
+  pub drawn : IsDrawnSection orders numbers marked text

@@ -1,0 +1,89 @@
+//! What stands below the picture of a call.
+ghost use Rattle.std.specs.Prelude.{◌≡◌, ◌++◌, IfOk, OnOk};
+ghost use Rattle.call_drawing.specs.Captions as spec;
+
+use audit_base::faults::NoMemory;
+use audit_base::texts::write_number;
+use call_picture::pictures::{CallPicture, SidePicture};
+use call_picture::windows::Drawn;
+use page_markup::markup::Markup;
+use page_markup::words::Tag;
+use page_parts::elements::with_text_element;
+use page_plots::shapes::{Anchor, Point, with_label, with_rectangle};
+use std::alloc::Global;
+
+/// With what the two colours are behind it, below the plot.
+pub fn with_legend(alloc: Global, made: Markup) -> Result<Markup, NoMemory>
+    ensures { IfOk result (λ more. more ≡ made ++ spec.legend) }
+{
+    let made = with_rectangle(alloc, made, b"bidtraded", Point { x: 68, y: 332 }, 16, 9)?;
+    let at = Point { x: 89, y: 340 };
+    let made = with_label(alloc, made, b"bids", at, Anchor::Start, b"bids")?;
+    let made = with_rectangle(alloc, made, b"asktraded", Point { x: 124, y: 332 }, 16, 9)?;
+    let at = Point { x: 145, y: 340 };
+    with_label(alloc, made, b"asks", at, Anchor::Start, b"asks")
+}
+
+/// What a bar of a side is.
+#[tactic(auto, unfolding(crate::specs::Captions::bar_words))]
+fn bar_words(by_limit: bool) -> &'static [u8]
+    ensures { result.now ≡ spec.bar_words by_limit }
+{
+    if by_limit {
+        b" Each bar is all orders of one limit."
+    } else {
+        b" Each bar is an order."
+    }
+}
+
+/// Whether steps of a side are left out.
+fn leaves_out(drawn: &Drawn) -> bool
+    ensures { result ≡ spec.leaves_out drawn.now }
+{
+    0 < drawn.better || 0 < drawn.worse
+}
+
+/// Appends how many limits of a side are not drawn, where some are not.
+fn append_left_out(alloc: Global, drawn: &Drawn, out: &mut Vec<u8>) -> Result<(), NoMemory>
+    ensures { OnOk result (out.new.items ≡ out.old.items ++ spec.left_out_words drawn.now) }
+{
+    if leaves_out(drawn) {
+        out.extend_from_slice(b" Not drawn: ")?;
+        write_number(alloc, drawn.better as u128, out)?;
+        out.extend_from_slice(b" better limits, ")?;
+        write_number(alloc, drawn.worse as u128, out)?;
+        out.extend_from_slice(b" worse limits.")?;
+    }
+    Ok(())
+}
+
+/// What is said of a side.
+fn side_words(alloc: Global, name: &[u8], side: &SidePicture) -> Result<Vec<u8>, NoMemory>
+    ensures { IfOk result (λ text. text.items ≡ spec.side_words name.now side.now) }
+{
+    let mut text = Vec::from_slice(alloc, name)?;
+    text.extend_from_slice(bar_words(side.by_limit))?;
+    append_left_out(alloc, &side.drawn, &mut text)?;
+    Ok(text)
+}
+
+/// What every picture of a call shows.
+#[tactic(auto, unfolding(crate::specs::Captions::picture_words))]
+fn picture_words() -> &'static [u8]
+    ensures { result.now ≡ spec.picture_words }
+{
+    b"A bar is as wide as its quantity, and filled as far as it traded. \
+      Bids lie above their limit, asks below, the best ones at the left. \
+      The marks 1 and 2 are those of the table."
+}
+
+/// The caption of the picture.
+pub fn caption_of(alloc: Global, picture: &CallPicture) -> Result<Markup, NoMemory>
+    ensures { IfOk result (λ made. made ≡ spec.caption picture.now) }
+{
+    let bids = side_words(alloc, b"Bids:", &picture.bids)?;
+    let asks = side_words(alloc, b"Asks:", &picture.asks)?;
+    let made = with_text_element(alloc, Markup::new(alloc), Tag::Paragraph, picture_words())?;
+    let made = with_text_element(alloc, made, Tag::Paragraph, &bids)?;
+    with_text_element(alloc, made, Tag::Paragraph, &asks)
+}

@@ -1,0 +1,167 @@
+//! The marks of the orders of the evidence.
+ghost use Rattle.std.specs.Prelude.{◌≡◌, ◌++◌, IfOk, slice_get};
+ghost use Rattle.std.specs.List.{flat_map};
+ghost use Rattle.call_drawing.specs.Marks as spec;
+
+use crate::bars::{Bar, PlacedSide, PlacedStep};
+use crate::layouts::CallLayout;
+use crate::steps::with_bar;
+use audit_base::faults::NoMemory;
+use audit_base::findings::{OrderLine, Shown};
+use audit_base::terms::Side;
+use call_picture::steps::Step;
+use order_list::lists::OrderList;
+use page_markup::markup::Markup;
+use page_plots::shapes::{Anchor, Point, with_circle, with_label};
+use std::alloc::Global;
+
+/// Whether there is an order at this index, whose record has this place.
+fn has_place(orders: &OrderList<'_>, index: usize, place: u32) -> bool
+    ensures { result ≡ spec.has_place (slice_get orders.now index) place }
+{
+    match orders.get(index) {
+        Some(order) => order.place() == place,
+        None => false,
+    }
+}
+
+/// Whether a step is that of this order, or of its limit.
+fn is_step_of(orders: &OrderList<'_>, by_limit: bool, step: &Step, line: &OrderLine) -> bool
+    ensures { result ≡ spec.is_step_of orders.now by_limit step.now line.now }
+{
+    if by_limit {
+        step.limit == line.limit
+    } else {
+        has_place(orders, step.best, line.place)
+    }
+}
+
+/// With a mark round a bar behind it.
+fn with_mark(alloc: Global, made: Markup, number: &[u8], bar: Bar) -> Result<Markup, NoMemory>
+    ensures { IfOk result (λ more. more ≡ made ++ spec.mark_shapes number.now bar) }
+{
+    let (x, y) = (u32::from(bar.mark_x), u32::from(bar.mark_y));
+    let made = with_bar(alloc, made, b"mark", bar, bar.right)?;
+    let made = with_circle(alloc, made, b"badge", Point { x, y }, 8)?;
+    let at = Point { x, y: y + 4 };
+    with_label(alloc, made, b"badgetext", at, Anchor::Middle, number)
+}
+
+/// With the mark of an order behind it, where this step is that of the order.
+fn with_mark_at_step(
+    alloc: Global,
+    made: Markup,
+    orders: &OrderList<'_>,
+    by_limit: bool,
+    number: &[u8],
+    line: &OrderLine,
+    placed: &PlacedStep,
+) -> Result<Markup, NoMemory>
+    ensures { IfOk result (λ more. more
+        ≡ made ++ spec.mark_at_step orders.now by_limit number.now line.now placed.now) }
+{
+    if is_step_of(orders, by_limit, &placed.step, line) {
+        with_mark(alloc, made, number, placed.bar)
+    } else {
+        Ok(made)
+    }
+}
+
+/// With the mark of an order behind it at each of these steps that is that of the order.
+fn with_mark_at_steps(
+    alloc: Global,
+    made: Markup,
+    orders: &OrderList<'_>,
+    by_limit: bool,
+    number: &[u8],
+    line: &OrderLine,
+    steps: &[PlacedStep],
+) -> Result<Markup, NoMemory>
+    ensures { IfOk result (λ more. more ≡ made
+        ++ flat_map (spec.mark_at_step orders.now by_limit number.now line.now) steps.now) }
+{
+    let mut made = made;
+    for placed in steps {
+        made = with_mark_at_step(alloc, made, orders, by_limit, number, line, placed)?;
+    }
+    Ok(made)
+}
+
+/// With the mark of an order of this side behind it, where its step is drawn.
+fn with_mark_on_side(
+    alloc: Global,
+    made: Markup,
+    orders: &OrderList<'_>,
+    number: &[u8],
+    line: &OrderLine,
+    side: &PlacedSide,
+) -> Result<Markup, NoMemory>
+    ensures { IfOk result
+        (λ more. more ≡ made ++ spec.mark_on_side orders.now number.now line.now side.now) }
+{
+    with_mark_at_steps(
+        alloc,
+        made,
+        orders,
+        side.by_limit,
+        number,
+        line,
+        &side.steps,
+    )
+}
+
+/// With the mark of an order behind it.
+fn with_order_mark(
+    alloc: Global,
+    made: Markup,
+    orders: &OrderList<'_>,
+    layout: &CallLayout,
+    number: &[u8],
+    line: &OrderLine,
+) -> Result<Markup, NoMemory>
+    ensures { IfOk result
+        (λ more. more ≡ made ++ spec.order_mark orders.now layout.now number.now line.now) }
+{
+    match line.side {
+        Side::Buy => with_mark_on_side(alloc, made, orders, number, line, &layout.bids),
+        Side::Sell => with_mark_on_side(alloc, made, orders, number, line, &layout.asks),
+    }
+}
+
+/// With the mark of what is shown behind it, where it is an order.
+fn with_shown_mark(
+    alloc: Global,
+    made: Markup,
+    orders: &OrderList<'_>,
+    layout: &CallLayout,
+    number: &[u8],
+    shown: &Shown,
+) -> Result<Markup, NoMemory>
+    ensures { IfOk result
+        (λ more. more ≡ made ++ spec.shown_mark orders.now layout.now number.now shown.now) }
+{
+    match shown {
+        Shown::Place { .. } => Ok(made),
+        Shown::Unknown { .. } => Ok(made),
+        Shown::Order(line) => with_order_mark(alloc, made, orders, layout, number, line),
+        Shown::Due(line, _) => with_order_mark(alloc, made, orders, layout, number, line),
+    }
+}
+
+/// With the mark of what is shown behind it, where something is.
+pub fn with_mark_if_shown(
+    alloc: Global,
+    made: Markup,
+    orders: &OrderList<'_>,
+    layout: &CallLayout,
+    number: &[u8],
+    shown: &Option<Shown>,
+) -> Result<Markup, NoMemory>
+    ensures { IfOk result (λ more. more
+        ≡ made ++ spec.shown_mark_if_there orders.now layout.now number.now shown.now) }
+{
+    match shown {
+        Some(shown) => with_shown_mark(alloc, made, orders, layout, number, shown),
+        None => Ok(made),
+    }
+}

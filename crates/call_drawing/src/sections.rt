@@ -1,0 +1,203 @@
+//! The section of a page that has the picture of a call.
+ghost use Rattle.std.specs.Prelude.{◌≡◌, ◌++◌, IfOk};
+ghost use Rattle.audit_base.specs.Deals.{IsDealList};
+ghost use Rattle.audit_base.specs.Orders.{IsOrderList};
+ghost use Rattle.call_drawing.specs.Sections as spec;
+ghost use Rattle.call_picture.specs.Pictures.{IsPictureInRange};
+
+use crate::captions::{caption_of, with_legend};
+use crate::layouts::{CallLayout, layout_of};
+use crate::lines::{with_greatest, with_price, with_volume};
+use crate::marks::with_mark_if_shown;
+use crate::steps::with_side;
+use audit_base::faults::NoMemory;
+use audit_base::findings::{Finding, Short, Shown};
+use audit_base::numbers::Price;
+use audit_base::orders::Deal;
+use audit_base::terms::Side;
+use call_picture::pictures::{CallPicture, call_picture};
+use order_list::lists::OrderList;
+use page_markup::markup::Markup;
+use page_markup::words::Tag;
+use page_parts::elements::with_section;
+use page_plots::axes::with_axes;
+use page_plots::shapes::with_picture;
+use std::alloc::Global;
+
+/// What is marked in the picture of a call.
+#[derive(Clone, Copy, Debug)]
+pub struct Marked {
+    /// What the finding shows first and second: where it is an order, its step is marked.
+    pub first: Option<Shown>,
+    pub second: Option<Shown>,
+    /// The greatest volume, where the finding tells it.
+    pub short: Option<Short>,
+    /// The one price of the trades, where the rule asks for one and there are trades.
+    pub price: Option<Price>,
+}
+
+impl Marked {
+    /// What a finding marks, and the price.
+    pub fn by(finding: &Option<Finding>, price: Option<Price>) -> Marked
+        ensures { result ≡ spec.marked_by finding.now price }
+    {
+        match finding {
+            Some(finding) => Marked {
+                first: finding.first,
+                second: finding.second,
+                short: finding.short,
+                price,
+            },
+            None => Marked {
+                first: None,
+                second: None,
+                short: None,
+                price,
+            },
+        }
+    }
+}
+
+/// The greatest volume, where it is told.
+fn greatest_of(short: Option<Short>) -> u128
+    ensures { result ≡ spec.greatest_of short }
+{
+    match short {
+        Some(short) => short.greatest,
+        None => 0,
+    }
+}
+
+/// With the steps of both sides behind it.
+fn with_both_sides(
+    alloc: Global,
+    made: Markup,
+    orders: &OrderList<'_>,
+    layout: &CallLayout,
+) -> Result<Markup, NoMemory>
+    ensures { IfOk result (λ more. more ≡ made ++ spec.both_sides orders.now layout.now) }
+{
+    let made = with_side(alloc, made, orders, Side::Buy, &layout.bids)?;
+    with_side(alloc, made, orders, Side::Sell, &layout.asks)
+}
+
+/// With the lines behind it.
+fn with_lines(
+    alloc: Global,
+    made: Markup,
+    numbers: &CallPicture,
+    marked: &Marked,
+    layout: &CallLayout,
+) -> Result<Markup, NoMemory>
+    ensures { IfOk result
+        (λ more. more ≡ made ++ spec.call_lines numbers.now marked.now layout.now) }
+{
+    let made = with_price(alloc, made, layout.price_y, marked.price)?;
+    let made = with_volume(alloc, made, layout.volume, numbers.volume)?;
+    with_greatest(alloc, made, layout.greatest, marked.short)
+}
+
+/// With the marks of the orders of the evidence behind it.
+fn with_marks(
+    alloc: Global,
+    made: Markup,
+    orders: &OrderList<'_>,
+    marked: &Marked,
+    layout: &CallLayout,
+) -> Result<Markup, NoMemory>
+    ensures { IfOk result
+        (λ more. more ≡ made ++ spec.call_marks orders.now marked.now layout.now) }
+{
+    let made = with_mark_if_shown(alloc, made, orders, layout, b"1", &marked.first)?;
+    with_mark_if_shown(alloc, made, orders, layout, b"2", &marked.second)
+}
+
+/// The shapes of the picture.
+fn call_shapes(
+    alloc: Global,
+    orders: &OrderList<'_>,
+    numbers: &CallPicture,
+    marked: &Marked,
+    layout: &CallLayout,
+) -> Result<Markup, NoMemory>
+    ensures { IfOk result
+        (λ made. made ≡ spec.call_shapes orders.now numbers.now marked.now layout.now) }
+{
+    let made = Markup::new(alloc);
+    let made = with_axes(alloc, made, &layout.axes, b"quantity, best orders first")?;
+    let made = with_both_sides(alloc, made, orders, layout)?;
+    let made = with_lines(alloc, made, numbers, marked, layout)?;
+    let made = with_marks(alloc, made, orders, marked, layout)?;
+    with_legend(alloc, made)
+}
+
+/// With the caption of the picture behind it.
+fn with_caption(alloc: Global, made: Markup, numbers: &CallPicture) -> Result<Markup, NoMemory>
+    ensures { IfOk result (λ more. more ≡ made ++ spec.figure_caption numbers.now) }
+{
+    let caption = caption_of(alloc, numbers)?;
+    made.with_element(Tag::FigureCaption, &[], &caption)
+}
+
+/// The figure with the picture and its caption in it.
+fn figure_of(alloc: Global, inner: &Markup) -> Result<Markup, NoMemory>
+    ensures { IfOk result (λ made. made ≡ spec.figure inner.now) }
+{
+    Markup::new(alloc).with_element(Tag::Figure, &[], inner)
+}
+
+/// The section of the picture that is laid out so.
+fn section_of(
+    alloc: Global,
+    orders: &OrderList<'_>,
+    numbers: &CallPicture,
+    marked: &Marked,
+    layout: &CallLayout,
+) -> Result<Markup, NoMemory>
+    ensures { IfOk result
+        (λ made. made ≡ spec.call_section orders.now numbers.now marked.now layout.now) }
+{
+    let shapes = call_shapes(alloc, orders, numbers, marked, layout)?;
+    let title = b"Bids and asks by price and quantity";
+    let inner = with_picture(alloc, Markup::new(alloc), b"0 0 480 346", title, &shapes)?;
+    let inner = with_caption(alloc, inner, numbers)?;
+    let figure = figure_of(alloc, &inner)?;
+    with_section(
+        alloc,
+        Markup::new(alloc),
+        b"The orders of the call",
+        &figure,
+    )
+}
+
+/// The section of the picture of a call with these numbers.
+fn drawn_section(
+    alloc: Global,
+    orders: &OrderList<'_>,
+    numbers: &CallPicture,
+    marked: &Marked,
+) -> Result<Markup, NoMemory>
+    requires { IsPictureInRange numbers.now }
+    ensures { IfOk result (spec.IsDrawnSection orders.now numbers.now marked.now) }
+{
+    let layout = layout_of(alloc, numbers, greatest_of(marked.short), marked.price)?;
+    let made = section_of(alloc, orders, numbers, marked, &layout)?;
+    Ok(made)
+}
+
+/// The section of a page that has the picture of a call, with what a finding marks in it. Err only
+/// out of memory.
+pub fn call_section(
+    alloc: Global,
+    orders: &OrderList<'_>,
+    deals: &[Deal],
+    marked: &Marked,
+) -> Result<Markup, NoMemory>
+    requires order_list { IsOrderList orders.now }
+    requires deal_list { IsDealList orders.now deals.now }
+    ensures { IfOk result (spec.IsCallSection orders.now deals.now marked.now) }
+{
+    let numbers = call_picture(alloc, orders, deals)?;
+    let made = drawn_section(alloc, orders, &numbers, marked)?;
+    Ok(made)
+}

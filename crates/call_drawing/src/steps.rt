@@ -1,0 +1,263 @@
+//! The steps of a side, drawn.
+ghost use Rattle.std.specs.Prelude.{◌≡◌, ◌++◌, IfOk, OnOk, codes, slice_get};
+ghost use Rattle.std.specs.List.{flat_map};
+ghost use Rattle.call_drawing.specs.Steps as spec;
+
+use crate::bars::{Bar, PlacedSide, PlacedStep};
+use audit_base::faults::NoMemory;
+use audit_base::findings::OrderLine;
+use audit_base::terms::Side;
+use audit_base::texts::write_number;
+use audit_report::line_parts::{Part, append_joined};
+use audit_report::words::side_word;
+use call_picture::steps::Step;
+use order_list::lists::OrderList;
+use page_markup::markup::Markup;
+use page_plots::shapes::{Point, append_point, with_group, with_path, with_rectangle};
+use std::alloc::Global;
+
+/// How high a bar is.
+pub const BAR_HEIGHT: u32 = 9;
+
+/// The title of an order.
+fn line_title(alloc: Global, line: &OrderLine) -> Result<Vec<u8>, NoMemory>
+    ensures { IfOk result (λ text. text.items ≡ spec.line_title line.now) }
+{
+    let mut place = Vec::new(alloc);
+    write_number(alloc, u128::from(line.place), &mut place)?;
+    let parts = [
+        Part::Word(side_word(line.side)),
+        Part::Word(line.key.firm.bytes()),
+        Part::Word(line.key.id.bytes()),
+        Part::Number(u128::from(line.quantity.value())),
+        Part::Price(line.limit),
+        Part::Number(line.traded),
+    ];
+    let mut text = Vec::new(alloc);
+    append_joined(alloc, &place, &parts, &mut text)?;
+    Ok(text)
+}
+
+/// The title of the order at an index of the list, with what it traded.
+fn order_title(
+    alloc: Global,
+    orders: &OrderList<'_>,
+    index: usize,
+    traded: u128,
+) -> Result<Vec<u8>, NoMemory>
+    ensures { IfOk result
+        (λ text. text.items ≡ spec.order_title (slice_get orders.now index) traded) }
+{
+    match orders.get(index) {
+        Some(order) => line_title(alloc, &order.line(traded)),
+        None => Ok(Vec::new(alloc)),
+    }
+}
+
+/// The title of the orders of one limit.
+fn limit_title(alloc: Global, side: Side, step: &Step) -> Result<Vec<u8>, NoMemory>
+    ensures { IfOk result (λ text. text.items ≡ spec.limit_title side step.now) }
+{
+    let mut count = Vec::new(alloc);
+    write_number(alloc, step.orders as u128, &mut count)?;
+    let parts = [
+        Part::Word(side_word(side)),
+        Part::Number(step.quantity),
+        Part::Price(step.limit),
+        Part::Number(step.traded),
+    ];
+    let mut text = Vec::new(alloc);
+    append_joined(alloc, &count, &parts, &mut text)?;
+    Ok(text)
+}
+
+/// The title of a step.
+fn step_title(
+    alloc: Global,
+    orders: &OrderList<'_>,
+    side: Side,
+    by_limit: bool,
+    step: &Step,
+) -> Result<Vec<u8>, NoMemory>
+    ensures { IfOk result
+        (λ text. text.items ≡ spec.step_title orders.now side by_limit step.now) }
+{
+    if by_limit {
+        limit_title(alloc, side, step)
+    } else {
+        order_title(alloc, orders, step.best, step.traded)
+    }
+}
+
+/// The class of a bar of a side.
+fn bar_class(side: Side) -> &'static [u8]
+    ensures { result.now ≡ spec.bar_class side }
+{
+    match side {
+        Side::Buy => b"bid",
+        Side::Sell => b"ask",
+    }
+}
+
+/// The class of the traded part of a bar.
+fn traded_class(side: Side) -> &'static [u8]
+    ensures { result.now ≡ spec.traded_class side }
+{
+    match side {
+        Side::Buy => b"bidtraded",
+        Side::Sell => b"asktraded",
+    }
+}
+
+/// The class of the line that joins the bars of a side.
+fn line_class(side: Side) -> &'static [u8]
+    ensures { result.now ≡ spec.line_class side }
+{
+    match side {
+        Side::Buy => b"bidline",
+        Side::Sell => b"askline",
+    }
+}
+
+/// With a bar of this class behind it, from its left to here.
+pub fn with_bar(
+    alloc: Global,
+    made: Markup,
+    class: &[u8],
+    bar: Bar,
+    right: u16,
+) -> Result<Markup, NoMemory>
+    ensures { IfOk result (λ more. more ≡ made ++ spec.bar_to class.now bar right) }
+{
+    let corner = Point {
+        x: u32::from(bar.left),
+        y: u32::from(bar.top),
+    };
+    let width = u32::from(right).saturating_sub(u32::from(bar.left));
+    with_rectangle(alloc, made, class, corner, width, BAR_HEIGHT)
+}
+
+/// With the traded part of a bar behind it, where the step traded.
+fn with_traded(
+    alloc: Global,
+    made: Markup,
+    side: Side,
+    placed: &PlacedStep,
+) -> Result<Markup, NoMemory>
+    ensures { IfOk result (λ more. more ≡ made ++ spec.traded_bar side placed.now) }
+{
+    if 0 < placed.step.traded {
+        with_bar(
+            alloc,
+            made,
+            traded_class(side),
+            placed.bar,
+            placed.bar.filled,
+        )
+    } else {
+        Ok(made)
+    }
+}
+
+/// With a step behind it.
+fn with_step(
+    alloc: Global,
+    made: Markup,
+    orders: &OrderList<'_>,
+    side: Side,
+    by_limit: bool,
+    placed: &PlacedStep,
+) -> Result<Markup, NoMemory>
+    ensures { IfOk result
+        (λ more. more ≡ made ++ spec.step_shapes orders.now side by_limit placed.now) }
+{
+    let title = step_title(alloc, orders, side, by_limit, &placed.step)?;
+    let bar = placed.bar;
+    let shapes = with_bar(alloc, Markup::new(alloc), bar_class(side), bar, bar.right)?;
+    let shapes = with_traded(alloc, shapes, side, placed)?;
+    with_group(alloc, made, &title, &shapes)
+}
+
+/// With these steps behind it.
+fn with_steps(
+    alloc: Global,
+    made: Markup,
+    orders: &OrderList<'_>,
+    side: Side,
+    by_limit: bool,
+    steps: &[PlacedStep],
+) -> Result<Markup, NoMemory>
+    ensures { IfOk result
+        (λ more. more ≡ made ++ flat_map (spec.step_shapes orders.now side by_limit) steps.now) }
+{
+    let mut made = made;
+    for placed in steps {
+        made = with_step(alloc, made, orders, side, by_limit, placed)?;
+    }
+    Ok(made)
+}
+
+/// Appends the two ends of a bar to the words of a path.
+fn append_ends(path: &mut Vec<u8>, placed: &PlacedStep) -> Result<(), NoMemory>
+    ensures { OnOk result (path.new.items ≡ path.old.items ++ spec.ends_of_bar placed.now) }
+{
+    let y = u32::from(placed.bar.level);
+    append_point(
+        path,
+        Point {
+            x: u32::from(placed.bar.left),
+            y,
+        },
+    )?;
+    append_point(
+        path,
+        Point {
+            x: u32::from(placed.bar.right),
+            y,
+        },
+    )
+}
+
+/// The words of the path through the ends of these bars.
+fn ends_of_bars(alloc: Global, steps: &[PlacedStep]) -> Result<Vec<u8>, NoMemory>
+    ensures { IfOk result
+        (λ path. path.items ≡ codes "M" ++ flat_map spec.ends_of_bar steps.now) }
+{
+    let mut path = Vec::from_slice(alloc, b"M")?;
+    for placed in steps {
+        append_ends(&mut path, placed)?;
+    }
+    Ok(path)
+}
+
+/// With the line behind it that joins the bars of a side, where there are some.
+fn with_side_line(
+    alloc: Global,
+    made: Markup,
+    side: Side,
+    steps: &[PlacedStep],
+) -> Result<Markup, NoMemory>
+    ensures { IfOk result (λ more. more ≡ made ++ spec.side_line side steps.now) }
+{
+    if 0 < steps.len() {
+        let ends = ends_of_bars(alloc, steps)?;
+        with_path(alloc, made, line_class(side), &ends)
+    } else {
+        Ok(made)
+    }
+}
+
+/// With the steps of a side behind it, best first, and the line that joins them.
+pub fn with_side(
+    alloc: Global,
+    made: Markup,
+    orders: &OrderList<'_>,
+    side: Side,
+    placed: &PlacedSide,
+) -> Result<Markup, NoMemory>
+    ensures { IfOk result
+        (λ more. more ≡ made ++ spec.side_shapes orders.now side placed.now) }
+{
+    let made = with_steps(alloc, made, orders, side, placed.by_limit, &placed.steps)?;
+    with_side_line(alloc, made, side, &placed.steps)
+}
