@@ -61,8 +61,8 @@ fn mark_centre(side: Side, level: u16) -> u16
     }
 }
 
-/// The bar of a step that begins at this quantity. An order that traded more than its quantity has a
-/// bar that is filled whole.
+/// The bar of a step that begins at this quantity. An order that traded more than its quantity has
+/// a bar that is filled whole.
 fn bar_of(plot: Plot, side: Side, start: u128, step: &Step) -> Bar
     requires plot { IsPlot plot }
     requires fits { start + step.now.quantity < 2 ^ 128 }

@@ -96,8 +96,8 @@ fn laid_out(
     })
 }
 
-/// Where the parts of the picture of a call lie, with the greatest volume and the price, where there
-/// are.
+/// Where the parts of the picture of a call lie, with the greatest volume and the price, where
+/// there are.
 pub fn layout_of(
     alloc: Global,
     picture: &CallPicture,

@@ -35,9 +35,9 @@ fn asks_one_price(rule: CallRule) -> bool
     }
 }
 
-/// Every offence of the deals under a rule of a call, where `first` is the finding of their verdict:
-/// with one of 7 to 11 the first of these of each deal, with 12 or 13 the first of these two, else
-/// it alone. Err only out of memory.
+/// Every offence of the deals under a rule of a call, where `first` is the finding of their
+/// verdict: with one of 7 to 11 the first of these of each deal, with 12 or 13 the first of these
+/// two, else it alone. Err only out of memory.
 pub fn call_offences(
     alloc: Global,
     rule: CallRule,

@@ -17,8 +17,8 @@ use std::alloc::Global;
 
 /// Of each deal, in order, the first of the findings 7 to 11 that it has: an order that a record
 /// cancels; a price outside a limit; under `uniform` a price that is not that of the first deal; a
-/// bid, or an ask, that trades more than its quantity. A deal that offends counts in what its orders
-/// trade up to later ones. One pass over the deals. Err only out of memory.
+/// bid, or an ask, that trades more than its quantity. A deal that offends counts in what its
+/// orders trade up to later ones. One pass over the deals. Err only out of memory.
 pub fn matching_offences(
     alloc: Global,
     orders: &OrderList<'_>,

@@ -81,8 +81,9 @@ fn read_fix<F: Shelf, R: FixRecord + TimedRecord>(
     }
 }
 
-/// What is told of an order log of at most `source.limit` bytes, or why it was not read. `Bad` comes
-/// exactly where the log is not in its grammar, with the first bad place, which is that of an audit.
+/// What is told of an order log of at most `source.limit` bytes, or why it was not read. `Bad`
+/// comes exactly where the log is not in its grammar, with the first bad place, which is that of an
+/// audit.
 pub fn summary_of_orders<F: Shelf>(
     alloc: Global,
     shelf: &mut F,

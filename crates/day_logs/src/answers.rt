@@ -94,10 +94,10 @@ fn answer_to<F: Shelf>(
     }
 }
 
-/// The verdicts on the symbols of a share of two logs, or why there are none. The order log is
-/// read first, piece by piece, and the trade log only where that is in its grammar; each is read
-/// once. What is kept is what a single audit keeps, of each symbol of the share, and of the others
-/// the name alone; the memory of a symbol is freed before the next is judged. A symbol that the rule
+/// The verdicts on the symbols of a share of two logs, or why there are none. The order log is read
+/// first, piece by piece, and the trade log only where that is in its grammar; each is read once.
+/// What is kept is what a single audit keeps, of each symbol of the share, and of the others the
+/// name alone; the memory of a symbol is freed before the next is judged. A symbol that the rule
 /// accepts is rejected by the first finding of the checks that are asked for.
 ///
 /// Both logs have one limit, the greatest number of bytes that each may have. Where that is

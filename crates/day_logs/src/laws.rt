@@ -13,8 +13,8 @@ pub fn shares_have_the_verdicts()
     record_verdict_is_one();
 }
 
-/// Two answers to a question about two logs, by a rule, have one text and one status, whatever forms
-/// the logs are in.
+/// Two answers to a question about two logs, by a rule, have one text and one status, whatever
+/// forms the logs are in.
 pub fn one_day_answer()
     ensures { OneDayAnswer }
 {

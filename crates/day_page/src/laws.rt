@@ -7,7 +7,8 @@ pub fn pages_have_own_names()
     ensures { PagesHaveOwnNames }
 {}
 
-/// A link leads to the page: the escapes of its address, undone once, give the name of the page's file.
+/// A link leads to the page: the escapes of its address, undone once, give the name of the page's
+/// file.
 pub fn links_lead_to_pages()
     ensures { LinksLeadToPages }
 {}

@@ -73,8 +73,8 @@ fn sessions_of_logs<F: Shelf>(
 }
 
 /// The sessions of the symbols of a share of two logs, or why there are none, as `verdicts_on`
-/// answers for a rule, and behind them the checks that are asked for. The reading admits every order: whether a call admits its own orders is for
-/// the day to say.
+/// answers for a rule, and behind them the checks that are asked for. The reading admits every
+/// order: whether a call admits its own orders is for the day to say.
 pub fn sessions_on<F: Shelf>(
     alloc: Global,
     shelf: &mut F,

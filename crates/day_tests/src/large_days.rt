@@ -204,7 +204,8 @@ const BESIDE: [Beside; 5] = [
     },
 ];
 
-/// Fails where the day of Z and of what there is beside it, or a share of the day, has another text.
+/// Fails where the day of Z and of what there is beside it, or a share of the day, has another
+/// text.
 fn check_beside(alloc: Global, row: &Beside) -> Result<(), Fail> {
     let orders = orders_of_one(alloc, row.orders)?;
     let trades = trades_of_one(alloc, row.trades_before, row.trades_after)?;

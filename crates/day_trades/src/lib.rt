@@ -1,5 +1,5 @@
-//! The trade log of a day: the records of each symbol of a share, in one pass over the trades of all
-//! symbols.
+//! The trade log of a day: the records of each symbol of a share, in one pass over the trades of
+//! all symbols.
 //!
 //! It begins with what the order log gave. A trade is kept with the records of its symbol, which is
 //! found by one look-up of its hash; the symbols of trades that no order record has come after the

@@ -1,5 +1,5 @@
-//! What is told of one symbol: by its rule, and where that accepts it by the further checks that are
-//! asked for.
+//! What is told of one symbol: by its rule, and where that accepts it by the further checks that
+//! are asked for.
 ghost use Rattle.std.specs.Prelude.{◌≡◌, true, length, slice_get, IfOk};
 ghost use Rattle.audit_base.specs.Deals.{IsDealList};
 ghost use Rattle.further_checks.specs.FurtherRules.{asks_further, further_findings};

@@ -23,9 +23,9 @@ times,orders,20240102-09:00:00,20240102-09:00:00
 times,trades,20240102-09:00:01,20240102-09:00:01
 ";
 
-/// A day of a rule, one of phases, and one whose order log is out of its grammar, so that the
-/// trade log is not started; the offences of a symbol; digests, for which both logs are started; and
-/// what is in two logs.
+/// A day of a rule, one of phases, and one whose order log is out of its grammar, so that the trade
+/// log is not started; the offences of a symbol; digests, for which both logs are started; and what
+/// is in two logs.
 const SHELF_ROWS: [ShelfRow; 6] = [
     ShelfRow {
         row: Row {

@@ -1,6 +1,6 @@
-//! The commands `file`, `file-all` and `check` of the program `desk`: verdicts on two logs are filed
-//! in a database, with the digests of the bytes that they are on, and logs are compared with a
-//! case that was filed.
+//! The commands `file`, `file-all` and `check` of the program `desk`: verdicts on two logs are
+//! filed in a database, with the digests of the bytes that they are on, and logs are compared with
+//! a case that was filed.
 //!
 //! `running::run_filing` is the top call. It reads the words (`words`) into a request (`requests`),
 //! judges the two logs while a shelf takes their digests (`judging`), then opens the database

@@ -13,8 +13,8 @@ use order_list::lists::OrderList;
 use std::alloc::Global;
 
 /// The finding at the least deal that fails one of the checks that are asked for, and at it 17
-/// before 18; None exactly where none fails. `traded` is what each order trades in all deals, by its
-/// index, and `times` the time of each deal's trade. One pass over the deals. Takes no memory.
+/// before 18; None exactly where none fails. `traded` is what each order trades in all deals, by
+/// its index, and `times` the time of each deal's trade. One pass over the deals. Takes no memory.
 pub fn first_further_finding(
     checks: FurtherChecks,
     orders: &OrderList<'_>,

@@ -100,8 +100,8 @@ impl History {
         OrderList::of(&self.orders, &self.keys)
     }
 
-    /// The order list alone, once no order is asked for by its key any more. Never fails: what finds
-    /// many keys is given back where there is memory for a copy of them.
+    /// The order list alone, once no order is asked for by its key any more. Never fails: what
+    /// finds many keys is given back where there is memory for a copy of them.
     pub fn into_orders(self) -> HistoryOrders
         ensures { result ≡ self }
     {

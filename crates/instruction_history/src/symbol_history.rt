@@ -1,7 +1,8 @@
 //! What is known of the history of one symbol after some records of an order log.
 //!
-//! It knows neither its symbol nor how many records there were, so that whoever audits many symbols at once
-//! can hold one of each: it is handed the records of the symbol alone, each with its place in the whole log.
+//! It knows neither its symbol nor how many records there were, so that whoever audits many symbols
+//! at once can hold one of each: it is handed the records of the symbol alone, each with its place
+//! in the whole log.
 ghost use Rattle.std.specs.Prelude.{◌≡◌, [], ℕ, List, IfOk, IfErr, OnOk, Some};
 ghost use Rattle.audit_base.specs.Histories.{history_finding, order_list, WellFormed};
 ghost use Rattle.instruction_history.specs.MarketPrices.{AreRecordsMarketPriced, AreMarketPriced};
@@ -16,7 +17,8 @@ use audit_base::records::OrderRecord;
 use seeded_hash::seed::HashSeed;
 use std::alloc::Global;
 
-/// What is known of the history of a symbol after some records: its orders so far, or its first flaw.
+/// What is known of the history of a symbol after some records: its orders so far, or its first
+/// flaw.
 #[derive(Drop)]
 pub struct SymbolHistory {
     /// What is known where there is no flaw.

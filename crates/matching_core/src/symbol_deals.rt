@@ -1,8 +1,8 @@
 //! What is known of the trades of one symbol after some records of a trade log.
 //!
-//! It knows neither its symbol nor the orders that its trades name, nor how many records there were, so that
-//! whoever audits many symbols at once can hold one of each: it is handed the trades of the symbol alone, each
-//! with its place in the whole log and with the history of the symbol.
+//! It knows neither its symbol nor the orders that its trades name, nor how many records there
+//! were, so that whoever audits many symbols at once can hold one of each: it is handed the trades
+//! of the symbol alone, each with its place in the whole log and with the history of the symbol.
 ghost use Rattle.std.specs.Prelude.{◌≡◌, [], ℕ, List, None, OnOk};
 ghost use Rattle.audit_base.specs.Deals.{DealsInRange, IsDealList};
 ghost use Rattle.audit_base.specs.Trades.{deals_of_symbol, trades_finding};
@@ -40,8 +40,8 @@ fn finding_of(flaw: Option<Flaw>) -> Option<Finding>
 }
 
 impl SymbolDeals {
-    /// No records, of whatever symbol and between whatever orders. Ids are found by hashes of this seed. Takes
-    /// no memory.
+    /// No records, of whatever symbol and between whatever orders. Ids are found by hashes of this
+    /// seed. Takes no memory.
     pub fn new(alloc: Global, seed: HashSeed) -> SymbolDeals
         ensures { (orders : List Order) (symbol : List ℕ) → IsSymbolDeals orders symbol result [] }
     {

@@ -10,8 +10,8 @@ pub fn offences_begin_with_the_verdict()
     ensures accepted { NoOffenceWhereAccepted }
 {}
 
-/// In continuous trading each offence is at the place of an order at which the rule fails, and it is
-/// what First offence (continuous) tells where the rule holds at all places before.
+/// In continuous trading each offence is at the place of an order at which the rule fails, and it
+/// is what First offence (continuous) tells where the rule holds at all places before.
 pub fn offences_are_failures()
     ensures orders { OffencesAreAtOrders }
     ensures fails { OffencesAreFailures }

@@ -93,8 +93,8 @@ fn compare<R: AllocGlobal + Abort>(rt: &R, history: &History, deals: &[Deal], co
     assert_eq!(rt; listed, found.len());
 }
 
-/// No row of the desk has such books: logs with replacements, cancels and deals of any kind, half of
-/// them with deals within the limits, so that each property is told many times.
+/// No row of the desk has such books: logs with replacements, cancels and deals of any kind, half
+/// of them with deals within the limits, so that each property is told many times.
 #[test]
 fn each_offence_is_that_of_the_definition(rt: HostRuntime) {
     let mut numbers = Numbers::new();

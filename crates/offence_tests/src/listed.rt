@@ -46,8 +46,8 @@ fn text_of<R: AllocGlobal + Abort>(
 }
 
 /// Rows `offences-all-deals` and `offences-priority`: deals 2 and 4 of five off their limits, then
-/// a better bid that does not trade, and three deals that pass over it. Under `matching` nobody asks
-/// for it.
+/// a better bid that does not trade, and three deals that pass over it. Under `matching` nobody
+/// asks for it.
 #[test]
 fn each_deal_that_offends_is_told_once(rt: HostRuntime) {
     let trades = [
@@ -69,9 +69,9 @@ fn each_deal_that_offends_is_told_once(rt: HostRuntime) {
     assert_eq!(rt; text.as_slice(), wanted);
 }
 
-/// Under `uniform` a deal has another price than the first, and one is above its limit too, which is
-/// told in its place; the quantity of an ask is used up by deals that offend, and the volume alone
-/// has no list.
+/// Under `uniform` a deal has another price than the first, and one is above its limit too, which
+/// is told in its place; the quantity of an ask is used up by deals that offend, and the volume
+/// alone has no list.
 #[test]
 fn a_deal_with_two_properties_has_one_line(rt: HostRuntime) {
     let uniform = CallRule::Greatest(VolumeRule::Uniform);

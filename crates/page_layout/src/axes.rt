@@ -29,8 +29,8 @@ fn share_of(part: u128, whole: u128, length: u32) -> u32
 }
 
 impl Axis {
-    /// How far from the start of the axis a number lies on the paper: rounded down, at the start where
-    /// it is below the first number, and at the end where it is above the last.
+    /// How far from the start of the axis a number lies on the paper: rounded down, at the start
+    /// where it is below the first number, and at the end where it is above the last.
     pub fn point(self, number: u128) -> u32
         requires axis { IsAxis self }
         ensures point { result ≡ point_of self number }

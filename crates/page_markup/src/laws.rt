@@ -1,5 +1,5 @@
-//! Laws of markup, apart from the code. Nothing is computed here: a law is a function's contract, so
-//! that the check proves it.
+//! Laws of markup, apart from the code. Nothing is computed here: a law is a function's contract,
+//! so that the check proves it.
 ghost use Rattle.page_markup.specs.Laws.{NoTextIsMarkup, TextIsReadBack};
 
 /// No text, whoever chose it, begins or ends an element or a value: what is written for it has none

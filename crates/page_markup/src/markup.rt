@@ -17,8 +17,8 @@ pub struct Attribute<'a> {
     pub value: &'a [u8],
 }
 
-/// Texts and elements, one after another, each element with what is in it and its end. Contracts see
-/// how it is written.
+/// Texts and elements, one after another, each element with what is in it and its end. Contracts
+/// see how it is written.
 #[derive(Drop)]
 pub struct Markup {
     text: Vec<u8>,

@@ -1,9 +1,10 @@
 //! How pages look: one typeface of the system, two colours with a tint of each, and ink for the
-//! offence. The two differ in lightness as well as in hue, so that they are told apart without colour
-//! sight and in print.
+//! offence. The two differ in lightness as well as in hue, so that they are told apart without
+//! colour sight and in print.
 
-/// The style of a page. It holds none of the bytes that are written as entities, since a browser reads
-/// no entity in a style. A row of a table may end before its last column, so rows have the lines.
+/// The style of a page. It holds none of the bytes that are written as entities, since a browser
+/// reads no entity in a style. A row of a table may end before its last column, so rows have the
+/// lines.
 pub fn style_text() -> &'static [u8] {
     b":root{--ink:#1c2128;--soft:#57606a;--rule:#d0d7de;\
 --bid:#1f4e8c;--bidtint:#c3d5ec;--ask:#c26a12;--asktint:#f9e6cf}\

@@ -53,8 +53,8 @@ fn axis_between(length: u32, first: u128, last: u128) -> Axis
     }
 }
 
-/// The room above and below the prices of a plot. One price alone gets room by its own size, so that
-/// the marks round it are plain prices.
+/// The room above and below the prices of a plot. One price alone gets room by its own size, so
+/// that the marks round it are plain prices.
 fn room_of(lowest: u64, highest: u64) -> u128
     ensures same { result ≡ spec.room_of lowest highest }
     ensures bounded { result ≤ 2 ^ 64 }

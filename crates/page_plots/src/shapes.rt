@@ -247,7 +247,8 @@ pub fn with_picture(
     made.with_element(Tag::Svg, &attributes, &inner)
 }
 
-/// With shapes behind it that belong together, and the title that a pointer or a reader finds there.
+/// With shapes behind it that belong together, and the title that a pointer or a reader finds
+/// there.
 pub fn with_group(
     alloc: Global,
     made: Markup,

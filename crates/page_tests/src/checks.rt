@@ -1,4 +1,5 @@
-//! What the pages of these tests are compared with: all but the style, which is between the two texts.
+//! What the pages of these tests are compared with: all but the style, which is between the two
+//! texts.
 use audit_base::names::{Name, read_name};
 use std::process::Abort;
 

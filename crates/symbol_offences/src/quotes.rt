@@ -136,8 +136,8 @@ pub(crate) fn ending_place(orders: &OrderList<'_>, finding: &Finding) -> Option<
     ending_at(orders, shown_order_place(&finding.first)?)
 }
 
-/// The records that are quoted behind a finding: the offending one, the order records that it shows,
-/// first before second, and the one at the place `ending`, which ended an order.
+/// The records that are quoted behind a finding: the offending one, the order records that it
+/// shows, first before second, and the one at the place `ending`, which ended an order.
 pub(crate) fn append_quotes(
     alloc: Global,
     quoted: &QuotedRecords,

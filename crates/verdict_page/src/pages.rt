@@ -72,8 +72,8 @@ fn verdict_part(
     with_section(alloc, made, b"How to see it again", &repeat)
 }
 
-/// The text of the page of a verdict. `picture` is the section that has the picture of the rule, and
-/// no markup where there is none. Err only out of memory.
+/// The text of the page of a verdict. `picture` is the section that has the picture of the rule,
+/// and no markup where there is none. Err only out of memory.
 pub fn verdict_page(
     alloc: Global,
     said: &VerdictInWords,

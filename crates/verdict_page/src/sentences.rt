@@ -1,4 +1,5 @@
-//! The answer in words: the heading of the page, what was broken and by which record, and the totals.
+//! The answer in words: the heading of the page, what was broken and by which record, and the
+//! totals.
 ghost use Rattle.std.specs.Prelude.{◌≡◌, ◌++◌, IfOk, OnOk, decimal};
 ghost use Rattle.verdict_page.specs.Sentences as spec;
 
