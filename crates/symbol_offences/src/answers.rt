@@ -33,8 +33,9 @@ use record_verdict::before_rule::BeforeRule;
 use record_verdict::verdicts::verdict_after;
 use std::alloc::Global;
 
-/// The answer about a symbol that no record has.
-fn absent_answer(alloc: Global, symbol: &Name) -> Result<Answer, NoMemory>
+/// The answer about a symbol that no record of two good logs has, whose reports pair: one line that
+/// it is absent, with status `Rejected`. Err only out of memory.
+pub fn absent_answer(alloc: Global, symbol: &Name) -> Result<Answer, NoMemory>
     ensures { IfOk result
         (IsAnswerOfKind (IsAnswerWith status.Rejected (absent_line symbol.now))) }
 {
