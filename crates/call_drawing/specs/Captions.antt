@@ -1,5 +1,8 @@
 -- What stands below the picture of a call: what its colours and marks are, and what is not drawn.
-use Rattle.std.specs.Prelude.{ℕ, Bool, true, false, ◌||◌, nat_lt, List, [], ◌++◌, codes, decimal, if◌then◌else◌}
+use Rattle.std.specs.Prelude.{ℕ, Bool, true, false, not, ◌||◌, ◌&&◌, nat_lt, Option, None, Some, List, [], ◌++◌, codes, decimal, if◌then◌else◌}
+use Rattle.audit_base.specs.declared.findings.Shown.{Shown}
+use Rattle.audit_base.specs.declared.findings.Shown.TheVariants as shown
+use Rattle.call_drawing.specs.declared.sections.Marked.{Marked}
 use Rattle.call_picture.specs.declared.pictures.CallPicture.{CallPicture}
 use Rattle.call_picture.specs.declared.pictures.SidePicture.{SidePicture}
 use Rattle.call_picture.specs.declared.windows.Drawn.{Drawn}
@@ -39,11 +42,39 @@ side_words name picture =
 
 -- what every picture of a call shows
 unfoldable pub picture_words : List ℕ
-picture_words = codes "A bar is as wide as its quantity, and filled as far as it traded. Bids lie above their limit, asks below, the best ones at the left. The marks 1 and 2 are those of the table."
+picture_words = codes "A bar is as wide as its quantity, and filled as far as it traded. Bids lie above their limit, asks below, the best ones at the left."
 
--- the caption, with a paragraph for each side
-abbrev pub caption : CallPicture → List ℕ
-caption picture =
-    text_element tag.Paragraph picture_words
-    ++ text_element tag.Paragraph (side_words (codes "Bids:") picture.bids)
+-- what is shown is an order, whose step is marked
+abbrev pub is_order : Option Shown → Bool
+is_order None = false
+is_order (Some (shown.Place log place)) = false
+is_order (Some (shown.Unknown side key)) = false
+is_order (Some (shown.Order line)) = true
+is_order (Some (shown.Due line due)) = true
+
+-- what the marks are, where an order is marked
+abbrev pub marks_words : Marked → List ℕ
+marks_words marked = if is_order marked.first || is_order marked.second
+    then codes " The marks are those of the table." else []
+
+-- what the picture shows, and what its marks are
+abbrev pub whole_words : Marked → List ℕ
+whole_words marked = picture_words ++ marks_words marked
+
+-- each step of the side is an order's, and none is left out
+abbrev pub is_plain : SidePicture → Bool
+is_plain picture = not (picture.by_limit || leaves_out picture.drawn)
+
+-- what the bars of each side are, in a paragraph for each
+abbrev pub each_side : CallPicture → List ℕ
+each_side picture = text_element tag.Paragraph (side_words (codes "Bids:") picture.bids)
     ++ text_element tag.Paragraph (side_words (codes "Asks:") picture.asks)
+
+-- what the bars are: said once, where each is an order of either side
+abbrev pub bars : CallPicture → List ℕ
+bars picture = if is_plain picture.bids && is_plain picture.asks
+    then text_element tag.Paragraph (codes "Each bar is an order.") else each_side picture
+
+-- the caption, with what is marked in the picture
+abbrev pub caption : CallPicture → Marked → List ℕ
+caption picture marked = text_element tag.Paragraph (whole_words marked) ++ bars picture

@@ -55,8 +55,8 @@ call_shapes orders numbers marked layout =
     ++ call_lines numbers marked layout ++ call_marks orders marked layout ++ legend
 
 -- the caption, as an element of the figure
-abbrev pub figure_caption : CallPicture → List ℕ
-figure_caption numbers = element tag.FigureCaption [] (caption numbers)
+abbrev pub figure_caption : CallPicture → Marked → List ℕ
+figure_caption numbers marked = element tag.FigureCaption [] (caption numbers marked)
 
 -- the figure, with this in it
 abbrev pub figure : List ℕ → List ℕ
@@ -66,7 +66,7 @@ figure inner = element tag.Figure [] inner
 abbrev pub call_section : List Order → CallPicture → Marked → CallLayout → List ℕ
 call_section orders numbers marked layout = section (codes "The orders of the call") (figure
     (svg (codes "0 0 480 346") (codes "Bids and asks by price and quantity")
-    (call_shapes orders numbers marked layout) ++ figure_caption numbers))
+    (call_shapes orders numbers marked layout) ++ figure_caption numbers marked))
 
 -- the greatest volume, where the finding tells it
 abbrev pub greatest_of : Option Short → ℕ

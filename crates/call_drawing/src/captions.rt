@@ -2,7 +2,9 @@
 ghost use Rattle.std.specs.Prelude.{◌≡◌, ◌++◌, IfOk, OnOk};
 ghost use Rattle.call_drawing.specs.Captions as spec;
 
+use crate::sections::Marked;
 use audit_base::faults::NoMemory;
+use audit_base::findings::Shown;
 use audit_base::texts::write_number;
 use call_picture::pictures::{CallPicture, SidePicture};
 use call_picture::windows::Drawn;
@@ -73,17 +75,84 @@ fn picture_words() -> &'static [u8]
     ensures { result.now ≡ spec.picture_words }
 {
     b"A bar is as wide as its quantity, and filled as far as it traded. \
-      Bids lie above their limit, asks below, the best ones at the left. \
-      The marks 1 and 2 are those of the table."
+      Bids lie above their limit, asks below, the best ones at the left."
 }
 
-/// The caption of the picture.
-pub fn caption_of(alloc: Global, picture: &CallPicture) -> Result<Markup, NoMemory>
-    ensures { IfOk result (λ made. made ≡ spec.caption picture.now) }
+/// Whether what is shown is an order, whose step is marked.
+fn is_order(shown: &Option<Shown>) -> bool
+    ensures { result ≡ spec.is_order shown.now }
+{
+    match shown {
+        Some(shown) => match shown {
+            Shown::Place { .. } => false,
+            Shown::Unknown { .. } => false,
+            Shown::Order(_) => true,
+            Shown::Due(_, _) => true,
+        },
+        None => false,
+    }
+}
+
+/// What the marks are, where an order is marked.
+fn marks_words(marked: &Marked) -> &'static [u8]
+    ensures { result.now ≡ spec.marks_words marked.now }
+{
+    if is_order(&marked.first) || is_order(&marked.second) {
+        b" The marks are those of the table."
+    } else {
+        b""
+    }
+}
+
+/// What the picture shows, and what its marks are.
+fn whole_words(alloc: Global, marked: &Marked) -> Result<Vec<u8>, NoMemory>
+    ensures { IfOk result (λ text. text.items ≡ spec.whole_words marked.now) }
+{
+    let mut text = Vec::from_slice(alloc, picture_words())?;
+    text.extend_from_slice(marks_words(marked))?;
+    Ok(text)
+}
+
+/// Whether each step of a side is an order's, and none is left out.
+fn is_plain(side: &SidePicture) -> bool
+    ensures { result ≡ spec.is_plain side.now }
+{
+    !(side.by_limit || leaves_out(&side.drawn))
+}
+
+/// With what the bars of each side are behind it.
+fn with_each_side(
+    alloc: Global,
+    made: Markup,
+    picture: &CallPicture,
+) -> Result<Markup, NoMemory>
+    ensures { IfOk result (λ more. more ≡ made ++ spec.each_side picture.now) }
 {
     let bids = side_words(alloc, b"Bids:", &picture.bids)?;
     let asks = side_words(alloc, b"Asks:", &picture.asks)?;
-    let made = with_text_element(alloc, Markup::new(alloc), Tag::Paragraph, picture_words())?;
     let made = with_text_element(alloc, made, Tag::Paragraph, &bids)?;
     with_text_element(alloc, made, Tag::Paragraph, &asks)
+}
+
+/// With what the bars are behind it: said once, where it is the same of both sides.
+fn with_bars(alloc: Global, made: Markup, picture: &CallPicture) -> Result<Markup, NoMemory>
+    ensures { IfOk result (λ more. more ≡ made ++ spec.bars picture.now) }
+{
+    if is_plain(&picture.bids) && is_plain(&picture.asks) {
+        return with_text_element(alloc, made, Tag::Paragraph, b"Each bar is an order.");
+    }
+    with_each_side(alloc, made, picture)
+}
+
+/// The caption of the picture, with what is marked in it.
+pub fn caption_of(
+    alloc: Global,
+    picture: &CallPicture,
+    marked: &Marked,
+) -> Result<Markup, NoMemory>
+    ensures { IfOk result (λ made. made ≡ spec.caption picture.now marked.now) }
+{
+    let words = whole_words(alloc, marked)?;
+    let made = with_text_element(alloc, Markup::new(alloc), Tag::Paragraph, &words)?;
+    with_bars(alloc, made, picture)
 }

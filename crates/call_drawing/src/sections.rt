@@ -132,10 +132,15 @@ fn call_shapes(
 }
 
 /// With the caption of the picture behind it.
-fn with_caption(alloc: Global, made: Markup, numbers: &CallPicture) -> Result<Markup, NoMemory>
-    ensures { IfOk result (λ more. more ≡ made ++ spec.figure_caption numbers.now) }
+fn with_caption(
+    alloc: Global,
+    made: Markup,
+    numbers: &CallPicture,
+    marked: &Marked,
+) -> Result<Markup, NoMemory>
+    ensures { IfOk result (λ more. more ≡ made ++ spec.figure_caption numbers.now marked.now) }
 {
-    let caption = caption_of(alloc, numbers)?;
+    let caption = caption_of(alloc, numbers, marked)?;
     made.with_element(Tag::FigureCaption, &[], &caption)
 }
 
@@ -160,7 +165,7 @@ fn section_of(
     let shapes = call_shapes(alloc, orders, numbers, marked, layout)?;
     let title = b"Bids and asks by price and quantity";
     let inner = with_picture(alloc, Markup::new(alloc), b"0 0 480 346", title, &shapes)?;
-    let inner = with_caption(alloc, inner, numbers)?;
+    let inner = with_caption(alloc, inner, numbers, marked)?;
     let figure = figure_of(alloc, &inner)?;
     with_section(
         alloc,

@@ -9,20 +9,20 @@ use Rattle.audit_base.specs.declared.names.Key.{Key}
 use Rattle.audit_base.specs.declared.terms.Side.{Side}
 use Rattle.audit_base.specs.declared.terms.Which.{Which}
 use Rattle.audit_base.specs.declared.terms.Which.TheVariants as which
-use Rattle.audit_report.specs.Lines.{side_word}
+use Rattle.audit_report.specs.Lines.{log_word, side_word}
 use Rattle.page_markup.specs.declared.words.Tag.TheVariants as tag
 use Rattle.page_table.specs.declared.cells.Column.{Column}
 use Rattle.page_table.specs.declared.cells.Column.TheVariants.{Role, Mark, Log, Record, Side as SideColumn, Firm, Id, Quantity, Limit, Traded, Due}
 use Rattle.page_parts.specs.Elements.{element}
 use Rattle.page_table.specs.Elements.{gaps, head_of_table, name_cell, number_cell, price_cell, row_heading, table_element, words_cell}
-use Rattle.page_table.specs.Wording.{log_words, role_words}
+use Rattle.page_table.specs.Wording.{role_words}
 
 -- A row ends with its last cell that says something.
 
 -- a record of a log, of which no more is said
 abbrev pub place_row : List ℕ → Which → ℕ → List ℕ
 place_row role log place =
-    row_heading role ++ words_cell [] ++ words_cell (log_words log) ++ number_cell place
+    row_heading role ++ words_cell [] ++ words_cell (log_word log) ++ number_cell place
 
 -- a key that names no order
 abbrev pub unknown_row : Side → Key → List ℕ
@@ -46,7 +46,7 @@ order_numbers line due = number_cell line.quantity ++ price_cell line.limit
 -- an order, with its mark in the picture
 abbrev pub order_line_row : List ℕ → List ℕ → OrderLine → Option ℕ → List ℕ
 order_line_row role mark line due =
-    row_heading role ++ words_cell mark ++ words_cell (log_words which.Orders)
+    row_heading role ++ words_cell mark ++ words_cell (log_word which.Orders)
     ++ order_names line ++ order_numbers line due
 
 -- the mark of what is shown first or second

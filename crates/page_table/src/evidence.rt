@@ -6,12 +6,12 @@ use crate::cells::{
     Column, head_of, table_of, with_gaps, with_name, with_number, with_price, with_row_heading,
     with_words,
 };
-use crate::wording::{log_words, role_words};
+use crate::wording::role_words;
 use audit_base::faults::NoMemory;
 use audit_base::findings::{Finding, OrderLine, Property, Shown};
 use audit_base::names::Key;
 use audit_base::terms::{Side, Which};
-use audit_report::words::side_word;
+use audit_report::words::{log_word, side_word};
 use page_markup::markup::Markup;
 use page_markup::words::Tag;
 use std::alloc::Global;
@@ -50,7 +50,7 @@ fn place_row(alloc: Global, role: &[u8], log: Which, place: u32) -> Result<Marku
 {
     let row = with_row_heading(alloc, Markup::new(alloc), role)?;
     let row = with_words(alloc, row, b"")?;
-    let row = with_words(alloc, row, log_words(log))?;
+    let row = with_words(alloc, row, log_word(log))?;
     with_number(alloc, row, u128::from(place))
 }
 
@@ -117,7 +117,7 @@ fn order_line_row(
     let numbers = order_numbers(alloc, line, due)?;
     let row = with_row_heading(alloc, Markup::new(alloc), role)?;
     let row = with_words(alloc, row, mark)?;
-    let row = with_words(alloc, row, log_words(Which::Orders))?;
+    let row = with_words(alloc, row, log_word(Which::Orders))?;
     row.with_markup(&names)?.with_markup(&numbers)
 }
 

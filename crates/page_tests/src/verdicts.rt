@@ -70,13 +70,13 @@ const HOSTILE_BODY: &str = "</style></head><body><main>\
 <th scope=\"col\" class=\"text\">Id</th><th scope=\"col\" class=\"number\">Quantity</th>\
 <th scope=\"col\" class=\"number\">Limit</th><th scope=\"col\" class=\"number\">Traded</th>\
 </tr></thead><tbody>\
-<tr><th scope=\"row\">the offending record</th><td></td><td>trade log</td>\
+<tr><th scope=\"row\">the offending record</th><td></td><td>trades</td>\
 <td class=\"number\">1</td></tr>\
-<tr><th scope=\"row\">the better order that is not fully traded</th><td>1</td><td>order log</td>\
+<tr><th scope=\"row\">the better order that is not fully traded</th><td>1</td><td>orders</td>\
 <td class=\"number\">1</td><td>buy</td>\
 <td class=\"name\">&lt;script&gt;alert(1)&lt;/script&gt;</td><td class=\"name\">a&amp;b</td>\
 <td class=\"number\">5</td><td class=\"number\">10.5</td><td class=\"number\">0</td></tr>\
-<tr><th scope=\"row\">its bid</th><td>2</td><td>order log</td>\
+<tr><th scope=\"row\">its bid</th><td>2</td><td>orders</td>\
 <td class=\"number\">2</td><td>buy</td>\
 <td class=\"name\">&lt;/style&gt;</td><td class=\"name\"> ]]&gt;&amp;amp;&#39; </td>\
 <td class=\"number\">5</td><td class=\"number\">10</td><td class=\"number\">5</td></tr>\
