@@ -1,0 +1,45 @@
+-- Whether an order is active, by its Size and what it has traded.
+use Rattle.std.specs.Prelude.{◌<◌, ◌^◌, ℕ, suc, Bool, ◌==◌, ◌&&◌, ◌||◌, List}
+use Rattle.audit_base.specs.declared.orders.Deal.{Deal}
+use Rattle.audit_base.specs.declared.orders.Order.{Order}
+use Rattle.audit_base.specs.Continuous.{size_of_order, traded_before}
+use Rattle.audit_base.specs.Orders.{may_rest, order_at}
+use Rattle.continuous_audit.specs.Records.{AreTradedBefore}
+use Rattle.continuous_picture.specs.Sizes.{AreSizesOf}
+use Rattle.order_arrivals.specs.Markets.{IsMarket}
+use Rattle.order_arrivals.specs.Resting.{stands_with}
+use Rattle.order_book.specs.declared.books.Resting.{Resting}
+use Rattle.continuous_picture.specs.declared.active.Known.{Known}
+
+-- an order may rest, or it is the order of the record at a place
+abbrev pub may_be_active : Order → ℕ → Bool
+may_be_active order place = may_rest order.life || (order.place == place)
+
+-- an order of a record up to a place is active after the record there
+abbrev pub active_with : Order → ℕ → ℕ → ℕ → Bool
+active_with order place size traded =
+    may_be_active order place && stands_with order (suc place) size traded
+
+-- the orders and the deals
+abbrev pub orders_of : Known → List Order
+orders_of k = k.market.now.orders.now
+
+abbrev pub deals_of : Known → List Deal
+deals_of k = k.market.now.deals.now
+
+-- what each order has traded up to a place, and its Size
+pub record IsKnown (k : Known) : Type 0 where
+  pub market : IsMarket k.market.now
+  pub fits : k.place < 2 ^ 33
+  pub sizes : AreSizesOf (orders_of k) (deals_of k) k.sizes.now
+  pub traded : AreTradedBefore (orders_of k) (deals_of k) (suc k.place) k.traded.now
+
+-- an order is active, by what is known of it
+abbrev pub is_known_active : Known → ℕ → Bool
+is_known_active k order = active_with (order_at (orders_of k) order) k.place
+    (size_of_order (orders_of k) (deals_of k) order)
+    (traded_before (orders_of k) (deals_of k) (suc k.place) order)
+
+-- the same of an order in a book
+abbrev pub is_active_in_book : Known → Resting → Bool
+is_active_in_book k r = is_known_active k r.index
