@@ -1,0 +1,62 @@
+-- Where the lines of a book lie on its paper: the bids, best first, and below them the asks.
+use Rattle.std.specs.Prelude.{◌≡◌, ◌+◌, ◌*◌, ℕ, max, min, List, Option, None, Some, length, map, slice_get}
+use Rattle.std.specs.List.{enumerate_from, fold}
+use Rattle.audit_base.specs.declared.orders.Order.{Order}
+use Rattle.continuous_picture.specs.declared.pictures.BookBefore.{BookBefore}
+use Rattle.order_book.specs.declared.books.Resting.{Resting}
+use Rattle.page_layout.specs.Axes.{point_of}
+use Rattle.continuous_drawing.specs.declared.book_layouts.BookLayout.{BookLayout}
+use Rattle.continuous_drawing.specs.declared.book_layouts.PlacedLine.{PlacedLine}
+
+-- the quantity of an order; 0 where there is none
+abbrev pub quantity_of : Option Order → ℕ
+quantity_of None = 0
+quantity_of (Some o) = o.quantity
+
+-- the greatest of a number and the quantities of the orders of some lines
+abbrev pub most_of : List Order → ℕ → List Resting → ℕ
+most_of orders number lines =
+    fold (λ most line. max most (quantity_of (slice_get orders line.index))) number lines
+
+-- the greatest quantity of the orders of a book; 0 where it has none
+abbrev pub most_of_book : List Order → BookBefore → ℕ
+most_of_book orders book = most_of orders (most_of orders 0 book.bids.items) book.asks.items
+
+-- how far a bar of a quantity reaches: one of the greatest quantity from 92 to 352
+abbrev pub reach_of : ℕ → ℕ → ℕ
+reach_of most quantity = 92 + point_of (record { first = 0; last = most; length = 260 }) quantity
+
+-- the top of a line below so many others, of which there are at most 20
+abbrev pub top_below : ℕ → ℕ
+top_below above = 20 + 14 * min above 20
+
+-- a line, with a bar as long as the quantity of its order, filled as far as is left of it
+abbrev pub placed_line : List Order → ℕ → ℕ → Resting → PlacedLine
+placed_line orders most top line = record {
+  line = line;
+  top = top;
+  right = reach_of most (quantity_of (slice_get orders line.index));
+  filled = reach_of most line.left;
+}
+
+-- the same of a line below so many others
+abbrev pub placed_below : List Order → ℕ → ℕ × Resting → PlacedLine
+placed_below orders most at = placed_line orders most (top_below at.0) at.1
+
+-- the lines of a side, each below the ones before it, the first one below so many others
+abbrev pub placed_lines : List Order → ℕ → ℕ → List Resting → List PlacedLine
+placed_lines orders most first lines =
+    map (placed_below orders most) (enumerate_from first lines)
+
+-- how many lines are above the asks: the bids, of which there are at most ten, and a gap
+abbrev pub first_ask : List Resting → ℕ
+first_ask bids = min (length bids) 10 + 1
+
+-- each line of both sides of a book has its place, best first
+pub record IsBookLayoutOf (orders : List Order) (book : BookBefore) (layout : BookLayout)
+    : Type 0 where
+  pub bids_placed : layout.bids.items
+      ≡ placed_lines orders (most_of_book orders book) 0 book.bids.items
+  pub asks_placed : layout.asks.items
+      ≡ placed_lines orders (most_of_book orders book) (first_ask book.bids.items)
+      book.asks.items

@@ -1,0 +1,316 @@
+//! The sections of a page that have the picture of continuous trading.
+ghost use Rattle.std.specs.Prelude.{◌≡◌, ◌<◌, ◌++◌, ◌^◌, IfOk};
+ghost use Rattle.audit_base.specs.Deals.{IsDealList};
+ghost use Rattle.audit_base.specs.Orders.{IsOrderList};
+ghost use Rattle.continuous_drawing.specs.Sections as spec;
+ghost use Rattle.page_plots.specs.Plots.{IsPlot};
+
+use crate::book_layouts::{BookLayout, book_layout_of};
+use crate::books::with_book;
+use crate::captions::{book_words, picture_words};
+use crate::columns::with_all_quotes;
+use crate::extents::plot_of;
+use crate::marks::with_mark_if_shown;
+use crate::offending::{Offence, offending_place, with_offending};
+use crate::trades::with_trades;
+use audit_base::faults::NoMemory;
+use audit_base::findings::{Finding, Shown};
+use audit_base::orders::Deal;
+use audit_base::terms::Side;
+use continuous_picture::columns::Column;
+use continuous_picture::pictures::{BookBefore, ContinuousPicture, continuous_picture};
+use order_list::lists::OrderList;
+use page_markup::markup::Markup;
+use page_markup::words::Tag;
+use page_parts::elements::{with_section, with_text_element};
+use page_plots::axes::{Axes, with_axes};
+use page_plots::plots::Plot;
+use page_plots::shapes::with_picture;
+use std::alloc::Global;
+
+/// What is marked in the picture of continuous trading.
+#[derive(Clone, Copy, Debug)]
+pub struct Marked {
+    /// The offending place, where there is one: the book right before it is drawn.
+    pub offence: Option<Offence>,
+    /// What the finding shows first and second: where it is an order of this book, it is marked.
+    pub first: Option<Shown>,
+    pub second: Option<Shown>,
+}
+
+impl Marked {
+    /// What a finding marks, whose cause is the record at a place.
+    pub fn by(finding: &Option<Finding>, place: u64) -> Marked
+        ensures { result ≡ spec.marked_by finding.now place }
+    {
+        match finding {
+            Some(finding) => Marked {
+                offence: Some(Offence {
+                    place,
+                    property: finding.property,
+                }),
+                first: finding.first,
+                second: finding.second,
+            },
+            None => Marked {
+                offence: None,
+                first: None,
+                second: None,
+            },
+        }
+    }
+}
+
+/// With what a picture shows behind it, as the caption of its figure.
+fn with_caption(alloc: Global, made: Markup, words: &[u8]) -> Result<Markup, NoMemory>
+    ensures { IfOk result (λ more. more ≡ made ++ spec.figure_caption words.now) }
+{
+    let caption = with_text_element(alloc, Markup::new(alloc), Tag::Paragraph, words)?;
+    made.with_element(Tag::FigureCaption, &[], &caption)
+}
+
+/// The figure with this in it.
+fn figure_of(alloc: Global, inner: &Markup) -> Result<Markup, NoMemory>
+    ensures { IfOk result (λ made. made ≡ spec.figure inner.now) }
+{
+    Markup::new(alloc).with_element(Tag::Figure, &[], inner)
+}
+
+/// What is in a figure: the picture of these shapes, and what it shows.
+fn figure_inside(
+    alloc: Global,
+    heading: &[u8],
+    paper: &[u8],
+    shapes: &Markup,
+    words: &[u8],
+) -> Result<Markup, NoMemory>
+    ensures { IfOk result (λ made. made
+        ≡ spec.figure_inside heading.now paper.now shapes.now words.now) }
+{
+    let made = with_picture(alloc, Markup::new(alloc), paper, heading, shapes)?;
+    with_caption(alloc, made, words)
+}
+
+/// With a section behind it that has a picture of these shapes, and what it shows.
+fn with_figure(
+    alloc: Global,
+    made: Markup,
+    heading: &[u8],
+    paper: &[u8],
+    shapes: &Markup,
+    words: &[u8],
+) -> Result<Markup, NoMemory>
+    ensures { IfOk result (λ more. more
+        ≡ made ++ spec.figure_section heading.now paper.now shapes.now words.now) }
+{
+    let inner = figure_inside(alloc, heading, paper, shapes, words)?;
+    let figure = figure_of(alloc, &inner)?;
+    with_section(alloc, made, heading, &figure)
+}
+
+/// With the best limits and the trades behind it.
+fn with_numbers(
+    alloc: Global,
+    made: Markup,
+    plot: Plot,
+    orders: &OrderList<'_>,
+    deals: &[Deal],
+    columns: &[Column],
+) -> Result<Markup, NoMemory>
+    requires plot { IsPlot plot }
+    requires deal_list { IsDealList orders.now deals.now }
+    ensures { IfOk result (λ more. more
+        ≡ made ++ spec.number_shapes plot orders.now deals.now columns.now) }
+{
+    let made = with_all_quotes(alloc, made, plot, columns)?;
+    with_trades(alloc, made, plot, orders, deals, columns)
+}
+
+/// The shapes of the picture of the best limits.
+fn picture_shapes(
+    alloc: Global,
+    plot: Plot,
+    axes: &Axes,
+    orders: &OrderList<'_>,
+    deals: &[Deal],
+    columns: &[Column],
+    offence: Option<Offence>,
+) -> Result<Markup, NoMemory>
+    requires plot { IsPlot plot }
+    requires deal_list { IsDealList orders.now deals.now }
+    ensures { IfOk result (λ made. made
+        ≡ spec.picture_shapes plot axes.now orders.now deals.now columns.now offence) }
+{
+    let made = with_axes(alloc, Markup::new(alloc), axes, b"record")?;
+    let made = with_numbers(alloc, made, plot, orders, deals, columns)?;
+    with_offending(alloc, made, plot, offence)
+}
+
+/// The section of a picture of these shapes.
+fn picture_section(alloc: Global, shapes: &Markup) -> Result<Markup, NoMemory>
+    ensures { IfOk result (λ made. made ≡ spec.picture_section shapes.now) }
+{
+    let made = Markup::new(alloc);
+    let heading = b"Best bid and best ask by record";
+    with_figure(
+        alloc,
+        made,
+        heading,
+        b"0 0 500 346",
+        shapes,
+        picture_words(),
+    )
+}
+
+/// With the marks of the orders of the evidence behind it.
+fn with_marks(
+    alloc: Global,
+    made: Markup,
+    orders: &OrderList<'_>,
+    marked: &Marked,
+    layout: &BookLayout,
+) -> Result<Markup, NoMemory>
+    ensures { IfOk result
+        (λ more. more ≡ made ++ spec.book_marks orders.now marked.now layout.now) }
+{
+    let made = with_mark_if_shown(alloc, made, orders, layout, b"1", &marked.first)?;
+    with_mark_if_shown(alloc, made, orders, layout, b"2", &marked.second)
+}
+
+/// The shapes of the picture of a book.
+fn book_shapes(
+    alloc: Global,
+    orders: &OrderList<'_>,
+    marked: &Marked,
+    layout: &BookLayout,
+) -> Result<Markup, NoMemory>
+    ensures { IfOk result (λ made. made ≡ spec.book_shapes orders.now marked.now layout.now) }
+{
+    let made = with_book(alloc, Markup::new(alloc), orders, Side::Buy, &layout.bids)?;
+    let made = with_book(alloc, made, orders, Side::Sell, &layout.asks)?;
+    with_marks(alloc, made, orders, marked, layout)
+}
+
+/// With the section of the picture of a book behind it.
+fn with_book_section(
+    alloc: Global,
+    made: Markup,
+    orders: &OrderList<'_>,
+    marked: &Marked,
+    layout: &BookLayout,
+) -> Result<Markup, NoMemory>
+    ensures { IfOk result
+        (λ more. more ≡ made ++ spec.book_section orders.now marked.now layout.now) }
+{
+    let shapes = book_shapes(alloc, orders, marked, layout)?;
+    let heading = b"The book right before the record";
+    with_figure(alloc, made, heading, b"0 0 480 320", &shapes, book_words())
+}
+
+/// With the section of a book behind it.
+fn with_drawn_book(
+    alloc: Global,
+    made: Markup,
+    orders: &OrderList<'_>,
+    marked: &Marked,
+    book: &BookBefore,
+) -> Result<Markup, NoMemory>
+    ensures { IfOk result (spec.IsWithDrawnBook orders.now marked.now book.now made) }
+{
+    let layout = book_layout_of(alloc, orders, book)?;
+    let more = with_book_section(alloc, made, orders, marked, &layout)?;
+    Ok(more)
+}
+
+/// With the section of a book behind it, where there is one.
+fn with_book_if_there(
+    alloc: Global,
+    made: Markup,
+    orders: &OrderList<'_>,
+    marked: &Marked,
+    book: &Option<BookBefore>,
+) -> Result<Markup, NoMemory>
+    ensures { IfOk result (spec.IsWithBook orders.now marked.now book.now made) }
+{
+    match book {
+        Some(book) => with_drawn_book(alloc, made, orders, marked, book),
+        None => Ok(made),
+    }
+}
+
+/// The section of the picture of the best limits in this plot.
+fn plotted_picture(
+    alloc: Global,
+    plot: Plot,
+    orders: &OrderList<'_>,
+    deals: &[Deal],
+    columns: &[Column],
+    offence: Option<Offence>,
+) -> Result<Markup, NoMemory>
+    requires plot { IsPlot plot }
+    requires deal_list { IsDealList orders.now deals.now }
+    ensures { IfOk result
+        (spec.IsPlottedPicture plot orders.now deals.now columns.now offence) }
+{
+    let axes = plot.axes(alloc)?;
+    let shapes = picture_shapes(alloc, plot, &axes, orders, deals, columns, offence)?;
+    let made = picture_section(alloc, &shapes)?;
+    Ok(made)
+}
+
+/// The section of the picture of the best limits in the plot that it needs.
+fn drawn_picture(
+    alloc: Global,
+    orders: &OrderList<'_>,
+    deals: &[Deal],
+    end: u64,
+    columns: &[Column],
+    offence: Option<Offence>,
+) -> Result<Markup, NoMemory>
+    requires { IsDealList orders.now deals.now }
+    ensures { IfOk result
+        (spec.IsDrawnPicture orders.now deals.now end columns.now offence) }
+{
+    let plot = plot_of(orders, end, columns);
+    let made = plotted_picture(alloc, plot, orders, deals, columns, offence)?;
+    Ok(made)
+}
+
+/// The sections that have a picture with these numbers.
+fn drawn_sections(
+    alloc: Global,
+    orders: &OrderList<'_>,
+    deals: &[Deal],
+    end: u64,
+    numbers: &ContinuousPicture,
+    marked: &Marked,
+) -> Result<Markup, NoMemory>
+    requires { IsDealList orders.now deals.now }
+    ensures { IfOk result
+        (spec.AreDrawnSections orders.now deals.now end numbers.now marked.now) }
+{
+    let picture = drawn_picture(alloc, orders, deals, end, &numbers.columns, marked.offence)?;
+    let made = with_book_if_there(alloc, picture, orders, marked, &numbers.book)?;
+    Ok(made)
+}
+
+/// The sections of a page that have the picture of continuous trading, of the places from that of
+/// the first order to before `end`, and the book right before the offending place, where there is
+/// one. Err only out of memory.
+pub fn continuous_sections(
+    alloc: Global,
+    orders: &OrderList<'_>,
+    deals: &[Deal],
+    end: u64,
+    marked: &Marked,
+) -> Result<Markup, NoMemory>
+    requires order_list { IsOrderList orders.now }
+    requires deal_list { IsDealList orders.now deals.now }
+    requires fits { end < 2 ^ 33 }
+    ensures { IfOk result (spec.AreContinuousSections orders.now deals.now end marked.now) }
+{
+    let place = offending_place(marked.offence);
+    let numbers = continuous_picture(alloc, orders, deals, end, place)?;
+    let made = drawn_sections(alloc, orders, deals, end, &numbers, marked)?;
+    Ok(made)
+}
