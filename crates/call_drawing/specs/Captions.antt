@@ -65,10 +65,13 @@ whole_words marked = picture_words ++ marks_words marked
 abbrev pub is_plain : SidePicture → Bool
 is_plain picture = not (picture.by_limit || leaves_out picture.drawn)
 
+-- the same, in a paragraph
+abbrev pub side_part : List ℕ → SidePicture → List ℕ
+side_part name picture = text_element tag.Paragraph (side_words name picture)
+
 -- what the bars of each side are, in a paragraph for each
 abbrev pub each_side : CallPicture → List ℕ
-each_side picture = text_element tag.Paragraph (side_words (codes "Bids:") picture.bids)
-    ++ text_element tag.Paragraph (side_words (codes "Asks:") picture.asks)
+each_side picture = side_part (codes "Bids:") picture.bids ++ side_part (codes "Asks:") picture.asks
 
 -- what the bars are: said once, where each is an order of either side
 abbrev pub bars : CallPicture → List ℕ

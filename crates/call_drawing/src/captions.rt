@@ -120,18 +120,25 @@ fn is_plain(side: &SidePicture) -> bool
     !(side.by_limit || leaves_out(&side.drawn))
 }
 
-/// With what the bars of each side are behind it.
-fn with_each_side(
+/// With what is said of a side behind it.
+fn with_side_words(
     alloc: Global,
     made: Markup,
-    picture: &CallPicture,
+    name: &[u8],
+    side: &SidePicture,
 ) -> Result<Markup, NoMemory>
+    ensures { IfOk result (λ more. more ≡ made ++ spec.side_part name.now side.now) }
+{
+    let words = side_words(alloc, name, side)?;
+    with_text_element(alloc, made, Tag::Paragraph, &words)
+}
+
+/// With what the bars of each side are behind it.
+fn with_each_side(alloc: Global, made: Markup, picture: &CallPicture) -> Result<Markup, NoMemory>
     ensures { IfOk result (λ more. more ≡ made ++ spec.each_side picture.now) }
 {
-    let bids = side_words(alloc, b"Bids:", &picture.bids)?;
-    let asks = side_words(alloc, b"Asks:", &picture.asks)?;
-    let made = with_text_element(alloc, made, Tag::Paragraph, &bids)?;
-    with_text_element(alloc, made, Tag::Paragraph, &asks)
+    let made = with_side_words(alloc, made, b"Bids:", &picture.bids)?;
+    with_side_words(alloc, made, b"Asks:", &picture.asks)
 }
 
 /// With what the bars are behind it: said once, where it is the same of both sides.
@@ -145,11 +152,7 @@ fn with_bars(alloc: Global, made: Markup, picture: &CallPicture) -> Result<Marku
 }
 
 /// The caption of the picture, with what is marked in it.
-pub fn caption_of(
-    alloc: Global,
-    picture: &CallPicture,
-    marked: &Marked,
-) -> Result<Markup, NoMemory>
+pub fn caption_of(alloc: Global, picture: &CallPicture, marked: &Marked) -> Result<Markup, NoMemory>
     ensures { IfOk result (λ made. made ≡ spec.caption picture.now marked.now) }
 {
     let words = whole_words(alloc, marked)?;
