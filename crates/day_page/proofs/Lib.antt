@@ -1,3 +1,6 @@
 mod AddressLemmas
+mod CutLemmas
+mod FieldLemmas
 mod FileLemmas
+mod LineLemmas
 mod RowLemmas

@@ -1,21 +1,17 @@
--- The row of a symbol in the table of a day.
-use Rattle.std.specs.Prelude.{ℕ, List, [], ◌∷◌, ◌++◌, Option, None, Some, codes}
-use Rattle.audit_base.specs.declared.findings.Finding.{Finding}
-use Rattle.audit_base.specs.declared.findings.Short.{Short}
-use Rattle.audit_base.specs.Words.{property_word}
-use Rattle.audit_report.specs.declared.verdicts.Accepted.{Accepted}
-use Rattle.audit_report.specs.declared.verdicts.Verdict.{Verdict}
-use Rattle.audit_report.specs.declared.verdicts.Verdict.TheVariants as verdict
+-- The rows of the table of a day, from the lines of the day's text: each symbol has one line that
+-- gives its row, `SYMBOL,totals,ORDERS,TRADES,VOLUME` or `SYMBOL,rejected,PROPERTY,LOG,PLACE`.
+use Rattle.std.specs.Prelude.{ℕ, List, [], ◌∷◌, ◌++◌, codes, if◌then◌else◌}
+use Rattle.std.specs.List.{flat_map}
 use Rattle.page_markup.specs.declared.words.AttributeName.TheVariants as name
 use Rattle.page_markup.specs.declared.words.Tag.TheVariants as tag
 use Rattle.page_markup.specs.Escapes.{escaped}
 use Rattle.page_parts.specs.Elements.{element, link, said}
 use Rattle.page_table.specs.declared.cells.Column.{Column}
 use Rattle.page_table.specs.declared.cells.Column.TheVariants.{Symbol, Answer, Log, Record, Orders, Trades, Volume}
-use Rattle.page_table.specs.Elements.{gaps, number_cell, words_cell}
-use Rattle.page_table.specs.Wording.{broken_words, log_words}
-use Rattle.day_page.specs.declared.rows.RowTotals.{RowTotals}
+use Rattle.page_table.specs.Elements.{gaps, words_cell}
+use Rattle.day_page.specs.DayLines.{field_at, is_word, lines_of}
 use Rattle.day_page.specs.FileNames.{page_address}
+use Rattle.day_page.specs.PropertyWords.{is_of_volume, log_in_words, rejected_words}
 
 -- the columns of the table
 abbrev pub day_columns : List Column
@@ -32,55 +28,51 @@ symbol_heading symbol = row_heading_of (escaped symbol)
 abbrev pub linked_heading : List ℕ → List ℕ
 linked_heading symbol = row_heading_of (link (page_address symbol) symbol)
 
--- the cells of the totals
-abbrev pub totals_cells : RowTotals → List ℕ
-totals_cells totals =
-    number_cell totals.orders ++ number_cell totals.trades ++ number_cell totals.volume
+-- a cell of a number as the report writes it
+abbrev pub digits_cell : List ℕ → List ℕ
+digits_cell digits = element tag.Cell (said name.Class (codes "number")) (escaped digits)
 
--- the cells and the row of a symbol that is accepted
-abbrev pub accepted_cells : List ℕ → RowTotals → List ℕ
-accepted_cells symbol totals =
-    symbol_heading symbol ++ words_cell (codes "accepted") ++ gaps 2 ++ totals_cells totals
+-- the cells and the row of a symbol that is accepted: its orders, its trades and its volume
+abbrev pub totals_cells : List ℕ → List ℕ → List ℕ → List ℕ
+totals_cells orders trades volume = digits_cell orders ++ digits_cell trades ++ digits_cell volume
 
-abbrev pub accepted_row : List ℕ → RowTotals → List ℕ
-accepted_row symbol totals = element tag.Row [] (accepted_cells symbol totals)
+abbrev pub accepted_cells : List ℕ → List ℕ → List ℕ → List ℕ → List ℕ
+accepted_cells symbol orders trades volume = symbol_heading symbol
+    ++ words_cell (codes "accepted") ++ gaps 2 ++ totals_cells orders trades volume
 
--- what is said of a symbol that is rejected
-abbrev pub broken_by_record : Finding → List ℕ
-broken_by_record finding = codes "rejected: a record " ++ broken_words finding.property
+abbrev pub accepted_row : List ℕ → List ℕ → List ℕ → List ℕ → List ℕ
+accepted_row symbol orders trades volume =
+    element tag.Row [] (accepted_cells symbol orders trades volume)
 
-abbrev pub short_words : List ℕ
-short_words = codes "rejected: the volume is not the greatest"
+-- the cells of the record that offends, its log and its place; none does where the volume is not the
+-- greatest
+abbrev pub record_cells : List ℕ → List ℕ → List ℕ → List ℕ
+record_cells property log place = if is_of_volume property then []
+    else words_cell (log_in_words log) ++ digits_cell place
 
-abbrev pub what_is_broken : Finding → Option Short → List ℕ
-what_is_broken finding None = broken_by_record finding
-what_is_broken finding (Some short) = short_words
+-- the cells and the row of a symbol that is rejected; its totals are on its page
+abbrev pub rejected_cells : List ℕ → List ℕ → List ℕ → List ℕ → List ℕ
+rejected_cells symbol property log place = linked_heading symbol
+    ++ words_cell (rejected_words property) ++ record_cells property log place
 
-abbrev pub rejected_words : Finding → List ℕ
-rejected_words finding = what_is_broken finding finding.short
-    ++ codes " (" ++ property_word finding.property ++ codes ")"
+abbrev pub rejected_row : List ℕ → List ℕ → List ℕ → List ℕ → List ℕ
+rejected_row symbol property log place =
+    element tag.Row [] (rejected_cells symbol property log place)
 
--- the cells of the record that offends; none does where the volume is not the greatest
-abbrev pub record_cells : Finding → Option Short → List ℕ
-record_cells finding None = words_cell (log_words finding.log) ++ number_cell finding.place
-record_cells finding (Some short) = []
+-- the row of a line of totals, and that of a line that rejects, by their fields
+abbrev pub row_of_totals : List ℕ → List ℕ
+row_of_totals line =
+    accepted_row (field_at 0 line) (field_at 2 line) (field_at 3 line) (field_at 4 line)
 
--- the row of a symbol that is rejected; its totals are on its page
-abbrev pub rejected_row : List ℕ → Finding → List ℕ
-rejected_row symbol finding = element tag.Row []
-    (linked_heading symbol ++ words_cell (rejected_words finding)
-    ++ record_cells finding finding.short)
+abbrev pub row_of_rejection : List ℕ → List ℕ
+row_of_rejection line =
+    rejected_row (field_at 0 line) (field_at 2 line) (field_at 3 line) (field_at 4 line)
 
--- the totals of an accepted symbol
-abbrev pub totals_of : Accepted → RowTotals
-totals_of accepted = record {
-  orders = accepted.orders;
-  trades = accepted.trades;
-  volume = accepted.volume;
-}
+-- the row that a line gives, by the word in its second field; other lines give none
+abbrev pub row_of_line : List ℕ → List ℕ
+row_of_line line = if is_word (field_at 1 line) (codes "totals") then row_of_totals line
+    else (if is_word (field_at 1 line) (codes "rejected") then row_of_rejection line else [])
 
--- the row of a symbol by its verdict; a malformed log has no symbols
-abbrev pub verdict_row : List ℕ → Verdict → List ℕ
-verdict_row symbol (verdict.Accepted accepted) = accepted_row symbol (totals_of accepted)
-verdict_row symbol (verdict.Rejected finding) = rejected_row symbol finding
-verdict_row symbol (verdict.Malformed log bad) = []
+-- the rows that the lines of a text give, in their order
+abbrev pub rows_of_text : List ℕ → List ℕ
+rows_of_text text = flat_map row_of_line (lines_of text)

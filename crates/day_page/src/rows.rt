@@ -1,26 +1,16 @@
-//! The row of a symbol in the table of a day.
-ghost use Rattle.std.specs.Prelude.{◌≡◌, ◌++◌, IfOk, OnOk};
+//! The rows of the table of a day, from the lines of the day's text.
+ghost use Rattle.std.specs.Prelude.{◌≡◌, ◌++◌, IfOk};
 ghost use Rattle.day_page.specs.Rows as spec;
 
 use crate::file_names::page_address;
+use crate::lines::{behind_line, field_at, first_line, is_word};
+use crate::property_words::{is_of_volume, log_in_words, rejected_words};
 use audit_base::faults::NoMemory;
-use audit_base::findings::Finding;
-use audit_base::names::Name;
-use audit_report::verdicts::Verdict;
 use page_markup::markup::Markup;
 use page_markup::words::{AttributeName, Tag};
 use page_parts::elements::{says, with_link};
-use page_table::cells::{with_gaps, with_number, with_words};
-use page_table::wording::{broken_words, log_words};
+use page_table::cells::{with_gaps, with_words};
 use std::alloc::Global;
-
-/// What an accepted symbol has in the two logs.
-#[derive(Clone, Copy, Debug, PartialEq, Eq)]
-pub struct RowTotals {
-    pub orders: u32,
-    pub trades: u32,
-    pub volume: u128,
-}
 
 /// The heading of a row, whose spaces are kept.
 fn row_heading_of(alloc: Global, inner: &Markup) -> Result<Markup, NoMemory>
@@ -50,127 +40,127 @@ fn linked_heading(alloc: Global, symbol: &[u8]) -> Result<Markup, NoMemory>
     row_heading_of(alloc, &inner)
 }
 
-/// With the cells of the totals behind it.
-fn with_totals(alloc: Global, row: Markup, totals: &RowTotals) -> Result<Markup, NoMemory>
-    ensures { IfOk result (λ more. more ≡ row ++ spec.totals_cells totals.now) }
+/// With a cell of a number behind it, as the report writes it.
+fn with_digits(alloc: Global, row: Markup, digits: &[u8]) -> Result<Markup, NoMemory>
+    ensures { IfOk result (λ more. more ≡ row ++ spec.digits_cell digits.now) }
 {
-    let row = with_number(alloc, row, u128::from(totals.orders))?;
-    let row = with_number(alloc, row, u128::from(totals.trades))?;
-    with_number(alloc, row, totals.volume)
+    let text = Markup::new(alloc).with_text(digits)?;
+    row.with_element(Tag::Cell, &[says(AttributeName::Class, b"number")], &text)
 }
 
-/// The cells of the row of an accepted symbol.
-fn accepted_cells(alloc: Global, symbol: &[u8], totals: &RowTotals) -> Result<Markup, NoMemory>
-    ensures { IfOk result (λ made. made ≡ spec.accepted_cells symbol.now totals.now) }
+/// With the cells of the totals behind it.
+fn with_totals(
+    alloc: Global,
+    row: Markup,
+    orders: &[u8],
+    trades: &[u8],
+    volume: &[u8],
+) -> Result<Markup, NoMemory>
+    ensures { IfOk result
+        (λ more. more ≡ row ++ spec.totals_cells orders.now trades.now volume.now) }
+{
+    let row = with_digits(alloc, row, orders)?;
+    let row = with_digits(alloc, row, trades)?;
+    with_digits(alloc, row, volume)
+}
+
+/// The cells of the row of a symbol that is accepted.
+fn accepted_cells(
+    alloc: Global,
+    symbol: &[u8],
+    orders: &[u8],
+    trades: &[u8],
+    volume: &[u8],
+) -> Result<Markup, NoMemory>
+    ensures { IfOk result
+        (λ made. made ≡ spec.accepted_cells symbol.now orders.now trades.now volume.now) }
 {
     let row = symbol_heading(alloc, symbol)?;
     let row = with_words(alloc, row, b"accepted")?;
     let row = with_gaps(alloc, row, 2)?;
-    with_totals(alloc, row, totals)
-}
-
-/// With the row of an accepted symbol behind it.
-pub fn with_accepted(
-    alloc: Global,
-    rows: Markup,
-    symbol: &Name,
-    totals: &RowTotals,
-) -> Result<Markup, NoMemory>
-    ensures { IfOk result (λ more. more ≡ rows ++ spec.accepted_row symbol.now totals.now) }
-{
-    let row = accepted_cells(alloc, symbol.bytes(), totals)?;
-    rows.with_element(Tag::Row, &[], &row)
-}
-
-/// Appends what the record of a finding breaks.
-fn append_broken_by_record(finding: &Finding, out: &mut Vec<u8>) -> Result<(), NoMemory>
-    ensures { OnOk result (out.new.items ≡ out.old.items ++ spec.broken_by_record finding.now) }
-{
-    out.extend_from_slice(b"rejected: a record ")?;
-    out.extend_from_slice(broken_words(finding.property))?;
-    Ok(())
-}
-
-/// Appends that the volume is too small.
-fn append_short(out: &mut Vec<u8>) -> Result<(), NoMemory>
-    ensures { OnOk result (out.new.items ≡ out.old.items ++ spec.short_words) }
-{
-    out.extend_from_slice(b"rejected: the volume is not the greatest")?;
-    Ok(())
-}
-
-/// Appends what is broken.
-fn append_what_is_broken(finding: &Finding, out: &mut Vec<u8>) -> Result<(), NoMemory>
-    ensures { OnOk result (out.new.items
-        ≡ out.old.items ++ spec.what_is_broken finding.now finding.now.short) }
-{
-    match &finding.short {
-        Some(_) => append_short(out),
-        None => append_broken_by_record(finding, out),
-    }
-}
-
-/// What is said of a rejected symbol.
-fn rejected_words(alloc: Global, finding: &Finding) -> Result<Vec<u8>, NoMemory>
-    ensures { IfOk result (λ text. text.items ≡ spec.rejected_words finding.now) }
-{
-    let mut text = Vec::new(alloc);
-    append_what_is_broken(finding, &mut text)?;
-    text.extend_from_slice(b" (")?;
-    text.extend_from_slice(finding.property.word())?;
-    text.extend_from_slice(b")")?;
-    Ok(text)
+    with_totals(alloc, row, orders, trades, volume)
 }
 
 /// With the cells of the record that offends behind it, where one does.
-fn with_record(alloc: Global, row: Markup, finding: &Finding) -> Result<Markup, NoMemory>
+fn with_record(
+    alloc: Global,
+    row: Markup,
+    property: &[u8],
+    log: &[u8],
+    place: &[u8],
+) -> Result<Markup, NoMemory>
     ensures { IfOk result
-        (λ more. more ≡ row ++ spec.record_cells finding.now finding.now.short) }
+        (λ more. more ≡ row ++ spec.record_cells property.now log.now place.now) }
 {
-    match &finding.short {
-        Some(_) => Ok(row),
-        None => {
-            let row = with_words(alloc, row, log_words(finding.log))?;
-            with_number(alloc, row, u128::from(finding.place))
-        }
+    if is_of_volume(property) {
+        return Ok(row);
     }
+    let row = with_words(alloc, row, log_in_words(log))?;
+    with_digits(alloc, row, place)
 }
 
-/// With the row of a rejected symbol behind it.
-pub fn with_rejected(
+/// The cells of the row of a symbol that is rejected.
+fn rejected_cells(
     alloc: Global,
-    rows: Markup,
-    symbol: &Name,
-    finding: &Finding,
+    symbol: &[u8],
+    property: &[u8],
+    log: &[u8],
+    place: &[u8],
 ) -> Result<Markup, NoMemory>
-    ensures { IfOk result (λ more. more ≡ rows ++ spec.rejected_row symbol.now finding.now) }
+    ensures { IfOk result
+        (λ made. made ≡ spec.rejected_cells symbol.now property.now log.now place.now) }
 {
-    let words = rejected_words(alloc, finding)?;
-    let row = linked_heading(alloc, symbol.bytes())?;
+    let words = rejected_words(alloc, property)?;
+    let row = linked_heading(alloc, symbol)?;
     let row = with_words(alloc, row, &words)?;
-    let row = with_record(alloc, row, finding)?;
-    rows.with_element(Tag::Row, &[], &row)
+    with_record(alloc, row, property, log, place)
 }
 
-/// With the row of a symbol behind it, by its verdict.
-pub fn with_verdict(
-    alloc: Global,
-    rows: Markup,
-    symbol: &Name,
-    verdict: &Verdict,
-) -> Result<Markup, NoMemory>
-    ensures { IfOk result (λ more. more ≡ rows ++ spec.verdict_row symbol.now verdict.now) }
+/// With the row of the symbol behind it that a line of totals accepts.
+fn with_accepted(alloc: Global, rows: Markup, line: &[u8]) -> Result<Markup, NoMemory>
+    ensures { IfOk result (λ more. more ≡ rows ++ spec.row_of_totals line.now) }
 {
-    match verdict {
-        Verdict::Accepted(accepted) => {
-            let totals = RowTotals {
-                orders: accepted.orders,
-                trades: accepted.trades,
-                volume: accepted.volume,
-            };
-            with_accepted(alloc, rows, symbol, &totals)
-        }
-        Verdict::Rejected(finding) => with_rejected(alloc, rows, symbol, finding),
-        Verdict::Malformed { .. } => Ok(rows),
+    let symbol = field_at(line, 0);
+    let orders = field_at(line, 2);
+    let trades = field_at(line, 3);
+    let cells = accepted_cells(alloc, symbol, orders, trades, field_at(line, 4))?;
+    rows.with_element(Tag::Row, &[], &cells)
+}
+
+/// With the row of the symbol behind it that a line rejects.
+fn with_rejected(alloc: Global, rows: Markup, line: &[u8]) -> Result<Markup, NoMemory>
+    ensures { IfOk result (λ more. more ≡ rows ++ spec.row_of_rejection line.now) }
+{
+    let symbol = field_at(line, 0);
+    let property = field_at(line, 2);
+    let log = field_at(line, 3);
+    let cells = rejected_cells(alloc, symbol, property, log, field_at(line, 4))?;
+    rows.with_element(Tag::Row, &[], &cells)
+}
+
+/// With the row behind it that a line gives, if it gives one.
+fn with_row_of_line(alloc: Global, rows: Markup, line: &[u8]) -> Result<Markup, NoMemory>
+    ensures { IfOk result (λ more. more ≡ rows ++ spec.row_of_line line.now) }
+{
+    let kind = field_at(line, 1);
+    if is_word(kind, b"totals") {
+        return with_accepted(alloc, rows, line);
     }
+    if is_word(kind, b"rejected") {
+        return with_rejected(alloc, rows, line);
+    }
+    Ok(rows)
+}
+
+/// The rows that the lines of a text give, in their order.
+pub(crate) fn rows_of_text(alloc: Global, text: &[u8]) -> Result<Markup, NoMemory>
+    ensures { IfOk result (λ rows. rows ≡ spec.rows_of_text text.now) }
+{
+    let mut rows = Markup::new(alloc);
+    let mut rest = text;
+    while !rest.is_empty() {
+        rows = with_row_of_line(alloc, rows, first_line(rest))?;
+        rest = behind_line(rest);
+    }
+    Ok(rows)
 }

@@ -1,19 +1,22 @@
-//! The page of a day of two symbols, as it is written.
-use crate::checks::{assert_page, name};
-use audit_base::findings::{Finding, Property};
-use audit_base::terms::Which;
-use day_page::day_pages::day_page;
-use day_page::rows::{RowTotals, with_accepted, with_rejected};
-use day_report::day_line::DayCounts;
-use page_markup::markup::Markup;
+//! Pages of days, as they are written.
+use crate::checks::assert_page;
+use day_page::day_pages::page_of_day_text;
 use std::test::Fail;
+
+/// The text of a day of four symbols by phases, of which three are rejected.
+const TEXT: &str = "day,4,1,3,uniform@1,continuous@5\n\
+&amp;,session,&amp;,uniform@1,continuous@5\n&amp;,totals,2,1,5\n\
+<b>',rejected,buy-quantity,trades,2\n<b>',order,1,buy,totals,rejected,5,10,7\n\
+a b,rejected,volume,trades,1\na b,volume,5,7\na b,order,1,buy,F,1,7,10,5\n\
+totals,rejected,trade-time,trades,4\ntotals,order,3,sell,F,2,5,10,5\n";
 
 const HEAD: &str = "<!DOCTYPE html>\n<html lang=\"en\"><head><meta charset=\"utf-8\">\
 <meta name=\"viewport\" content=\"width=device-width, initial-scale=1\">\
-<title>Every symbol of the day by matching</title><style>";
+<title>Every symbol of the day by uniform@1,continuous@5</title><style>";
 
-const BODY: &str = "</style></head><body><main><h1>Every symbol of the day by matching</h1>\
-<p>Symbols: 2. Accepted: 1. Rejected: 1.</p>\
+const BODY: &str =
+    "</style></head><body><main><h1>Every symbol of the day by uniform@1,continuous@5</h1>\
+<p>Symbols: 4. Accepted: 1. Rejected: 3.</p>\
 <table><caption>The symbols, in the order of their numbers</caption><thead><tr>\
 <th scope=\"col\" class=\"text\">Symbol</th><th scope=\"col\" class=\"text\">Answer</th>\
 <th scope=\"col\" class=\"text\">Log</th><th scope=\"col\" class=\"number\">Record</th>\
@@ -24,37 +27,31 @@ const BODY: &str = "</style></head><body><main><h1>Every symbol of the day by ma
 <tr><th scope=\"row\" class=\"name\"><a href=\"%253Cb%253E%2527.html\">&lt;b&gt;&#39;</a></th>\
 <td>rejected: a record lets its bid trade more than its quantity (buy-quantity)</td>\
 <td>trade log</td><td class=\"number\">2</td></tr>\
+<tr><th scope=\"row\" class=\"name\"><a href=\"a%2520b.html\">a b</a></th>\
+<td>rejected: the volume is not the greatest (volume)</td></tr>\
+<tr><th scope=\"row\" class=\"name\"><a href=\"totals.html\">totals</a></th>\
+<td>rejected: a record has an earlier time than the record of its bid or of its ask (trade-time)</td>\
+<td>trade log</td><td class=\"number\">4</td></tr>\
 </tbody></table></main></body></html>\n";
 
-/// The second trade lets its bid trade too much.
-fn overtraded() -> Finding {
-    Finding {
-        property: Property::BuyQuantity,
-        log: Which::Trades,
-        place: 2,
-        first: None,
-        second: None,
-        short: None,
-    }
-}
+const UNPAIRED_HEAD: &str = "<!DOCTYPE html>\n<html lang=\"en\"><head><meta charset=\"utf-8\">\
+<meta name=\"viewport\" content=\"width=device-width, initial-scale=1\">\
+<title>Every symbol of the day</title><style>";
+
+const UNPAIRED_BODY: &str = "</style></head><body><main><h1>Every symbol of the day</h1>\
+<p>The reports of the trade log do not pair: record 3 of the trade log is one that does not agree \
+with the first of its trade, or one that has no second (unpaired).</p></main></body></html>\n";
 
 #[test]
 fn a_day_is_a_page(rt: HostRuntime) -> Result<(), Fail> {
-    let alloc = rt.alloc();
-    let totals = RowTotals {
-        orders: 2,
-        trades: 1,
-        volume: 5,
-    };
-    let rows = Markup::new(alloc);
-    let rows = with_accepted(alloc, rows, &name(&rt, "&amp;"), &totals)?;
-    let rows = with_rejected(alloc, rows, &name(&rt, "<b>'"), &overtraded())?;
-    let counts = DayCounts {
-        symbols: 2,
-        accepted: 1,
-        rejected: 1,
-    };
-    let page = day_page(alloc, &counts, b"matching", &rows)?;
+    let page = page_of_day_text(rt.alloc(), TEXT.as_bytes())?;
     assert_page(&rt, &page, HEAD, BODY);
+    Ok(())
+}
+
+#[test]
+fn reports_that_do_not_pair_are_a_page(rt: HostRuntime) -> Result<(), Fail> {
+    let page = page_of_day_text(rt.alloc(), b"rejected,unpaired,trades,3\n")?;
+    assert_page(&rt, &page, UNPAIRED_HEAD, UNPAIRED_BODY);
     Ok(())
 }
