@@ -1,0 +1,5 @@
+mod AbsenceLemmas
+mod PageLemmas
+mod ReadLemmas
+mod DecideLemmas
+mod TopLemmas
