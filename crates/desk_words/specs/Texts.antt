@@ -8,7 +8,8 @@ use Rattle.desk_words.specs.declared.commands.DeskCommand.TheVariants as command
 abbrev pub desk_usage_line : List ℕ
 desk_usage_line = codes "usage: audit RULE ORDERS TRADES"
     ++ codes " | session PHASES ORDERS TRADES"
-    ++ codes " | offences RULE SYMBOL ORDERS TRADES" ++ codes " | digest ORDERS TRADES"
+    ++ codes " | offences RULE SYMBOL ORDERS TRADES"
+    ++ codes " | page RULE SYMBOL ORDERS TRADES" ++ codes " | digest ORDERS TRADES"
     ++ codes " | file DATABASE LABEL RULE SYMBOL ORDERS TRADES"
     ++ codes " | file-all DATABASE LABEL RULE ORDERS TRADES"
     ++ codes " | check DATABASE LABEL ORDERS TRADES"
@@ -40,6 +41,8 @@ audit_help = text_of_lines (
     ∷ codes "                        the record of its bid or of its ask"
     ∷ codes "    --resting-price     rejects it at its first trade with another price than the limit of"
     ∷ codes "                        the order that came first; only with continuous"
+    ∷ codes "    --page              writes all of it as one HTML page, a row for each symbol; not with"
+    ∷ codes "                        --table"
     ∷ codes "    Example: desk audit uniform orders.csv trades.csv --share 1/4"
     ∷ [])
 
@@ -61,6 +64,8 @@ session_help = text_of_lines (
     ∷ codes "                        so on, counted from 1 as they appear; 1 <= K <= N <= 65536"
     ∷ codes "    --trade-times       rejects an accepted symbol at its first trade that is earlier than"
     ∷ codes "                        the record of its bid or of its ask"
+    ∷ codes "    --page              writes all of it as one HTML page, a row for each symbol; not with"
+    ∷ codes "                        --table"
     ∷ codes "    Example: desk session uniform@1,continuous@5001 orders.csv trades.csv"
     ∷ [])
 
@@ -82,6 +87,22 @@ offences_help = text_of_lines (
     ∷ codes "    --trade-times       where the rule accepts: tells each trade that is earlier than"
     ∷ codes "                        the record of one of its orders"
     ∷ codes "    Example: desk offences continuous Z orders.csv trades.csv --records"
+    ∷ [])
+
+-- what `page` does, with its words, its options and an example
+unfoldable pub page_help : List ℕ
+page_help = text_of_lines (
+    codes "page RULE SYMBOL ORDERS TRADES"
+    ∷ codes "    Judges the trades of one symbol by a rule, and writes the verdict as one HTML page:"
+    ∷ codes "    the answer, what shows it, the picture of the rule, how to see it again, and the"
+    ∷ codes "    SHA-256 digest of each log."
+    ∷ codes "    RULE                matching, fair, uniform, maximum or continuous"
+    ∷ codes "    SYMBOL              the symbol, as the logs have it"
+    ∷ codes "    ORDERS              the path of the order log"
+    ∷ codes "    TRADES              the path of the trade log"
+    ∷ codes "    --orders-form FORM  the form of the order log: csv, as without it, or fix"
+    ∷ codes "    --trades-form FORM  the form of the trade log: csv, as without it, or fix"
+    ∷ codes "    Example: desk page uniform Z orders.csv trades.csv >Z.html"
     ∷ [])
 
 -- what `digest` does, with its words and an example
@@ -207,9 +228,9 @@ unfoldable pub help_help : List ℕ
 help_help = text_of_lines (
     codes "help [COMMAND]"
     ∷ codes "    Writes what each command does, or what COMMAND does: audit, session, offences,"
-    ∷ codes "    digest, file, file-all, check, orders, convert, plain, contents or help. --help"
-    ∷ codes "    alone does as help, and --version writes the version of the program and the kit"
-    ∷ codes "    that it is proved with."
+    ∷ codes "    page, digest, file, file-all, check, orders, convert, plain, contents or help."
+    ∷ codes "    --help alone does as help, and --version writes the version of the program and the"
+    ∷ codes "    kit that it is proved with."
     ∷ codes "    Example: desk help audit"
     ∷ [])
 
@@ -218,6 +239,7 @@ abbrev pub command_help : DeskCommand → List ℕ
 command_help command.Audit = audit_help
 command_help command.Session = session_help
 command_help command.Offences = offences_help
+command_help command.Page = page_help
 command_help command.Digest = digest_help
 command_help command.File = file_help
 command_help command.FileAll = file_all_help
@@ -230,8 +252,8 @@ command_help command.Help = help_help
 
 -- what each command about logs and cases does, with an empty line between two
 abbrev pub judging_help : List ℕ
-judging_help = audit_help ++ 10 ∷ session_help ++ 10 ∷ offences_help ++ 10 ∷ digest_help
-    ++ 10 ∷ file_help ++ 10 ∷ file_all_help ++ 10 ∷ check_help
+judging_help = audit_help ++ 10 ∷ session_help ++ 10 ∷ offences_help ++ 10 ∷ page_help
+    ++ 10 ∷ digest_help ++ 10 ∷ file_help ++ 10 ∷ file_all_help ++ 10 ∷ check_help
 
 -- the same of each command that writes or reads logs, and judges none, and of `help`
 abbrev pub log_help : List ℕ

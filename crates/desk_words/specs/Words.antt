@@ -23,13 +23,14 @@ use Rattle.desk_words.specs.DressWords.{dress_named, HasSohWord}
 use Rattle.desk_words.specs.FurtherWords.{checks_fit_rule}
 use Rattle.desk_words.specs.LogWords.{desk_convert_asked, orders_asked}
 use Rattle.desk_words.specs.OffenceWords.{options_under}
-use Rattle.desk_words.specs.Options.{desk_options_in}
+use Rattle.desk_words.specs.Options.{desk_options_in, is_table_or_page}
 
 -- the command that a word names
 abbrev pub desk_command_named : List ℕ → Option DeskCommand
 desk_command_named word = first_answer (only_if (word_equals word (codes "audit")) command.Audit
     ∷ only_if (word_equals word (codes "session")) command.Session
     ∷ only_if (word_equals word (codes "offences")) command.Offences
+    ∷ only_if (word_equals word (codes "page")) command.Page
     ∷ only_if (word_equals word (codes "digest")) command.Digest
     ∷ only_if (word_equals word (codes "file")) command.File
     ∷ only_if (word_equals word (codes "file-all")) command.FileAll
@@ -53,14 +54,14 @@ day_logs words place said = record {
 abbrev pub table_fits_rule : Bool → Rule → Bool
 table_fits_rule table the_rule = not table || has_table the_rule
 
--- RULE, and what the words after all others say as options, `--table` where the rule has one and
--- `--resting-price` where it is `continuous`
+-- RULE, and what the words after all others say as options, `--table` where the rule has one and no
+-- page is asked for, and `--resting-price` where the rule is `continuous`
 abbrev pub rule_and_options : List ℕ → List (List ℕ) → Option (Rule × DeskOptions)
 rule_and_options word option_words =
     when_some (rule_named word) (λ the_rule.
     when_some (desk_options_in option_words) (λ said.
-    only_if (table_fits_rule said.common.table the_rule && checks_fit_rule said.checks the_rule)
-    (the_rule, said)))
+    only_if (table_fits_rule said.common.table the_rule && checks_fit_rule said.checks the_rule
+    && is_table_or_page said) (the_rule, said)))
 
 -- `audit RULE ORDERS TRADES` and options
 abbrev pub desk_audit_asked : List (List ℕ) → Option DeskRequest
@@ -68,13 +69,15 @@ desk_audit_asked words =
     if nat_le 4 (length words) && names_logs words 2 then
     when_both (rule_and_options (nth_word words 1) (drop 4 words)) (λ the_rule said.
     Some (Audit the_rule (day_logs words 2 said.common) said.common.table said.share
-    said.checks))
+    said.checks said.page))
     else None
 
--- what these words say as options of `session`, where no price of a resting order is asked for
+-- what these words say as options of `session`, where no price of a resting order is asked for, nor
+-- both a table and a page
 abbrev pub session_options_in : List (List ℕ) → Option DeskOptions
 session_options_in words =
-    when_some (desk_options_in words) (λ said. only_if (not said.checks.resting_price) said)
+    when_some (desk_options_in words) (λ said.
+    only_if (not (said.checks.resting_price || not (is_table_or_page said))) said)
 
 -- `session PHASES ORDERS TRADES` and options
 abbrev pub desk_session_asked : List (List ℕ) → Option DeskRequest
@@ -83,7 +86,7 @@ desk_session_asked words =
     when_some (session_options_in (drop 4 words)) (λ said.
     when_some (phases_named (nth_word words 1)) (λ phases.
     Some (Session phases (day_logs words 2 said.common) said.common.table said.share
-    said.checks)))
+    said.checks said.page)))
     else None
 
 -- of `offences`, RULE, SYMBOL, and what the words after all others say as options by that rule
@@ -135,12 +138,13 @@ help_asked words =
     when_some (desk_command_named (nth_word words 1)) (λ about. Some (Help (Some about)))
     else None)
 
--- what the words of a command ask for, one row a command; those of `file`, `file-all` and `check`
--- ask for nothing here, since another call reads them (`filing_run`)
+-- what the words of a command ask for, one row a command; those of `page`, `file`, `file-all` and
+-- `check` ask for nothing here, since other calls read them (`page_run`, `filing_run`)
 abbrev pub desk_asked_by : DeskCommand → List (List ℕ) → Option DeskRequest
 desk_asked_by command.Audit words = desk_audit_asked words
 desk_asked_by command.Session words = desk_session_asked words
 desk_asked_by command.Offences words = offences_asked words
+desk_asked_by command.Page words = None
 desk_asked_by command.Digest words = digest_asked words
 desk_asked_by command.File words = None
 desk_asked_by command.FileAll words = None
@@ -159,6 +163,10 @@ is_filing_word word = word_equals word (codes "file") || word_equals word (codes
 -- the first of the words names such a command
 abbrev pub asks_filing : List (List ℕ) → Bool
 asks_filing words = is_filing_word (nth_word words 0)
+
+-- the first of the words is `page` (`page_run`)
+abbrev pub asks_page : List (List ℕ) → Bool
+asks_page words = word_equals (nth_word words 0) (codes "page")
 
 -- what a word asks for that is no command and is the only word: `--help`, as `help`,
 -- and `--version`
@@ -184,8 +192,8 @@ desk_request_of words = asked_by_first (desk_command_named (nth_word words 0)) w
 -- a day, the prices of resting orders only where there are such, a log of numbers in their limits,
 -- and a word of 1 to 5 bytes from 0x21 to 0x7E in the place of SOH
 abbrev pub MayBeAskedOfDesk : DeskRequest → Type 0
-MayBeAskedOfDesk (Audit rule logs table share checks) = IsTrue (table_fits_rule table rule)
-MayBeAskedOfDesk (Session phases logs table share checks) = ArePhases phases
+MayBeAskedOfDesk (Audit rule logs table share checks page) = IsTrue (table_fits_rule table rule)
+MayBeAskedOfDesk (Session phases logs table share checks page) = ArePhases phases
 MayBeAskedOfDesk (Offences rule symbol logs records checks) =
     IsTrue (checks_fit_rule checks rule)
 MayBeAskedOfDesk (Digest orders trades) = Unit {0}

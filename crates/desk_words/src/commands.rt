@@ -11,7 +11,7 @@ use super::dress_words::dress_named;
 use super::further_words::checks_fit_rule;
 use super::log_words::{desk_convert_request, orders_request};
 use super::offence_words::{OffenceOptions, options_under};
-use super::options::{DeskOptions, desk_options_in};
+use super::options::{DeskOptions, desk_options_in, is_table_or_page};
 use super::requests::{DayLogs, DeskRequest};
 use audit_base::faults::NoMemory;
 use audit_base::names::Name;
@@ -28,6 +28,7 @@ pub enum DeskCommand {
     Audit,
     Session,
     Offences,
+    Page,
     Digest,
     File,
     FileAll,
@@ -51,6 +52,9 @@ fn desk_command_named(word: &str) -> Option<DeskCommand>
     }
     if is_word(word, b"offences") {
         return Some(DeskCommand::Offences);
+    }
+    if is_word(word, b"page") {
+        return Some(DeskCommand::Page);
     }
     if is_word(word, b"digest") {
         return Some(DeskCommand::Digest);
@@ -108,6 +112,17 @@ pub fn asks_filing(words: &[String]) -> bool
     }
 }
 
+/// Whether the first of the words is `page`, whose words `read_desk_words` does not take: those of a
+/// call that takes the digests of what it reads.
+pub fn asks_page(words: &[String]) -> bool
+    ensures { result ≡ spec.asks_page (map string_bytes words.now) }
+{
+    match words.first() {
+        Some(first) => is_word(first.as_str(), b"page"),
+        None => false,
+    }
+}
+
 /// ORDERS and TRADES, at a place and after it, with the forms that options give them. Asks for
 /// memory for their texts.
 pub fn day_logs(
@@ -130,7 +145,7 @@ pub fn day_logs(
 }
 
 /// RULE, and what the words after all others say as options, `--table` where the rule has one and
-/// `--resting-price` where it is `continuous`.
+/// no page is asked for, and `--resting-price` where the rule is `continuous`.
 fn rule_and_options(word: &str, option_words: &[String]) -> Option<(Rule, DeskOptions)>
     ensures options { result ≡ spec.rule_and_options word.now (map string_bytes option_words.now) }
     ensures table { IfSome result
@@ -142,6 +157,9 @@ fn rule_and_options(word: &str, option_words: &[String]) -> Option<(Rule, DeskOp
         return None;
     }
     if !checks_fit_rule(said.checks, rule) {
+        return None;
+    }
+    if !is_table_or_page(&said) {
         return None;
     }
     Some((rule, said))
@@ -167,15 +185,17 @@ fn desk_audit_request(alloc: Global, words: &[String]) -> Result<Option<DeskRequ
         table: said.common.table,
         share: said.share,
         checks: said.checks,
+        page: said.page,
     }))
 }
 
-/// What these words say as options of `session`, unless a price of a resting order is asked for.
+/// What these words say as options of `session`, unless a price of a resting order is asked for, or
+/// both a table and a page.
 fn session_options_in(words: &[String]) -> Option<DeskOptions>
     ensures { result ≡ spec.session_options_in (map string_bytes words.now) }
 {
     let said = desk_options_in(words)?;
-    if said.checks.resting_price {
+    if said.checks.resting_price || !is_table_or_page(&said) {
         return None;
     }
     Some(said)
@@ -206,6 +226,7 @@ fn desk_session_request(alloc: Global, words: &[String]) -> Result<Option<DeskRe
         table: said.common.table,
         share: said.share,
         checks: said.checks,
+        page: said.page,
     }))
 }
 
@@ -352,8 +373,8 @@ fn request_without_command(words: &[String]) -> Option<DeskRequest>
     lone_word_request(word_at(words, 0))
 }
 
-/// What the words of a command ask for, one arm a command. Those of `file`, `file-all` and `check`
-/// ask for nothing here.
+/// What the words of a command ask for, one arm a command. Those of `page`, `file`, `file-all` and
+/// `check` ask for nothing here.
 fn desk_request_by(
     alloc: Global,
     command: DeskCommand,
@@ -370,7 +391,9 @@ fn desk_request_by(
         DeskCommand::Session => desk_session_request(alloc, words),
         DeskCommand::Offences => offences_request(alloc, words),
         DeskCommand::Digest => digest_request(alloc, words),
-        DeskCommand::File | DeskCommand::FileAll | DeskCommand::Check => Ok(None),
+        DeskCommand::Page | DeskCommand::File | DeskCommand::FileAll | DeskCommand::Check => Ok(
+            None,
+        ),
         DeskCommand::Orders => Ok(orders_request(words)),
         DeskCommand::Convert => desk_convert_request(alloc, words),
         DeskCommand::Plain => plain_request(alloc, words),

@@ -20,6 +20,8 @@ pub(crate) struct DeskOptions {
     pub(crate) share: Option<Share>,
     /// Which of the further checks are asked for.
     pub(crate) checks: FurtherChecks,
+    /// Whether the text is to be written as a page.
+    pub(crate) page: bool,
 }
 
 /// Nothing is said.
@@ -30,6 +32,7 @@ fn no_desk_options() -> DeskOptions
         common: no_options(),
         share: None,
         checks: FurtherChecks::none(),
+        page: false,
     }
 }
 
@@ -49,19 +52,41 @@ fn with_day_check(word: &str, said: DeskOptions) -> Option<DeskOptions>
     Some(DeskOptions { checks, ..said })
 }
 
+/// Whether the word asks for a page.
+fn is_page_option(word: &str) -> bool
+    ensures { result ≡ spec.is_page_option word.now }
+{
+    is_word(word, b"--page")
+}
+
+/// What is said with `--page` too, unless it was said before.
+fn with_day_page(said: DeskOptions) -> Option<DeskOptions>
+    ensures { result ≡ spec.with_day_page said }
+{
+    if said.page {
+        return None;
+    }
+    Some(DeskOptions { page: true, ..said })
+}
+
 /// Whether the word is an option that has no value.
+#[tactic(auto, unfolding(crate::specs::Options::is_lone_option))]
 fn is_lone_option(word: &str) -> bool
     ensures { result ≡ spec.is_lone_option word.now }
 {
-    is_table_option(word) || is_check_option(word)
+    is_table_option(word) || is_page_option(word) || is_check_option(word)
 }
 
 /// What is said with such an option too, unless it was said before.
+#[tactic(auto, unfolding(crate::specs::Options::with_lone_option))]
 fn with_lone_option(word: &str, said: DeskOptions) -> Option<DeskOptions>
     ensures { result ≡ spec.with_lone_option word.now said }
 {
     if is_table_option(word) {
         return with_day_table(said);
+    }
+    if is_page_option(word) {
+        return with_day_page(said);
     }
     with_day_check(word, said)
 }
@@ -88,6 +113,13 @@ fn with_value_option(word: &str, value: &str, said: DeskOptions) -> Option<DeskO
     }
     let common = with_form_option(word, value, said.common)?;
     Some(DeskOptions { common, ..said })
+}
+
+/// Whether not both a table and a page are asked for.
+pub(crate) fn is_table_or_page(said: &DeskOptions) -> bool
+    ensures { result ≡ spec.is_table_or_page said.now }
+{
+    !(said.common.table && said.page)
 }
 
 /// What these words say as options. There is nothing where a word is no option, a value is

@@ -28,22 +28,25 @@ pub struct DayLogs {
 #[derive(Drop)]
 pub enum DeskRequest {
     /// To judge the trades of each symbol by a rule. A table is asked for only where the rule
-    /// has one, prices of resting orders only where it is `continuous`.
+    /// has one, prices of resting orders only where it is `continuous`, and a page only where no
+    /// table is.
     Audit {
         rule: Rule,
         logs: DayLogs,
         table: bool,
         share: Option<Share>,
         checks: FurtherChecks,
+        page: bool,
     },
     /// To judge the trades of each symbol on a day of 1 to 64 phases. Prices of resting orders are
-    /// not asked for.
+    /// not asked for, and a page only where no table is.
     Session {
         phases: PhaseList,
         logs: DayLogs,
         table: bool,
         share: Option<Share>,
         checks: FurtherChecks,
+        page: bool,
     },
     /// To tell every offence of a symbol under a rule. The prices of resting orders are asked for
     /// only where the rule is `continuous`.
@@ -91,8 +94,9 @@ pub enum DeskRequest {
 /// What the words ask for, one row a command:
 ///
 /// - `audit RULE ORDERS TRADES`, and after them, in any order and each at most once,
-///   `--orders-form FORM`, `--trades-form FORM`, `--share K/N`, `--trade-times`, where the rule has
-///   one `--table`, and where it is `continuous` `--resting-price`;
+///   `--orders-form FORM`, `--trades-form FORM`, `--share K/N`, `--trade-times`, `--page`, where
+///   the rule has one `--table`, but not with `--page`, and where it is `continuous`
+///   `--resting-price`;
 /// - `session PHASES ORDERS TRADES`, and after them the same options but `--resting-price`;
 /// - `offences RULE SYMBOL ORDERS TRADES`, and after them, in any order and each at most once,
 ///   `--orders-form FORM`, `--trades-form FORM`, `--records`, `--trade-times` and, where RULE is
@@ -104,16 +108,16 @@ pub enum DeskRequest {
 /// - `contents ORDERS TRADES`, and after them, in any order and each at most once,
 ///   `--orders-form FORM` and `--trades-form FORM`;
 /// - `help`, which `--help` asks for too, and `help COMMAND`, COMMAND being `audit`, `session`,
-///   `offences`, `digest`, `file`, `file-all`, `check`, `orders`, `convert`, `plain`, `contents` or
-///   `help`;
+///   `offences`, `page`, `digest`, `file`, `file-all`, `check`, `orders`, `convert`, `plain`,
+///   `contents` or `help`;
 /// - `--version`.
 ///
 /// RULE, SYMBOL, FORM, PHASES, START, COUNT and LOG are those of `read_words` of `command_words`.
 /// K/N is two decimal numbers without leading zeros, joined by `/`, where K is from 1 to N, and N at
-/// most 65,536. DAY is a path, and TEXT has 1 to 5 bytes from 0x21 to 0x7E. The words of `file`,
-/// `file-all` and `check` are read by another call (`commands::asks_filing`). `Usage` comes exactly
-/// where the words are not well-formed, and takes no memory. `Memory` comes only where they are,
-/// and there was not enough.
+/// most 65,536. DAY is a path, and TEXT has 1 to 5 bytes from 0x21 to 0x7E. The words of `page`,
+/// `file`, `file-all` and `check` are read by other calls (`commands::asks_page`, `asks_filing`).
+/// `Usage` comes exactly where the words are not well-formed, and takes no memory. `Memory` comes
+/// only where they are, and there was not enough.
 pub fn read_desk_words(alloc: Global, words: &[String]) -> Result<DeskRequest, WordsFault>
     ensures request { IfOk result
         (λ request. spec.desk_request_of (map string_bytes words.now) ≡ Some request) }

@@ -6,7 +6,8 @@ use std::test::Fail;
 #[test]
 fn lines_of_usage_and_version(rt: HostRuntime) {
     let usage = "usage: audit RULE ORDERS TRADES | session PHASES ORDERS TRADES \
-                 | offences RULE SYMBOL ORDERS TRADES | digest ORDERS TRADES \
+                 | offences RULE SYMBOL ORDERS TRADES | page RULE SYMBOL ORDERS TRADES \
+                 | digest ORDERS TRADES \
                  | file DATABASE LABEL RULE SYMBOL ORDERS TRADES \
                  | file-all DATABASE LABEL RULE ORDERS TRADES \
                  | check DATABASE LABEL ORDERS TRADES | orders START COUNT \
@@ -17,7 +18,7 @@ fn lines_of_usage_and_version(rt: HostRuntime) {
 }
 
 /// How the help of each command begins and ends.
-const HELPS: [(DeskCommand, &str, &str); 12] = [
+const HELPS: [(DeskCommand, &str, &str); 13] = [
     (
         DeskCommand::Audit,
         "audit RULE ORDERS TRADES\n",
@@ -32,6 +33,11 @@ const HELPS: [(DeskCommand, &str, &str); 12] = [
         DeskCommand::Offences,
         "offences RULE SYMBOL ORDERS TRADES\n",
         "Example: desk offences continuous Z orders.csv trades.csv --records\n",
+    ),
+    (
+        DeskCommand::Page,
+        "page RULE SYMBOL ORDERS TRADES\n",
+        "Example: desk page uniform Z orders.csv trades.csv >Z.html\n",
     ),
     (
         DeskCommand::Digest,

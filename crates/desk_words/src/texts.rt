@@ -13,6 +13,7 @@ pub fn desk_usage_text() -> &'static [u8]
     b"usage: audit RULE ORDERS TRADES \
       | session PHASES ORDERS TRADES \
       | offences RULE SYMBOL ORDERS TRADES \
+      | page RULE SYMBOL ORDERS TRADES \
       | digest ORDERS TRADES \
       | file DATABASE LABEL RULE SYMBOL ORDERS TRADES \
       | file-all DATABASE LABEL RULE ORDERS TRADES \
@@ -55,6 +56,8 @@ fn audit_help() -> &'static [u8]
                         the record of its bid or of its ask
     --resting-price     rejects it at its first trade with another price than the limit of
                         the order that came first; only with continuous
+    --page              writes all of it as one HTML page, a row for each symbol; not with
+                        --table
     Example: desk audit uniform orders.csv trades.csv --share 1/4
 "
 }
@@ -79,6 +82,8 @@ fn session_help() -> &'static [u8]
                         so on, counted from 1 as they appear; 1 <= K <= N <= 65536
     --trade-times       rejects an accepted symbol at its first trade that is earlier than
                         the record of its bid or of its ask
+    --page              writes all of it as one HTML page, a row for each symbol; not with
+                        --table
     Example: desk session uniform@1,continuous@5001 orders.csv trades.csv
 "
 }
@@ -103,6 +108,25 @@ fn offences_help() -> &'static [u8]
     --trade-times       where the rule accepts: tells each trade that is earlier than
                         the record of one of its orders
     Example: desk offences continuous Z orders.csv trades.csv --records
+"
+}
+
+/// What `page` does.
+#[tactic(auto, unfolding(crate::specs::Texts::page_help))]
+fn page_help() -> &'static [u8]
+    ensures { result.now ≡ text.page_help }
+{
+    b"page RULE SYMBOL ORDERS TRADES
+    Judges the trades of one symbol by a rule, and writes the verdict as one HTML page:
+    the answer, what shows it, the picture of the rule, how to see it again, and the
+    SHA-256 digest of each log.
+    RULE                matching, fair, uniform, maximum or continuous
+    SYMBOL              the symbol, as the logs have it
+    ORDERS              the path of the order log
+    TRADES              the path of the trade log
+    --orders-form FORM  the form of the order log: csv, as without it, or fix
+    --trades-form FORM  the form of the trade log: csv, as without it, or fix
+    Example: desk page uniform Z orders.csv trades.csv >Z.html
 "
 }
 
@@ -255,9 +279,9 @@ fn help_help() -> &'static [u8]
 {
     b"help [COMMAND]
     Writes what each command does, or what COMMAND does: audit, session, offences,
-    digest, file, file-all, check, orders, convert, plain, contents or help. --help
-    alone does as help, and --version writes the version of the program and the kit
-    that it is proved with.
+    page, digest, file, file-all, check, orders, convert, plain, contents or help.
+    --help alone does as help, and --version writes the version of the program and the
+    kit that it is proved with.
     Example: desk help audit
 "
 }
@@ -270,6 +294,7 @@ fn command_help(command: DeskCommand) -> &'static [u8]
         DeskCommand::Audit => audit_help(),
         DeskCommand::Session => session_help(),
         DeskCommand::Offences => offences_help(),
+        DeskCommand::Page => page_help(),
         DeskCommand::Digest => digest_help(),
         DeskCommand::File => file_help(),
         DeskCommand::FileAll => file_all_help(),
@@ -293,13 +318,14 @@ fn append_after_empty_line(text: &[u8], out: &mut Vec<u8>) -> Result<(), NoMemor
 }
 
 /// Appends what each command about logs and cases does, with an empty line between two.
-#[tactic(auto, using(crate::proofs::TextLemmas::seven_texts))]
+#[tactic(auto, using(crate::proofs::TextLemmas::eight_texts))]
 fn append_judging_help(out: &mut Vec<u8>) -> Result<(), NoMemory>
     ensures { OnOk result (out.new.items ≡ out.old.items ++ text.judging_help) }
 {
     out.extend_from_slice(audit_help())?;
     append_after_empty_line(session_help(), out)?;
     append_after_empty_line(offences_help(), out)?;
+    append_after_empty_line(page_help(), out)?;
     append_after_empty_line(digest_help(), out)?;
     append_after_empty_line(file_help(), out)?;
     append_after_empty_line(file_all_help(), out)?;

@@ -1,14 +1,11 @@
-//! Words that are well-formed, with what they ask for, and words that are not.
+//! Lines of words that are well-formed, each with the command that it asks for, and lines that are
+//! not. What a line asks for of its command is a clause of `read_desk_words`, and tried of one line.
 use crate::commands::DeskCommand;
-use crate::dress_words::DayDress;
 use crate::requests::{DayLogs, DeskRequest, read_desk_words};
 use audit_base::faults::NoMemory;
-use audit_base::terms::{Form, Rule, Which};
-use command_words::paths::PathText;
+use audit_base::terms::{Form, Rule};
 use command_words::requests::WordsFault;
 use day_symbols::shares::Share;
-use further_checks::findings::FurtherChecks;
-use session_audit::phases::Phase;
 use std::alloc::Global;
 use std::test::Fail;
 
@@ -49,684 +46,147 @@ fn check_row(alloc: Global, line: &str, holds: bool) -> Result<(), RowFault> {
     Err(difference(alloc, line)?)
 }
 
-/// A line that asks for a day of the logs `o` and `t`.
-struct DayRow {
-    line: &'static str,
-    orders_form: Form,
-    trades_form: Form,
-    table: bool,
-    share: Option<(u32, u32)>,
-}
-
-impl DayRow {
-    /// Whether this is the share of the row.
-    fn has_share(&self, share: Option<Share>) -> bool {
-        match (self.share, share) {
-            (None, None) => true,
-            (Some((number, count)), Some(share)) => Share::of(number, count) == Some(share),
-            _ => false,
-        }
-    }
-
-    /// Whether these are the logs of the row.
-    fn has_logs(&self, logs: &DayLogs) -> bool {
-        logs.orders.as_str() == "o"
-            && logs.trades.as_str() == "t"
-            && logs.orders_form == self.orders_form
-            && logs.trades_form == self.trades_form
-    }
-
-    /// Whether this is what the row asks for of its logs.
-    fn has(&self, logs: &DayLogs, table: bool, share: Option<Share>) -> bool {
-        self.has_logs(logs) && table == self.table && self.has_share(share)
+/// The command that is asked for; none where that is the version of the program.
+fn command_of(request: &DeskRequest) -> Option<DeskCommand> {
+    match request {
+        DeskRequest::Audit { .. } => Some(DeskCommand::Audit),
+        DeskRequest::Session { .. } => Some(DeskCommand::Session),
+        DeskRequest::Offences { .. } => Some(DeskCommand::Offences),
+        DeskRequest::Digest { .. } => Some(DeskCommand::Digest),
+        DeskRequest::Orders { .. } => Some(DeskCommand::Orders),
+        DeskRequest::Convert { .. } => Some(DeskCommand::Convert),
+        DeskRequest::Plain { .. } => Some(DeskCommand::Plain),
+        DeskRequest::Contents { .. } => Some(DeskCommand::Contents),
+        DeskRequest::Help(_) => Some(DeskCommand::Help),
+        DeskRequest::Version => None,
     }
 }
 
-/// Lines that ask for an audit by `uniform`.
-const AUDITS: [DayRow; 6] = [
-    DayRow {
-        line: "audit uniform o t",
-        orders_form: Form::Csv,
-        trades_form: Form::Csv,
-        table: false,
-        share: None,
-    },
-    DayRow {
-        line: "audit uniform o t --table",
-        orders_form: Form::Csv,
-        trades_form: Form::Csv,
-        table: true,
-        share: None,
-    },
-    DayRow {
-        line: "audit uniform o t --share 1/65536 --trades-form fix",
-        orders_form: Form::Csv,
-        trades_form: Form::Fix,
-        table: false,
-        share: Some((1, 65_536)),
-    },
-    DayRow {
-        line: "audit uniform o t --share 65536/65536",
-        orders_form: Form::Csv,
-        trades_form: Form::Csv,
-        table: false,
-        share: Some((65_536, 65_536)),
-    },
-    DayRow {
-        line: "audit uniform o t --table --share 2/3 --orders-form fix --trades-form csv",
-        orders_form: Form::Fix,
-        trades_form: Form::Csv,
-        table: true,
-        share: Some((2, 3)),
-    },
-    DayRow {
-        line: "audit uniform o t --trades-form fix --share 1/1 --table --orders-form fix",
-        orders_form: Form::Fix,
-        trades_form: Form::Fix,
-        table: true,
-        share: Some((1, 1)),
-    },
-];
-
-/// Lines that ask for a day of two phases, the second from the fifth place on.
-const SESSIONS: [DayRow; 2] = [
-    DayRow {
-        line: "session uniform@1,continuous@5 o t",
-        orders_form: Form::Csv,
-        trades_form: Form::Csv,
-        table: false,
-        share: None,
-    },
-    DayRow {
-        line: "session uniform@1,continuous@5 o t --share 10/10 --table --orders-form fix",
-        orders_form: Form::Fix,
-        trades_form: Form::Csv,
-        table: true,
-        share: Some((10, 10)),
-    },
-];
-
-/// Whether this asks for an audit by `uniform`, and for what the row says.
-fn is_audit_of(row: &DayRow, asked: &Result<DeskRequest, WordsFault>) -> bool {
-    match asked {
-        Ok(
-            DeskRequest::Audit {
-                rule,
-                logs,
-                table,
-                share,
-                ..
-            },
-        ) => *rule == Rule::Uniform && row.has(logs, *table, *share),
-        _ => false,
-    }
-}
-
-fn check_audits(alloc: Global, rows: &[DayRow]) -> Result<(), RowFault> {
-    for row in rows {
-        let words = words_of(alloc, row.line)?;
-        let asked = read_desk_words(alloc, &words);
-        check_row(alloc, row.line, is_audit_of(row, &asked))?;
-    }
-    Ok(())
-}
-
-/// Whether these are two phases, the second from the fifth place on.
-fn are_two_phases(phases: &[Phase]) -> bool {
-    match phases {
-        [first, second] => first.first == 1 && second.first == 5,
-        _ => false,
-    }
-}
-
-/// Whether this asks for a day of two such phases, and for what the row says.
-fn is_session_of(row: &DayRow, asked: &Result<DeskRequest, WordsFault>) -> bool {
-    match asked {
-        Ok(
-            DeskRequest::Session {
-                phases,
-                logs,
-                table,
-                share,
-                ..
-            },
-        ) => are_two_phases(phases.as_slice()) && row.has(logs, *table, *share),
-        _ => false,
-    }
-}
-
-fn check_sessions(alloc: Global, rows: &[DayRow]) -> Result<(), RowFault> {
-    for row in rows {
-        let words = words_of(alloc, row.line)?;
-        let asked = read_desk_words(alloc, &words);
-        check_row(alloc, row.line, is_session_of(row, &asked))?;
-    }
-    Ok(())
-}
-
-/// The rules by their words, and whether they have a table.
-const RULES: [(&str, Rule, bool); 5] = [
-    ("audit matching o t", Rule::Matching, false),
-    ("audit fair o t", Rule::Fair, false),
-    ("audit uniform o t --table", Rule::Uniform, true),
-    ("audit maximum o t --table", Rule::Maximum, true),
-    ("audit continuous o t --table", Rule::Continuous, true),
-];
-
-fn check_rules(alloc: Global, rows: &[(&str, Rule, bool)]) -> Result<(), RowFault> {
-    for &(line, wanted, with_table) in rows {
-        let words = words_of(alloc, line)?;
-        let holds = match read_desk_words(alloc, &words) {
-            Ok(DeskRequest::Audit { rule, table, .. }) => rule == wanted && table == with_table,
-            _ => false,
-        };
-        check_row(alloc, line, holds)?;
-    }
-    Ok(())
-}
-
-/// A line that asks for the offences of the symbol `Z` in the logs `o` and `t`.
-struct OffenceRow {
-    line: &'static str,
-    rule: Rule,
-    orders_form: Form,
-    trades_form: Form,
-    records: bool,
-    resting_price: bool,
-    trade_times: bool,
-}
-
-impl OffenceRow {
-    /// Whether these are the logs of the row.
-    fn has_logs(&self, logs: &DayLogs) -> bool {
-        logs.orders.as_str() == "o"
-            && logs.trades.as_str() == "t"
-            && logs.orders_form == self.orders_form
-            && logs.trades_form == self.trades_form
-    }
-
-    /// Whether this is what the row asks for beside the trades.
-    fn asks(&self, records: bool, checks: FurtherChecks) -> bool {
-        records == self.records
-            && checks.resting_price == self.resting_price
-            && checks.trade_times == self.trade_times
-    }
-}
-
-const OFFENCES: [OffenceRow; 8] = [
-    OffenceRow {
-        line: "offences matching Z o t",
-        rule: Rule::Matching,
-        orders_form: Form::Csv,
-        trades_form: Form::Csv,
-        records: false,
-        resting_price: false,
-        trade_times: false,
-    },
-    OffenceRow {
-        line: "offences fair Z o t --records",
-        rule: Rule::Fair,
-        orders_form: Form::Csv,
-        trades_form: Form::Csv,
-        records: true,
-        resting_price: false,
-        trade_times: false,
-    },
-    OffenceRow {
-        line: "offences uniform Z o t --trade-times --trades-form fix",
-        rule: Rule::Uniform,
-        orders_form: Form::Csv,
-        trades_form: Form::Fix,
-        records: false,
-        resting_price: false,
-        trade_times: true,
-    },
-    OffenceRow {
-        line: "offences maximum Z o t --orders-form fix --records --trade-times",
-        rule: Rule::Maximum,
-        orders_form: Form::Fix,
-        trades_form: Form::Csv,
-        records: true,
-        resting_price: false,
-        trade_times: true,
-    },
-    OffenceRow {
-        line: "offences continuous Z o t",
-        rule: Rule::Continuous,
-        orders_form: Form::Csv,
-        trades_form: Form::Csv,
-        records: false,
-        resting_price: false,
-        trade_times: false,
-    },
-    OffenceRow {
-        line: "offences continuous Z o t --resting-price",
-        rule: Rule::Continuous,
-        orders_form: Form::Csv,
-        trades_form: Form::Csv,
-        records: false,
-        resting_price: true,
-        trade_times: false,
-    },
-    OffenceRow {
-        line: "offences continuous Z o t --trade-times --trades-form fix --resting-price \
-               --orders-form fix --records",
-        rule: Rule::Continuous,
-        orders_form: Form::Fix,
-        trades_form: Form::Fix,
-        records: true,
-        resting_price: true,
-        trade_times: true,
-    },
-    OffenceRow {
-        line: "offences continuous Z o t --records --orders-form csv --trade-times",
-        rule: Rule::Continuous,
-        orders_form: Form::Csv,
-        trades_form: Form::Csv,
-        records: true,
-        resting_price: false,
-        trade_times: true,
-    },
-];
-
-/// Whether the offences of the row are asked for.
-fn are_offences_of(row: &OffenceRow, asked: &Result<DeskRequest, WordsFault>) -> bool {
-    match asked {
-        Ok(
-            DeskRequest::Offences {
-                rule,
-                symbol,
-                logs,
-                records,
-                checks,
-            },
-        ) => {
-            *rule == row.rule
-                && symbol.bytes() == b"Z".as_slice()
-                && row.has_logs(logs)
-                && row.asks(*records, *checks)
-        }
-        _ => false,
-    }
-}
-
-fn check_offences(alloc: Global, rows: &[OffenceRow]) -> Result<(), RowFault> {
-    for row in rows {
-        let words = words_of(alloc, row.line)?;
-        let asked = read_desk_words(alloc, &words);
-        check_row(alloc, row.line, are_offences_of(row, &asked))?;
-    }
-    Ok(())
-}
-
-/// Lines that ask for a day of a rule or of phases: whether they ask for the prices of resting
-/// orders, and whether for the times of trades.
-const CHECKS: [(&str, bool, bool); 7] = [
-    ("audit continuous o t", false, false),
-    ("audit continuous o t --resting-price", true, false),
-    ("audit continuous o t --trade-times", false, true),
+/// Lines that are well-formed, by the command that they ask for.
+const WELL_FORMED: [(DeskCommand, &str); 70] = [
+    (DeskCommand::Audit, "audit matching o t"),
+    (DeskCommand::Audit, "audit fair o t"),
+    (DeskCommand::Audit, "audit uniform o t --table"),
+    (DeskCommand::Audit, "audit maximum o t --table"),
+    (DeskCommand::Audit, "audit continuous o t --table"),
+    (DeskCommand::Audit, "audit continuous o t"),
+    (DeskCommand::Audit, "audit continuous o t --resting-price"),
+    (DeskCommand::Audit, "audit continuous o t --trade-times"),
     (
+        DeskCommand::Audit,
         "audit continuous o t --trade-times --table --resting-price",
-        true,
-        true,
     ),
-    ("audit fair o t --share 1/2 --trade-times", false, true),
-    ("session uniform@1 o t", false, false),
     (
-        "session uniform@1 o t --trade-times --trades-form fix",
-        false,
-        true,
+        DeskCommand::Audit,
+        "audit fair o t --share 1/2 --trade-times",
     ),
+    (DeskCommand::Audit, "audit uniform o t"),
+    (
+        DeskCommand::Audit,
+        "audit uniform o t --share 1/65536 --trades-form fix",
+    ),
+    (DeskCommand::Audit, "audit uniform o t --share 65536/65536"),
+    (
+        DeskCommand::Audit,
+        "audit uniform o t --table --share 2/3 --orders-form fix --trades-form csv",
+    ),
+    (
+        DeskCommand::Audit,
+        "audit uniform o t --trades-form fix --share 1/1 --table --orders-form fix",
+    ),
+    (DeskCommand::Audit, "audit fair o t --page"),
+    (
+        DeskCommand::Audit,
+        "audit uniform o t --page --share 1/2 --trade-times --orders-form fix",
+    ),
+    (DeskCommand::Session, "session uniform@1 o t"),
+    (
+        DeskCommand::Session,
+        "session uniform@1 o t --trade-times --trades-form fix",
+    ),
+    (DeskCommand::Session, "session uniform@1,continuous@5 o t"),
+    (
+        DeskCommand::Session,
+        "session uniform@1,continuous@5 o t --share 10/10 --table --orders-form fix",
+    ),
+    (
+        DeskCommand::Session,
+        "session uniform@1 o t --share 1/2 --page",
+    ),
+    (DeskCommand::Offences, "offences matching Z o t"),
+    (DeskCommand::Offences, "offences fair Z o t --records"),
+    (
+        DeskCommand::Offences,
+        "offences uniform Z o t --trade-times --trades-form fix",
+    ),
+    (
+        DeskCommand::Offences,
+        "offences maximum Z o t --orders-form fix --records --trade-times",
+    ),
+    (DeskCommand::Offences, "offences continuous Z o t"),
+    (
+        DeskCommand::Offences,
+        "offences continuous Z o t --resting-price",
+    ),
+    (
+        DeskCommand::Offences,
+        "offences continuous Z o t --records --orders-form csv --trade-times",
+    ),
+    (DeskCommand::Digest, "digest o t"),
+    (DeskCommand::Digest, "digest help ./-t"),
+    (DeskCommand::Digest, "digest o o"),
+    (DeskCommand::Orders, "orders 7 4"),
+    (DeskCommand::Orders, "orders 1 1 --form csv"),
+    (DeskCommand::Orders, "orders 7 1000 --form fix"),
+    (DeskCommand::Orders, "orders 2147483646 1000000"),
+    (DeskCommand::Orders, "orders 0000000007 0000000004"),
+    (DeskCommand::Convert, "convert orders csv p fix"),
+    (DeskCommand::Convert, "convert orders fix p csv"),
+    (DeskCommand::Convert, "convert orders csv p csv"),
+    (DeskCommand::Convert, "convert trades csv p fix"),
+    (DeskCommand::Convert, "convert trades fix p fix"),
+    (DeskCommand::Plain, "plain d"),
+    (DeskCommand::Plain, "plain d --lines"),
+    (DeskCommand::Plain, "plain d --lines --soh |"),
+    (DeskCommand::Plain, "plain d --soh ^A --lines"),
+    (DeskCommand::Plain, "plain d --lines --soh <SOH>"),
+    (DeskCommand::Plain, "plain d --lines --soh \\x01"),
+    (DeskCommand::Plain, "plain d --lines --soh !~"),
+    (DeskCommand::Plain, "plain d --lines --soh --soh"),
+    (DeskCommand::Plain, "plain d --soh --soh --lines"),
+    (DeskCommand::Contents, "contents o t"),
+    (DeskCommand::Contents, "contents o t --trades-form fix"),
+    (
+        DeskCommand::Contents,
+        "contents o t --orders-form fix --trades-form csv",
+    ),
+    (
+        DeskCommand::Contents,
+        "contents o t --trades-form fix --orders-form fix",
+    ),
+    (DeskCommand::Help, "help"),
+    (DeskCommand::Help, "--help"),
+    (DeskCommand::Help, "help audit"),
+    (DeskCommand::Help, "help session"),
+    (DeskCommand::Help, "help offences"),
+    (DeskCommand::Help, "help page"),
+    (DeskCommand::Help, "help digest"),
+    (DeskCommand::Help, "help file"),
+    (DeskCommand::Help, "help file-all"),
+    (DeskCommand::Help, "help check"),
+    (DeskCommand::Help, "help orders"),
+    (DeskCommand::Help, "help convert"),
+    (DeskCommand::Help, "help plain"),
+    (DeskCommand::Help, "help contents"),
+    (DeskCommand::Help, "help help"),
 ];
 
-fn check_checks(alloc: Global, rows: &[(&str, bool, bool)]) -> Result<(), RowFault> {
-    for &(line, resting_price, trade_times) in rows {
-        let words = words_of(alloc, line)?;
-        let wanted = FurtherChecks {
-            resting_price,
-            trade_times,
-        };
-        let holds = match read_desk_words(alloc, &words) {
-            Ok(DeskRequest::Audit { checks, .. }) => checks == wanted,
-            Ok(DeskRequest::Session { checks, .. }) => checks == wanted,
-            _ => false,
-        };
-        check_row(alloc, line, holds)?;
-    }
-    Ok(())
-}
-
-/// A line that asks for the digests of two logs.
-struct DigestRow {
-    line: &'static str,
-    orders: &'static str,
-    trades: &'static str,
-}
-
-impl DigestRow {
-    /// Whether these are the logs of the row.
-    fn has(&self, orders: &PathText, trades: &PathText) -> bool {
-        orders.as_str() == self.orders && trades.as_str() == self.trades
-    }
-}
-
-/// Lines that ask for digests, and of which logs.
-const DIGESTS: [DigestRow; 3] = [
-    DigestRow {
-        line: "digest o t",
-        orders: "o",
-        trades: "t",
-    },
-    DigestRow {
-        line: "digest help ./-t",
-        orders: "help",
-        trades: "./-t",
-    },
-    DigestRow {
-        line: "digest o o",
-        orders: "o",
-        trades: "o",
-    },
-];
-
-/// Whether the digests of the row's logs are asked for.
-fn is_digest_of(row: &DigestRow, asked: &Result<DeskRequest, WordsFault>) -> bool {
-    match asked {
-        Ok(DeskRequest::Digest { orders, trades }) => row.has(orders, trades),
-        _ => false,
-    }
-}
-
-fn check_digests(alloc: Global, rows: &[DigestRow]) -> Result<(), RowFault> {
-    for row in rows {
-        let words = words_of(alloc, row.line)?;
-        let asked = read_desk_words(alloc, &words);
-        check_row(alloc, row.line, is_digest_of(row, &asked))?;
-    }
-    Ok(())
-}
-
-/// A line that asks for a generated log.
-struct GeneratedRow {
-    line: &'static str,
-    start: u32,
-    count: u32,
-    form: Form,
-}
-
-const GENERATED: [GeneratedRow; 5] = [
-    GeneratedRow {
-        line: "orders 7 4",
-        start: 7,
-        count: 4,
-        form: Form::Csv,
-    },
-    GeneratedRow {
-        line: "orders 1 1 --form csv",
-        start: 1,
-        count: 1,
-        form: Form::Csv,
-    },
-    GeneratedRow {
-        line: "orders 7 1000 --form fix",
-        start: 7,
-        count: 1000,
-        form: Form::Fix,
-    },
-    GeneratedRow {
-        line: "orders 2147483646 1000000",
-        start: 2_147_483_646,
-        count: 1_000_000,
-        form: Form::Csv,
-    },
-    GeneratedRow {
-        line: "orders 0000000007 0000000004",
-        start: 7,
-        count: 4,
-        form: Form::Csv,
-    },
-];
-
-/// Whether the generated log of the row is asked for.
-fn is_generated_of(row: &GeneratedRow, asked: &Result<DeskRequest, WordsFault>) -> bool {
-    match asked {
-        Ok(DeskRequest::Orders { start, count, form }) => {
-            *start == row.start && *count == row.count && *form == row.form
-        }
-        _ => false,
-    }
-}
-
-fn check_generated(alloc: Global, rows: &[GeneratedRow]) -> Result<(), RowFault> {
-    for row in rows {
-        let words = words_of(alloc, row.line)?;
-        let asked = read_desk_words(alloc, &words);
-        check_row(alloc, row.line, is_generated_of(row, &asked))?;
-    }
-    Ok(())
-}
-
-/// A line that asks for the records of the log `p` in another form.
-struct ConvertRow {
-    line: &'static str,
-    log: Which,
-    from: Form,
-    into: Form,
-}
-
-const CONVERTS: [ConvertRow; 5] = [
-    ConvertRow {
-        line: "convert orders csv p fix",
-        log: Which::Orders,
-        from: Form::Csv,
-        into: Form::Fix,
-    },
-    ConvertRow {
-        line: "convert orders fix p csv",
-        log: Which::Orders,
-        from: Form::Fix,
-        into: Form::Csv,
-    },
-    ConvertRow {
-        line: "convert orders csv p csv",
-        log: Which::Orders,
-        from: Form::Csv,
-        into: Form::Csv,
-    },
-    ConvertRow {
-        line: "convert trades csv p fix",
-        log: Which::Trades,
-        from: Form::Csv,
-        into: Form::Fix,
-    },
-    ConvertRow {
-        line: "convert trades fix p fix",
-        log: Which::Trades,
-        from: Form::Fix,
-        into: Form::Fix,
-    },
-];
-
-/// Whether the conversion of the row is asked for.
-fn is_convert_of(row: &ConvertRow, asked: &Result<DeskRequest, WordsFault>) -> bool {
-    match asked {
-        Ok(
-            DeskRequest::Convert {
-                log,
-                from,
-                path,
-                into,
-            },
-        ) => { *log == row.log && *from == row.from && *into == row.into && path.as_str() == "p" }
-        _ => false,
-    }
-}
-
-fn check_converts(alloc: Global, rows: &[ConvertRow]) -> Result<(), RowFault> {
-    for row in rows {
-        let words = words_of(alloc, row.line)?;
-        let asked = read_desk_words(alloc, &words);
-        check_row(alloc, row.line, is_convert_of(row, &asked))?;
-    }
-    Ok(())
-}
-
-/// How the day of a row is dressed: framed, or on lines with a text for SOH or none.
-enum RowDress {
-    Framed,
-    OnLines(Option<&'static str>),
-}
-
-impl RowDress {
-    /// Whether this is the dress of the row.
-    fn is(&self, dress: &DayDress) -> bool {
-        match (self, dress) {
-            (RowDress::Framed, DayDress::Framed) => true,
-            (RowDress::OnLines(None), DayDress::OnLines(None)) => true,
-            (RowDress::OnLines(Some(text)), DayDress::OnLines(Some(word))) => {
-                word.as_bytes() == text.as_bytes()
-            }
-            _ => false,
-        }
-    }
-}
-
-/// A line that asks for the plain log of the day `d`, and how that is dressed.
-struct PlainRow {
-    line: &'static str,
-    dress: RowDress,
-}
-
-const PLAINS: [PlainRow; 9] = [
-    PlainRow {
-        line: "plain d",
-        dress: RowDress::Framed,
-    },
-    PlainRow {
-        line: "plain d --lines",
-        dress: RowDress::OnLines(None),
-    },
-    PlainRow {
-        line: "plain d --lines --soh |",
-        dress: RowDress::OnLines(Some("|")),
-    },
-    PlainRow {
-        line: "plain d --soh ^A --lines",
-        dress: RowDress::OnLines(Some("^A")),
-    },
-    PlainRow {
-        line: "plain d --lines --soh <SOH>",
-        dress: RowDress::OnLines(Some("<SOH>")),
-    },
-    PlainRow {
-        line: "plain d --lines --soh \\x01",
-        dress: RowDress::OnLines(Some("\\x01")),
-    },
-    PlainRow {
-        line: "plain d --lines --soh !~",
-        dress: RowDress::OnLines(Some("!~")),
-    },
-    // The value of an option is the next word, whatever it is.
-    PlainRow {
-        line: "plain d --lines --soh --soh",
-        dress: RowDress::OnLines(Some("--soh")),
-    },
-    PlainRow {
-        line: "plain d --soh --soh --lines",
-        dress: RowDress::OnLines(Some("--soh")),
-    },
-];
-
-/// Whether the plain log of the row's day is asked for.
-fn is_plain_of(row: &PlainRow, asked: &Result<DeskRequest, WordsFault>) -> bool {
-    match asked {
-        Ok(DeskRequest::Plain { day, dress }) => day.as_str() == "d" && row.dress.is(dress),
-        _ => false,
-    }
-}
-
-fn check_plains(alloc: Global, rows: &[PlainRow]) -> Result<(), RowFault> {
-    for row in rows {
-        let words = words_of(alloc, row.line)?;
-        let asked = read_desk_words(alloc, &words);
-        check_row(alloc, row.line, is_plain_of(row, &asked))?;
-    }
-    Ok(())
-}
-
-/// Lines that ask for the contents of two logs.
-const CONTENTS: [DayRow; 4] = [
-    DayRow {
-        line: "contents o t",
-        orders_form: Form::Csv,
-        trades_form: Form::Csv,
-        table: false,
-        share: None,
-    },
-    DayRow {
-        line: "contents o t --trades-form fix",
-        orders_form: Form::Csv,
-        trades_form: Form::Fix,
-        table: false,
-        share: None,
-    },
-    DayRow {
-        line: "contents o t --orders-form fix --trades-form csv",
-        orders_form: Form::Fix,
-        trades_form: Form::Csv,
-        table: false,
-        share: None,
-    },
-    DayRow {
-        line: "contents o t --trades-form fix --orders-form fix",
-        orders_form: Form::Fix,
-        trades_form: Form::Fix,
-        table: false,
-        share: None,
-    },
-];
-
-/// Whether the contents of the row's logs are asked for.
-fn are_contents_of(row: &DayRow, asked: &Result<DeskRequest, WordsFault>) -> bool {
-    match asked {
-        Ok(DeskRequest::Contents { logs }) => row.has_logs(logs),
-        _ => false,
-    }
-}
-
-fn check_contents(alloc: Global, rows: &[DayRow]) -> Result<(), RowFault> {
-    for row in rows {
-        let words = words_of(alloc, row.line)?;
-        let asked = read_desk_words(alloc, &words);
-        check_row(alloc, row.line, are_contents_of(row, &asked))?;
-    }
-    Ok(())
-}
-
-/// Lines that ask for help, and of which command.
-const HELPS: [(&str, Option<DeskCommand>); 14] = [
-    ("help", None),
-    ("--help", None),
-    ("help audit", Some(DeskCommand::Audit)),
-    ("help session", Some(DeskCommand::Session)),
-    ("help offences", Some(DeskCommand::Offences)),
-    ("help digest", Some(DeskCommand::Digest)),
-    ("help file", Some(DeskCommand::File)),
-    ("help file-all", Some(DeskCommand::FileAll)),
-    ("help check", Some(DeskCommand::Check)),
-    ("help orders", Some(DeskCommand::Orders)),
-    ("help convert", Some(DeskCommand::Convert)),
-    ("help plain", Some(DeskCommand::Plain)),
-    ("help contents", Some(DeskCommand::Contents)),
-    ("help help", Some(DeskCommand::Help)),
-];
-
-fn check_helps(alloc: Global, rows: &[(&str, Option<DeskCommand>)]) -> Result<(), RowFault> {
-    for &(line, wanted) in rows {
+fn check_asked(alloc: Global, rows: &[(DeskCommand, &str)]) -> Result<(), RowFault> {
+    for &(command, line) in rows {
         let words = words_of(alloc, line)?;
         let holds = match read_desk_words(alloc, &words) {
-            Ok(DeskRequest::Help(about)) => about == wanted,
-            _ => false,
+            Ok(request) => command_of(&request) == Some(command),
+            Err(_) => false,
         };
         check_row(alloc, line, holds)?;
     }
@@ -756,7 +216,7 @@ const OTHER_WORDS: [&str; 18] = [
 ];
 
 /// Lines of `audit` whose rule, paths or options are wrong.
-const AUDIT_WORDS: [&str; 30] = [
+const AUDIT_WORDS: [&str; 32] = [
     "audit",
     "audit uniform",
     "audit uniform o",
@@ -780,7 +240,9 @@ const AUDIT_WORDS: [&str; 30] = [
     "audit uniform o t --share 1/2 --table --share 2/2",
     "audit uniform o --table t",
     "audit --table uniform o t",
-    "audit uniform o t --page",
+    "audit uniform o t --page --page",
+    "audit uniform o t --table --page",
+    "audit continuous o t --page --share 1/2 --table",
     "audit maximum o t --resting-price",
     "audit continuous o t --trade-times --trade-times",
     "audit continuous o t --resting-price --resting-price",
@@ -818,7 +280,7 @@ const SHARE_WORDS: [&str; 24] = [
 ];
 
 /// Lines of `session` whose phases, paths or options are wrong.
-const SESSION_WORDS: [&str; 14] = [
+const SESSION_WORDS: [&str; 15] = [
     "session",
     "session uniform@1",
     "session uniform@1 o",
@@ -832,7 +294,8 @@ const SESSION_WORDS: [&str; 14] = [
     "session uniform@1 o t --table --table",
     "session uniform@1 o t --share 3/2",
     "session uniform@1 o t --resting-price",
-    "session uniform@1 o t --page",
+    "session uniform@1 o t --page --table",
+    "session uniform@1 o t --page yes",
 ];
 
 /// Lines of `offences` whose rule, symbol, paths or options are wrong.
@@ -963,59 +426,51 @@ fn check_usage(alloc: Global, lines: &[&str]) -> Result<(), RowFault> {
 }
 
 #[test]
-fn audits_of_a_day(rt: HostRuntime) -> Result<(), Fail> {
-    check_audits(rt.alloc(), &AUDITS)?;
-    check_checks(rt.alloc(), &CHECKS)?;
-    Ok(check_rules(rt.alloc(), &RULES)?)
-}
-
-#[test]
-fn days_of_phases(rt: HostRuntime) -> Result<(), Fail> {
-    Ok(check_sessions(rt.alloc(), &SESSIONS)?)
-}
-
-#[test]
-fn offences_of_a_symbol(rt: HostRuntime) -> Result<(), Fail> {
-    check_offences(rt.alloc(), &OFFENCES)?;
-    Ok(check_usage(rt.alloc(), &OFFENCE_WORDS)?)
-}
-
-#[test]
-fn digests_of_two_logs(rt: HostRuntime) -> Result<(), Fail> {
-    check_digests(rt.alloc(), &DIGESTS)?;
-    Ok(check_usage(rt.alloc(), &DIGEST_WORDS)?)
-}
-
-#[test]
-fn generated_logs(rt: HostRuntime) -> Result<(), Fail> {
-    check_generated(rt.alloc(), &GENERATED)?;
-    Ok(check_usage(rt.alloc(), &ORDERS_WORDS)?)
-}
-
-#[test]
-fn logs_in_another_form(rt: HostRuntime) -> Result<(), Fail> {
-    check_converts(rt.alloc(), &CONVERTS)?;
-    Ok(check_usage(rt.alloc(), &CONVERT_WORDS)?)
-}
-
-#[test]
-fn plain_logs_of_days(rt: HostRuntime) -> Result<(), Fail> {
-    check_plains(rt.alloc(), &PLAINS)?;
-    Ok(check_usage(rt.alloc(), &PLAIN_WORDS)?)
-}
-
-#[test]
-fn contents_of_two_logs(rt: HostRuntime) -> Result<(), Fail> {
-    check_contents(rt.alloc(), &CONTENTS)?;
-    Ok(check_usage(rt.alloc(), &CONTENTS_WORDS)?)
-}
-
-#[test]
-fn help_and_version(rt: HostRuntime) -> Result<(), Fail> {
-    check_helps(rt.alloc(), &HELPS)?;
+fn lines_that_are_well_formed(rt: HostRuntime) -> Result<(), Fail> {
+    check_asked(rt.alloc(), &WELL_FORMED)?;
     let words = words_of(rt.alloc(), "--version")?;
     let asked = read_desk_words(rt.alloc(), &words);
     assert!(rt; matches!(&asked, Ok(DeskRequest::Version)));
+    Ok(())
+}
+
+/// Whether these are the logs `o`, which is CSV, and `t`, which is FIX.
+fn are_logs_of_two_forms(logs: &DayLogs) -> bool {
+    logs.orders.as_str() == "o"
+        && logs.trades.as_str() == "t"
+        && logs.orders_form == Form::Csv
+        && logs.trades_form == Form::Fix
+}
+
+/// Whether a page of a second share of three is asked for, with the times of trades.
+fn is_page_of_a_share(asked: &Result<DeskRequest, WordsFault>) -> bool {
+    match asked {
+        Ok(
+            DeskRequest::Audit {
+                rule,
+                logs,
+                table,
+                share,
+                checks,
+                page,
+            },
+        ) => {
+            *rule == Rule::Continuous
+                && are_logs_of_two_forms(logs)
+                && *share == Share::of(2, 3)
+                && checks.trade_times
+                && *page
+                && !*table
+        }
+        _ => false,
+    }
+}
+
+#[test]
+fn a_line_of_many_options(rt: HostRuntime) -> Result<(), Fail> {
+    let line = "audit continuous o t --page --trade-times --trades-form fix --share 2/3";
+    let words = words_of(rt.alloc(), line)?;
+    assert!(rt; is_page_of_a_share(&read_desk_words(rt.alloc(), &words)));
     Ok(())
 }
 
@@ -1027,8 +482,9 @@ fn words_of_no_command(rt: HostRuntime) -> Result<(), Fail> {
 }
 
 #[test]
-fn words_of_audits_that_are_not_well_formed(rt: HostRuntime) -> Result<(), Fail> {
-    Ok(check_usage(rt.alloc(), &AUDIT_WORDS)?)
+fn words_of_days_that_are_not_well_formed(rt: HostRuntime) -> Result<(), Fail> {
+    check_usage(rt.alloc(), &AUDIT_WORDS)?;
+    Ok(check_usage(rt.alloc(), &SESSION_WORDS)?)
 }
 
 #[test]
@@ -1037,6 +493,19 @@ fn words_that_are_no_share(rt: HostRuntime) -> Result<(), Fail> {
 }
 
 #[test]
-fn words_of_days_that_are_not_well_formed(rt: HostRuntime) -> Result<(), Fail> {
-    Ok(check_usage(rt.alloc(), &SESSION_WORDS)?)
+fn words_of_offences_and_digests_that_are_not_well_formed(rt: HostRuntime) -> Result<(), Fail> {
+    check_usage(rt.alloc(), &OFFENCE_WORDS)?;
+    Ok(check_usage(rt.alloc(), &DIGEST_WORDS)?)
+}
+
+#[test]
+fn words_of_written_logs_that_are_not_well_formed(rt: HostRuntime) -> Result<(), Fail> {
+    check_usage(rt.alloc(), &ORDERS_WORDS)?;
+    Ok(check_usage(rt.alloc(), &CONVERT_WORDS)?)
+}
+
+#[test]
+fn words_of_read_logs_that_are_not_well_formed(rt: HostRuntime) -> Result<(), Fail> {
+    check_usage(rt.alloc(), &PLAIN_WORDS)?;
+    Ok(check_usage(rt.alloc(), &CONTENTS_WORDS)?)
 }
