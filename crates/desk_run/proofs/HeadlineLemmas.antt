@@ -81,7 +81,7 @@ module _ (meaning : DayMeaning) (judged_by : List ℕ) (old new : SinkState) (st
   of_orders (Ok entries) (Err bad) day is status_is wrote = record { status_is = rw is at status_is; wrote = rw is at wrote }
   of_orders (Err bad) second day is status_is wrote = record { status_is = rw is at status_is; wrote = rw is at wrote }
 
-  written_day : (orders trades : Log) → WritesWhole (IsDayAnswer meaning judged_by orders trades status) old new → WroteDay of_records orders trades old new status
+  written_day : (orders trades : Log) → WritesWhole (IsDayAnswer false meaning judged_by orders trades status) old new → WroteDay of_records orders trades old new status
   written_day orders trades written =
       of_orders (records_of_order_log orders.form orders.bytes) (trades_of_trade_log trades.form trades.bytes) written.is.day written.is.is written.is.answer.status_is
       (subst (λ (text : List ℕ). Appends old.wrote new.wrote text) written.is.answer.text_is written.wrote)
@@ -96,10 +96,10 @@ module _ (meaning : DayMeaning) (judged_by : List ℕ) (old new : SinkState) (st
       (whole : command.writes_early ≡ false)
       (nexts : (bytes : List (List ℕ)) → command.next bytes ≡ next_of_both_logs orders_name trades_name orders.form bytes)
       (reports : (bytes : List (List ℕ)) (text : List ℕ) → command.is_answer bytes status text
-      → IsDayAnswer meaning judged_by (log_in orders.form (log_read_at bytes 0)) (log_in trades.form (log_read_at bytes 1)) status text)
+      → IsDayAnswer false meaning judged_by (log_in orders.form (log_read_at bytes 0)) (log_in trades.form (log_read_at bytes 1)) status text)
       (answers : (logs : List (List ℕ)) → AllIsThere r command logs old new → WritesAnswer command logs old new status) where
     as_day : (bytes : List (List ℕ)) → WritesWhole (command.is_answer bytes status) old new
-        → WritesWhole (IsDayAnswer meaning judged_by (log_in orders.form (log_read_at bytes 0)) (log_in trades.form (log_read_at bytes 1)) status) old new
+        → WritesWhole (IsDayAnswer false meaning judged_by (log_in orders.form (log_read_at bytes 0)) (log_in trades.form (log_read_at bytes 1)) status) old new
     as_day bytes written = record { text = written.text; is = reports bytes written.text written.is; wrote = written.wrote }
 
     by_orders : (said : Result (List OrderRecord) BadPlace) → records_of_order_log orders.form orders.bytes ≡ said → WroteDay of_records orders trades old new status ⊎ RunsOutOfMemory old new status
@@ -131,7 +131,7 @@ answers_day asked r old new status answers = record { of_rule = of_rule; of_phas
           verdicts_are = is.verdicts_are;
           wrote = same_told (symbols_in q.share (symbols_of_day entries day_trades)) (told_of_symbols checks entries day_trades (symbols_in q.share (symbols_of_day entries day_trades)) is.verdicts) judged (rule_word rule) old new status is.tells written;
         })
-        r (desk_command_of (Audit rule (logs_named orders trades to_judge.orders_name to_judge.trades_name) table share checks)) orders trades to_judge.orders_name to_judge.trades_name
+        r (desk_command_of (Audit rule (logs_named orders trades to_judge.orders_name to_judge.trades_name) table share checks false)) orders trades to_judge.orders_name to_judge.trades_name
         to_judge.holds_orders to_judge.holds_trades known nothing_fails refl (λ bytes. refl) (λ bytes text is. is)
         (subst (λ (x : Option DeskRequest). AnswersHeldLogs desk_command_of x r old new status) to_judge.words answers)
 
@@ -144,6 +144,6 @@ answers_day asked r old new status answers = record { of_rule = of_rule; of_phas
           wrote = same_told (symbols_in (share_or_whole share) (symbols_of_day entries day_trades)) (told_by_sessions checks entries day_trades (symbols_in (share_or_whole share) (symbols_of_day entries day_trades)) is.sessions) judged
               (phases_text phases) old new status is.tells written;
         })
-        r (desk_command_of (Session phases (logs_named orders trades to_judge.orders_name to_judge.trades_name) table share checks)) orders trades to_judge.orders_name to_judge.trades_name
+        r (desk_command_of (Session phases (logs_named orders trades to_judge.orders_name to_judge.trades_name) table share checks false)) orders trades to_judge.orders_name to_judge.trades_name
         to_judge.holds_orders to_judge.holds_trades known nothing_fails refl (λ bytes. refl) (λ bytes text is. is)
         (subst (λ (x : Option DeskRequest). AnswersHeldLogs desk_command_of x r old new status) to_judge.words answers)

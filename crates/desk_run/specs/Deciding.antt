@@ -19,16 +19,16 @@ logs_of orders trades = record {
   trades_form = trades.form;
 }
 
--- the request to judge a day of these logs by a rule
-abbrev pub request_by_rule : DayQuestion → Source → Source → DeskRequest
-request_by_rule q orders trades =
-    Audit q.rule (logs_of orders trades) q.table (Some q.share) q.checks
+-- the request to judge a day of these logs by a rule, and to write it as a page or as it is
+abbrev pub request_by_rule : DayQuestion → Bool → Source → Source → DeskRequest
+request_by_rule q page orders trades =
+    Audit q.rule (logs_of orders trades) q.table (Some q.share) q.checks page
 
--- the request to judge a day of these logs by phases
-abbrev pub request_by_phases : List Phase → Bool → FurtherChecks → DayShare → Source → Source
-    → DeskRequest
-request_by_phases phases table checks share orders trades =
-    Session phases (logs_of orders trades) table (Some share) checks
+-- the same by phases
+abbrev pub request_by_phases : List Phase → Bool → FurtherChecks → DayShare → Bool → Source
+    → Source → DeskRequest
+request_by_phases phases table checks share page orders trades =
+    Session phases (logs_of orders trades) table (Some share) checks page
 
 -- the request to tell the offences of a symbol in these logs
 abbrev pub request_for_offences : OffenceQuestion → Source → Source → DeskRequest

@@ -1,6 +1,6 @@
 -- What each command of `desk` reads, and what it answers to that.
 -- A command is one case of each definition here.
-use Rattle.std.specs.Prelude.{ℕ, Bool, true, false, List, Option, None, Some}
+use Rattle.std.specs.Prelude.{◌≡◌, ℕ, Bool, true, false, List, Option, None, Some}
 use Rattle.audit_base.specs.declared.terms.Rule.{Rule}
 use Rattle.audit_base.specs.declared.terms.Which.{Which}
 use Rattle.audit_base.specs.declared.terms.Which.TheVariants.{Orders}
@@ -11,9 +11,11 @@ use Rattle.command_run.specs.Commands.{Command, log_read_at}
 use Rattle.command_run.specs.Commands.{next_of_any_two_logs, next_of_both_logs, next_of_one_log}
 use Rattle.command_run.specs.VerdictAnswers.{IsAnswerWith}
 use Rattle.day_logs.specs.declared.answers.DayAnswer.{DayAnswer}
+use Rattle.day_logs.specs.declared.answers.DayAnswer.TheVariants.{Judged, Malformed, Unpaired}
 use Rattle.day_logs.specs.declared.answers.DayQuestion.{DayQuestion}
 use Rattle.day_logs.specs.DayAnswers.{DayMeaning, IsAnswerToLogs, AreVerdictsOfDay}
 use Rattle.day_logs.specs.DayAnswerTexts.{day_answer_status, day_answer_text}
+use Rattle.day_page.specs.DayPages.{IsPageOfDayText}
 use Rattle.day_sessions.specs.JudgedSessions.{AreSessionsOfDay}
 use Rattle.day_symbols.specs.Shares.{DayShare, whole_day}
 use Rattle.desk_words.specs.declared.requests.DeskRequest.{DeskRequest}
@@ -50,9 +52,9 @@ offence_question rule symbol records checks =
 -- logs, the trade log where the order log is good, `digest` both whatever is in them, `convert` its
 -- one log, `plain` the day as the order log, `orders`, `help` and `--version` none
 abbrev pub next_desk_log : DeskRequest → List (List ℕ) → Option (Which × List ℕ)
-next_desk_log (Audit rule logs table share checks) bytes =
+next_desk_log (Audit rule logs table share checks page) bytes =
     next_of_both_logs logs.orders logs.trades logs.orders_form bytes
-next_desk_log (Session phases logs table share checks) bytes =
+next_desk_log (Session phases logs table share checks page) bytes =
     next_of_both_logs logs.orders logs.trades logs.orders_form bytes
 next_desk_log (Offences rule symbol logs records checks) bytes =
     next_of_both_logs logs.orders logs.trades logs.orders_form bytes
@@ -65,26 +67,41 @@ next_desk_log (Contents logs) bytes =
 next_desk_log (Help about) bytes = None
 next_desk_log Version bytes = None
 
--- The answer is that to a day of two logs: its text, with what the symbols were judged by in its
--- first line, and its status.
-pub record IsDayAnswer (meaning : DayMeaning) (judged_by : List ℕ) (orders trades : Log)
-    (status : Status) (text : List ℕ) : Type 0 where
+-- what is written of a day that has this text: the text, or where it is asked for the page of the
+-- day with this text; of a log that is out of its grammar there is no page
+abbrev pub IsWrittenOfDay : Bool → DayAnswer → List ℕ → List ℕ → Type 0
+IsWrittenOfDay false day the_text written = written ≡ the_text
+IsWrittenOfDay true (Malformed log bad) the_text written = written ≡ the_text
+IsWrittenOfDay true (Unpaired finding) the_text written = IsPageOfDayText the_text written
+IsWrittenOfDay true (Judged judged) the_text written = IsPageOfDayText the_text written
+
+-- The answer is that of a day: its status; and its text, with what the symbols were judged by in
+-- its first line, or the page of the day with that text.
+pub record IsAnswerOfDay (page : Bool) (judged_by : List ℕ) (day : DayAnswer) (status : Status)
+    (text : List ℕ) : Type 0 where
+  pub status_is : status ≡ day_answer_status day
+  pub text_is : IsWrittenOfDay page day (day_answer_text judged_by day) text
+
+-- The answer is that to a day of two logs, as a page where that is asked for.
+pub record IsDayAnswer (page : Bool) (meaning : DayMeaning) (judged_by : List ℕ)
+    (orders trades : Log) (status : Status) (text : List ℕ) : Type 0 where
   pub day : DayAnswer
   pub is : IsAnswerToLogs meaning orders trades day
-  pub answer : IsAnswerWith (day_answer_status day) (day_answer_text judged_by day) status text
+  pub answer : IsAnswerOfDay page judged_by day status text
 
 -- what a command answers to the logs that it has read, its status and its text: to `audit` and
--- `session` that of the day, of the symbols of the share that is asked for; to `offences` every
--- offence of the symbol; to `digest` the digests of both logs; to `orders` the generated log; to
--- `convert` the records of the log in the second form; to `plain` the messages of the day; to
--- `contents` what is in both logs; to `help` and `--version` a text of their own
+-- `session` that of the day, of the symbols of the share that is asked for, or its page; to
+-- `offences` every offence of the symbol; to `digest` the digests of both logs; to `orders` the
+-- generated log; to `convert` the records of the log in the second form; to `plain` the messages of
+-- the day; to `contents` what is in both logs; to `help` and `--version` a text of their own
 abbrev pub IsDeskAnswer : DeskRequest → List (List ℕ) → Status → List ℕ → Type 0
-IsDeskAnswer (Audit rule logs table share checks) bytes status text =
-    IsDayAnswer (AreVerdictsOfDay (day_question rule table share checks)) (rule_word rule)
+IsDeskAnswer (Audit rule logs table share checks page) bytes status text =
+    IsDayAnswer page (AreVerdictsOfDay (day_question rule table share checks)) (rule_word rule)
     (log_in logs.orders_form (log_read_at bytes 0))
     (log_in logs.trades_form (log_read_at bytes 1)) status text
-IsDeskAnswer (Session phases logs table share checks) bytes status text =
-    IsDayAnswer (AreSessionsOfDay phases table checks (share_or_whole share)) (phases_text phases)
+IsDeskAnswer (Session phases logs table share checks page) bytes status text =
+    IsDayAnswer page (AreSessionsOfDay phases table checks (share_or_whole share))
+    (phases_text phases)
     (log_in logs.orders_form (log_read_at bytes 0))
     (log_in logs.trades_form (log_read_at bytes 1)) status text
 IsDeskAnswer (Offences rule symbol logs records checks) bytes status text =
@@ -109,8 +126,8 @@ IsDeskAnswer Version bytes status text = IsAnswerWith Accepted version_text stat
 -- whether a command writes its text while it makes it: `plain`, whose text is as long as the day,
 -- and `orders`, whose text may be longer than memory is to be
 abbrev pub writes_while_reading : DeskRequest → Bool
-writes_while_reading (Audit rule logs table share checks) = false
-writes_while_reading (Session phases logs table share checks) = false
+writes_while_reading (Audit rule logs table share checks page) = false
+writes_while_reading (Session phases logs table share checks page) = false
 writes_while_reading (Offences rule symbol logs records checks) = false
 writes_while_reading (Digest orders trades) = false
 writes_while_reading (GeneratedOrders start count form) = true

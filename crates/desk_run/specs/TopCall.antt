@@ -1,6 +1,6 @@
 -- What `desk` does in a call of `run_desk`, whatever seed its hashes begin with:
 -- the headline first.
-use Rattle.std.specs.Prelude.{◌≡◌, ◌⊎◌, ◌++◌, ℕ, Bool, List, Option, Some, MatchResult, nat_lt, if◌then◌else◌}
+use Rattle.std.specs.Prelude.{◌≡◌, ◌⊎◌, ◌++◌, ℕ, Bool, false, List, Option, Some, MatchResult, nat_lt, if◌then◌else◌}
 use Rattle.std.specs.Io.KnownBytes.{Appends}
 use Rattle.audit_base.specs.declared.records.OrderRecord.{OrderRecord}
 use Rattle.audit_base.specs.declared.records.TradeRecord.{TradeRecord}
@@ -119,13 +119,14 @@ WroteDay of_records orders trades old new status =
     (λ log bad. WroteVerdict (verdict.Malformed log bad) old new status) orders trades
 
 -- whatever two logs the shelf holds, in whatever forms, and however their bytes are cut, where it
--- is known what shelf and sink hold, nothing fails and the words ask for the day of a rule, exactly
--- its text is written and its status is answered, or memory ran out and nothing was written
+-- is known what shelf and sink hold, nothing fails and the words ask for the day of a rule and for
+-- no page, exactly its text is written and its status is answered, or memory ran out and nothing
+-- was written
 abbrev pub AnswersDayOfRule : Option DeskRequest → Reading → SinkState → SinkState → Status
     → Type 0
 AnswersDayOfRule asked r old new status = (rule : Rule) (table : Bool) (share : Option DayShare)
     (checks : FurtherChecks) (orders trades : Log)
-    → IsToJudgeDay (λ logs. Audit rule logs table share checks) asked r orders trades
+    → IsToJudgeDay (λ logs. Audit rule logs table share checks false) asked r orders trades
     → IsKnown r old → NothingFails r old new
     → WroteDay (WroteVerdicts (day_question rule table share checks) old new status) orders trades
     old new status
@@ -136,7 +137,7 @@ abbrev pub AnswersDayOfPhases : Option DeskRequest → Reading → SinkState →
     → Type 0
 AnswersDayOfPhases asked r old new status = (phases : List Phase) (table : Bool)
     (share : Option DayShare) (checks : FurtherChecks) (orders trades : Log)
-    → IsToJudgeDay (λ logs. Session phases logs table share checks) asked r orders trades
+    → IsToJudgeDay (λ logs. Session phases logs table share checks false) asked r orders trades
     → IsKnown r old → NothingFails r old new
     → WroteDay (WroteSessions phases table checks (share_or_whole share) old new status)
     orders trades old new status

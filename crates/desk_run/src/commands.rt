@@ -72,6 +72,7 @@ pub(crate) fn answer_request<F: Shelf>(
             table,
             share,
             checks,
+            page,
         } => {
             let question = DayQuestion {
                 rule: *rule,
@@ -81,7 +82,7 @@ pub(crate) fn answer_request<F: Shelf>(
             };
             let orders = day_source(&logs.orders, logs.orders_form, seed);
             let trades = day_source(&logs.trades, logs.trades_form, seed);
-            answer_audit(alloc, shelf, &question, &orders, &trades)
+            answer_audit(alloc, shelf, &question, *page, &orders, &trades)
         }
         DeskRequest::Session {
             phases,
@@ -89,6 +90,7 @@ pub(crate) fn answer_request<F: Shelf>(
             table,
             share,
             checks,
+            page,
         } => {
             let share = share_asked(*share);
             let orders = day_source(&logs.orders, logs.orders_form, seed);
@@ -100,6 +102,7 @@ pub(crate) fn answer_request<F: Shelf>(
                 *table,
                 *checks,
                 share,
+                *page,
                 &orders,
                 &trades,
             )

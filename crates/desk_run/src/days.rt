@@ -1,10 +1,9 @@
 //! The answers to `audit` and to `session`: a day of two logs.
-ghost use Rattle.std.specs.Prelude.{IfOk};
+ghost use Rattle.std.specs.Prelude.{true, IfOk};
 ghost use Rattle.command_run.specs.Deciding.{DecidesAnswer, IsAnswerOfKind};
-ghost use Rattle.command_run.specs.VerdictAnswers.{IsAnswerWith};
-ghost use Rattle.day_logs.specs.DayAnswerTexts.{day_answer_status, day_answer_text};
+ghost use Rattle.day_logs.specs.DayAnswerTexts.{day_answer_text};
 ghost use Rattle.desk_run.specs.Deciding.{request_by_phases, request_by_rule};
-ghost use Rattle.desk_run.specs.Requests.{desk_command_of};
+ghost use Rattle.desk_run.specs.Requests.{desk_command_of, IsAnswerOfDay, IsWrittenOfDay};
 ghost use Rattle.log_verdict.specs.BothLogs.{HaveOneLimit, StaysWithin};
 ghost use Rattle.log_verdict.specs.Steps.{reading_by, FaultsNeverFall, KeepsShelfLogs};
 ghost use Rattle.session_audit.specs.Phases.{ArePhases};
@@ -17,6 +16,7 @@ use command_run::answers::Answer;
 use command_run::laws::both_logs_decide;
 use day_logs::answers::{DayAnswer, DayQuestion, verdicts_on};
 use day_logs::texts::{status_of_day, text_of_day};
+use day_page::day_pages::page_of_day_text;
 use day_sessions::answers::sessions_on;
 use day_symbols::shares::Share;
 use further_checks::findings::FurtherChecks;
@@ -27,12 +27,46 @@ use session_audit::phases::Phase;
 use session_audit::texts::append_phases;
 use std::alloc::Global;
 
-/// The answer that a day is, with what its symbols were judged by.
-fn day_answer(alloc: Global, day: &DayAnswer, judged_by: &[u8]) -> Result<Answer, NoMemory>
-    ensures { IfOk result (IsAnswerOfKind
-        (IsAnswerWith (day_answer_status day.now) (day_answer_text judged_by.now day.now))) }
+/// The page of a day with this text; of a log that is out of its grammar there is none, and this is
+/// the text.
+fn page_of_day(alloc: Global, day: &DayAnswer, text: Vec<u8>) -> Result<Vec<u8>, NoMemory>
+    ensures { IfOk result (λ page. IsWrittenOfDay true day.now text.items page.items) }
+{
+    match day {
+        DayAnswer::Malformed { .. } => Ok(text),
+        DayAnswer::Unpaired(_) => page_of_day_text(alloc, &text),
+        DayAnswer::Judged(_) => page_of_day_text(alloc, &text),
+    }
+}
+
+/// What is written of a day, with what its symbols were judged by: its text, or its page.
+fn written_of_day(
+    alloc: Global,
+    day: &DayAnswer,
+    judged_by: &[u8],
+    page: bool,
+) -> Result<Vec<u8>, NoMemory>
+    ensures { let the_text = day_answer_text judged_by.now day.now in
+        IfOk result (λ text. IsWrittenOfDay page day.now the_text text.items) }
 {
     let text = text_of_day(alloc, day, judged_by)?;
+    if page {
+        page_of_day(alloc, day, text)
+    } else {
+        Ok(text)
+    }
+}
+
+/// The answer that a day is, with what its symbols were judged by.
+fn day_answer(
+    alloc: Global,
+    day: &DayAnswer,
+    judged_by: &[u8],
+    page: bool,
+) -> Result<Answer, NoMemory>
+    ensures { IfOk result (IsAnswerOfKind (IsAnswerOfDay page judged_by.now day.now)) }
+{
+    let text = written_of_day(alloc, day, judged_by, page)?;
     Ok(Answer {
         status: status_of_day(day),
         text,
@@ -40,20 +74,26 @@ fn day_answer(alloc: Global, day: &DayAnswer, judged_by: &[u8]) -> Result<Answer
 }
 
 /// The answer that a day of phases is.
-fn phases_answer(alloc: Global, day: &DayAnswer, phases: &[Phase]) -> Result<Answer, NoMemory>
-    ensures { IfOk result (IsAnswerOfKind (IsAnswerWith (day_answer_status day.now)
-        (day_answer_text (phases_text phases.now) day.now))) }
+fn phases_answer(
+    alloc: Global,
+    day: &DayAnswer,
+    phases: &[Phase],
+    page: bool,
+) -> Result<Answer, NoMemory>
+    ensures { let judged_by = phases_text phases.now in
+        IfOk result (IsAnswerOfKind (IsAnswerOfDay page judged_by day.now)) }
 {
     let mut judged_by = Vec::new(alloc);
     append_phases(alloc, phases, &mut judged_by)?;
-    day_answer(alloc, day, &judged_by)
+    day_answer(alloc, day, &judged_by, page)
 }
 
-/// The answer to `audit`: the day by a rule.
+/// The answer to `audit`: the day by a rule, as a page where that is asked for.
 pub(crate) fn answer_audit<F: Shelf>(
     alloc: Global,
     shelf: &mut F,
     question: &DayQuestion,
+    page: bool,
     orders: &Source<'_>,
     trades: &Source<'_>,
 ) -> Result<Answer, Stop>
@@ -61,17 +101,17 @@ pub(crate) fn answer_audit<F: Shelf>(
     ensures logs { KeepsShelfLogs F.Shelf shelf.old shelf.new }
     ensures later { FaultsNeverFall (reading_by orders.now F.Shelf shelf.old shelf.new) }
     ensures decides { DecidesAnswer (reading_by orders.now F.Shelf shelf.old shelf.new)
-        (desk_command_of (request_by_rule question.now orders.now trades.now)) result }
+        (desk_command_of (request_by_rule question.now page orders.now trades.now)) result }
     ensures within { StaysWithin (reading_by orders.now F.Shelf shelf.old shelf.new) result }
 {
     both_logs_decide::<Desk, GivenVerdicts>();
     match verdicts_on(alloc, shelf, question, orders, trades) {
-        Ok(day) => Ok(day_answer(alloc, &day, question.rule.word())?),
+        Ok(day) => Ok(day_answer(alloc, &day, question.rule.word(), page)?),
         Err(stop) => Err(stop),
     }
 }
 
-/// The answer to `session`: the day by phases.
+/// The answer to `session`: the day by phases, as a page where that is asked for.
 pub(crate) fn answer_session<F: Shelf>(
     alloc: Global,
     shelf: &mut F,
@@ -79,6 +119,7 @@ pub(crate) fn answer_session<F: Shelf>(
     table: bool,
     checks: FurtherChecks,
     share: Share,
+    page: bool,
     orders: &Source<'_>,
     trades: &Source<'_>,
 ) -> Result<Answer, Stop>
@@ -87,13 +128,13 @@ pub(crate) fn answer_session<F: Shelf>(
     ensures logs { KeepsShelfLogs F.Shelf shelf.old shelf.new }
     ensures later { FaultsNeverFall (reading_by orders.now F.Shelf shelf.old shelf.new) }
     ensures decides { DecidesAnswer (reading_by orders.now F.Shelf shelf.old shelf.new)
-        (desk_command_of (request_by_phases phases.now table checks share orders.now trades.now))
-        result }
+        (desk_command_of
+        (request_by_phases phases.now table checks share page orders.now trades.now)) result }
     ensures within { StaysWithin (reading_by orders.now F.Shelf shelf.old shelf.new) result }
 {
     both_logs_decide::<Desk, GivenSessions>();
     match sessions_on(alloc, shelf, phases, table, checks, share, orders, trades) {
-        Ok(day) => Ok(phases_answer(alloc, &day, phases)?),
+        Ok(day) => Ok(phases_answer(alloc, &day, phases, page)?),
         Err(stop) => Err(stop),
     }
 }

@@ -141,7 +141,8 @@ Z,order,3,buy,A,b1,10,10,11
         trades: &[TRADES],
         status: 2,
         report: "usage: audit RULE ORDERS TRADES | session PHASES ORDERS TRADES \
-                 | offences RULE SYMBOL ORDERS TRADES | digest ORDERS TRADES \
+                 | offences RULE SYMBOL ORDERS TRADES | page RULE SYMBOL ORDERS TRADES \
+                 | digest ORDERS TRADES \
                  | file DATABASE LABEL RULE SYMBOL ORDERS TRADES \
                  | file-all DATABASE LABEL RULE ORDERS TRADES \
                  | check DATABASE LABEL ORDERS TRADES | orders START COUNT \

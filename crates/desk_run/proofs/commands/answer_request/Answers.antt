@@ -6,13 +6,13 @@ pub returns-in-Audit-clause-decides : goal.returns-in-Audit-clause-decides
 returns-in-Audit-clause-decides g c =
     let decides = rw (c.share_asked.ensures, c.day_source-orders.ensures.name, c.day_source-orders.ensures.form, c.day_source-trades.ensures.name, c.day_source-trades.ensures.form) at c.answer_audit.ensures.decides in
     rw c.in-Audit.is (decides_within g.F.Shelf c.args.shelf.now c.answer_audit.new.shelf c.day_source-orders.result c.day_source-orders.ensures.limit
-    (Audit c.in-Audit.rule c.in-Audit.logs c.in-Audit.table c.in-Audit.share c.in-Audit.checks) c.answer_audit.result decides)
+    (Audit c.in-Audit.rule c.in-Audit.logs c.in-Audit.table c.in-Audit.share c.in-Audit.checks c.in-Audit.page) c.answer_audit.result decides)
 
 pub returns-in-Session-clause-decides : goal.returns-in-Session-clause-decides
 returns-in-Session-clause-decides g c =
     let decides = rw (c.share_asked-share.ensures, c.as_slice.ensures, c.day_source-orders-in-Session.ensures.name, c.day_source-orders-in-Session.ensures.form, c.day_source-trades-in-Session.ensures.name, c.day_source-trades-in-Session.ensures.form) at c.answer_session.ensures.decides in
     rw c.in-Session.is (decides_within g.F.Shelf c.args.shelf.now c.answer_session.new.shelf c.day_source-orders-in-Session.result c.day_source-orders-in-Session.ensures.limit
-    (Session c.in-Session.phases c.in-Session.logs c.in-Session.table c.in-Session.share c.in-Session.checks) c.answer_session.result decides)
+    (Session c.in-Session.phases c.in-Session.logs c.in-Session.table c.in-Session.share c.in-Session.checks c.in-Session.page) c.answer_session.result decides)
 
 pub returns-in-Offences-clause-decides : goal.returns-in-Offences-clause-decides
 returns-in-Offences-clause-decides g c =

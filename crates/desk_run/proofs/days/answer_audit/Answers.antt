@@ -7,16 +7,16 @@ use Rattle.desk_run.proofs.days.answer_audit.Goals as goal
 pub returns-in_ok-day_answer-in-Ok-clause-decides : goal.returns-in_ok-day_answer-in-Ok-clause-decides
 returns-in_ok-day_answer-in-Ok-clause-decides g c =
     let made = rw c.word.ensures at c.in_ok-day_answer-in-Ok.ensures in
-    c.both_logs_decide.ensures.answers (request_by_rule c.args.question.now c.args.orders.now c.args.trades.now) (c.args.question.now, c.in-Ok.day)
+    c.both_logs_decide.ensures.answers (request_by_rule c.args.question.now c.args.page c.args.orders.now c.args.trades.now) (c.args.question.now, c.in-Ok.day)
     (reading_by c.args.orders.now g.F.Shelf c.args.shelf.now c.verdicts_on.new.shelf) c.args.orders.now c.args.trades.now _ _ c.in-Ok.ensures.later
     (record {
       starts = record { first = refl; second = λ bytes. refl };
       answer = λ logs short is. record { day = c.in-Ok.day; is = is; answer = made };
       ends = λ first second entries e is. refl;
-      status_of_logs = λ logs is. answer_status _ _ _ _ _ _ is;
+      status_of_logs = λ logs is. answer_status _ _ _ _ _ _ _ is;
     }) c.in-Ok.ensures.decides
 
 pub returns-in-Err-clause-decides : goal.returns-in-Err-clause-decides
 returns-in-Err-clause-decides g c =
-    c.both_logs_decide.ensures.stops (request_by_rule c.args.question.now c.args.orders.now c.args.trades.now) (reading_by c.args.orders.now g.F.Shelf c.args.shelf.now c.verdicts_on.new.shelf) c.args.orders.now c.args.trades.now c.in-Err.stop
+    c.both_logs_decide.ensures.stops (request_by_rule c.args.question.now c.args.page c.args.orders.now c.args.trades.now) (reading_by c.args.orders.now g.F.Shelf c.args.shelf.now c.verdicts_on.new.shelf) c.args.orders.now c.args.trades.now c.in-Err.stop
     c.in-Err.ensures.later (record { first = refl; second = λ bytes. refl }) c.in-Err.ensures.decides

@@ -6,16 +6,16 @@ use Rattle.desk_run.proofs.days.answer_session.Goals as goal
 
 pub returns-in_ok-phases_answer-in-Ok-clause-decides : goal.returns-in_ok-phases_answer-in-Ok-clause-decides
 returns-in_ok-phases_answer-in-Ok-clause-decides g c =
-    c.both_logs_decide.ensures.answers (request_by_phases c.args.phases.now c.args.table c.args.checks c.args.share c.args.orders.now c.args.trades.now) (c.args.phases.now, c.args.table, c.args.checks, c.args.share, c.in-Ok.day)
+    c.both_logs_decide.ensures.answers (request_by_phases c.args.phases.now c.args.table c.args.checks c.args.share c.args.page c.args.orders.now c.args.trades.now) (c.args.phases.now, c.args.table, c.args.checks, c.args.share, c.in-Ok.day)
     (reading_by c.args.orders.now g.F.Shelf c.args.shelf.now c.sessions_on.new.shelf) c.args.orders.now c.args.trades.now _ _ c.in-Ok.ensures.later
     (record {
       starts = record { first = refl; second = λ bytes. refl };
       answer = λ logs short is. record { day = c.in-Ok.day; is = is; answer = c.in_ok-phases_answer-in-Ok.ensures };
       ends = λ first second entries e is. refl;
-      status_of_logs = λ logs is. answer_status _ _ _ _ _ _ is;
+      status_of_logs = λ logs is. answer_status _ _ _ _ _ _ _ is;
     }) c.in-Ok.ensures.decides
 
 pub returns-in-Err-clause-decides : goal.returns-in-Err-clause-decides
 returns-in-Err-clause-decides g c =
-    c.both_logs_decide.ensures.stops (request_by_phases c.args.phases.now c.args.table c.args.checks c.args.share c.args.orders.now c.args.trades.now) (reading_by c.args.orders.now g.F.Shelf c.args.shelf.now c.sessions_on.new.shelf) c.args.orders.now c.args.trades.now c.in-Err.stop
+    c.both_logs_decide.ensures.stops (request_by_phases c.args.phases.now c.args.table c.args.checks c.args.share c.args.page c.args.orders.now c.args.trades.now) (reading_by c.args.orders.now g.F.Shelf c.args.shelf.now c.sessions_on.new.shelf) c.args.orders.now c.args.trades.now c.in-Err.stop
     c.in-Err.ensures.later (record { first = refl; second = λ bytes. refl }) c.in-Err.ensures.decides
