@@ -7,12 +7,15 @@ use Rattle.case_run.specs.declared.statuses.CaseStatus.{CaseStatus}
 use Rattle.desk_program.specs.declared.ends.DeskEnd.{DeskEnd}
 use Rattle.desk_program.specs.declared.ends.DeskEnd.TheVariants.{Run, Filed}
 use Rattle.desk_run.specs.TopCall.{DeskAnswers}
-use Rattle.desk_words.specs.Words.{asks_filing, desk_request_of}
+use Rattle.desk_words.specs.Words.{asks_filing, asks_page, desk_request_of}
 use Rattle.digest_files.specs.ClosedFilings.{FilesThenCloses}
 use Rattle.digest_files.specs.FileDigestOpeners.{fresh_digest_opener}
 use Rattle.filing_run.specs.DigestOpeners.{DigestOpenerState}
 use Rattle.log_source.specs.Sinks.{SinkState}
 use Rattle.log_source.specs.declared.shelf.Shelf.{Ghosts as Shelf}
+use Rattle.page_run.specs.TopCall.{AnswersPageWords}
+use Rattle.page_run.specs.Words.{page_request_of}
+use Rattle.rule_drawing.specs.RulePictures.{IsRulePicture}
 use Rattle.run_notes.specs.FreshEnds.{IsFreshOver, fresh_sink}
 
 -- the number of the status with which the call ended that was asked
@@ -44,12 +47,30 @@ pub record EndsAsFiling {S : Type 0} (shelves : Shelf S) (words : List (List ℕ
       old.sink new.sink status
   pub ended : end ≡ Filed status
 
--- The first word decides which of the two calls is asked: that of filing for `file`, `file-all` and
--- `check`, and the other for all other words, and where there is none.
+-- The run ended as the top call of a page answers what words ask for, with the picture of the rule,
+-- and opened no database.
+pub record EndsAsPage {S : Type 0} (shelves : Shelf S) (words : List (List ℕ))
+    (old new : DeskEnds S) (end : DeskEnd) : Type 0 where
+  pub status : Status
+  pub answers : AnswersPageWords IsRulePicture shelves (page_request_of words)
+      old.shelf new.shelf old.sink new.sink status
+  pub ended : end ≡ Run status
+  pub unopened : new.opener ≡ old.opener
+
+-- where no database is asked for, the call of a page answers `page`, and `run_desk` all other words,
+-- and where there is none
+abbrev pub EndsWithoutFiling : {S : Type 0} → Bool → Shelf S → List (List ℕ) → DeskEnds S
+    → DeskEnds S → DeskEnd → Type 0
+EndsWithoutFiling true shelves words old new end = EndsAsPage shelves words old new end
+EndsWithoutFiling false shelves words old new end = EndsAsRun shelves words old new end
+
+-- The first word decides which call is asked: that of filing for `file`, `file-all` and `check`, and
+-- one without a database for all other words, and where there is none.
 pub record DeskAnswersWords {S : Type 0} (shelves : Shelf S) (words : List (List ℕ))
     (old new : DeskEnds S) (end : DeskEnd) : Type 0 where
   pub filing : asks_filing words ≡ true → EndsAsFiling shelves words old new end
-  pub others : asks_filing words ≡ false → EndsAsRun shelves words old new end
+  pub others : asks_filing words ≡ false
+      → EndsWithoutFiling (asks_page words) shelves words old new end
 
 -- a shelf that has the file under each path, with nothing started, an opener that this is known of,
 -- and a sink that holds what the output holds

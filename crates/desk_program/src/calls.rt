@@ -1,15 +1,18 @@
-//! Which of two calls is asked: that of filing, whose database is then closed, or `run_desk`.
+//! Which of three calls is asked: that of filing, whose database is then closed, that of a page, or
+//! `run_desk`.
 ghost use Rattle.std.specs.Prelude.{◌≡◌, false, map};
 ghost use Rattle.std.specs.String.{string_bytes};
 ghost use Rattle.audit_base.specs.declared.terms.Which.{Which};
 ghost use Rattle.desk_program.specs.Answers.{DeskAnswersWords};
 
 use crate::ends::DeskEnd;
+use crate::pictures::RulePictures;
 use desk_run::running::run_desk_seeded;
-use desk_words::commands::asks_filing;
+use desk_words::commands::{asks_filing, asks_page};
 use digest_files::closing::{ClosedEnd, ClosingDigests, file_and_close};
 use log_source::shelf::Shelf;
 use log_source::sink::Sink;
+use page_run::running::{PageEnd, run_page_seeded};
 use seeded_hash::seed::HashSeed;
 use std::alloc::Global;
 
@@ -39,6 +42,15 @@ pub(crate) fn ask_call<F: Shelf, K: Sink, O: ClosingDigests>(
         let ClosedEnd { status, shelf } = file_and_close(alloc, seed, words, shelf, out, opener);
         return EndedCall {
             end: DeskEnd::Filed(status),
+            shelf,
+        };
+    }
+    if asks_page(words) {
+        let PageEnd { status, shelf } = run_page_seeded::<RulePictures, F, K>(
+            alloc, seed, words, shelf, out,
+        );
+        return EndedCall {
+            end: DeskEnd::Run(status),
             shelf,
         };
     }

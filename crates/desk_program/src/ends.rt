@@ -10,7 +10,7 @@ use std::process::ExitCode;
 /// How a run ended, by the call that was asked.
 #[derive(Clone, Copy, Debug, PartialEq, Eq)]
 pub enum DeskEnd {
-    /// `run_desk`, which opens no database.
+    /// `run_desk` or `run_page`, which open no database.
     Run(Status),
     /// `run_filing`, which files or checks cases.
     Filed(CaseStatus),

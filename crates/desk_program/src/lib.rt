@@ -15,6 +15,7 @@ ghost use Rattle.run_notes.specs.ProgramAnswers.{AnswersCommandLine, AnswersFrom
 mod calls;
 pub mod ends;
 mod notes;
+mod pictures;
 
 use crate::calls::{EndedCall, ask_call};
 use crate::ends::{DeskEnd, exit_code};

@@ -22,6 +22,8 @@ const DAY_SESSION: [Part; 3] = [Part::Phases, Part::Path, Part::Path];
 
 const OFFENCES: [Part; 4] = [Part::Rule, Part::Symbol, Part::Path, Part::Path];
 
+const PAGE: [Part; 4] = [Part::Rule, Part::Symbol, Part::Path, Part::Path];
+
 const DIGEST: [Part; 2] = [Part::Path, Part::Path];
 
 const DAY_FILE: [Part; 6] = [
@@ -58,8 +60,8 @@ const SHOW: [Part; 1] = [Part::Label];
 
 const AUDITOR_COMMANDS: &str = "audit, expect, convert, generate, certify, verify, session";
 
-const DESK_COMMANDS: &str =
-    "audit, session, offences, digest, file, file-all, check, orders, convert, plain, contents, help";
+const DESK_COMMANDS: &str = "audit, session, offences, page, digest, file, file-all, check, \
+                             orders, convert, plain, contents, help";
 
 const CASEBOOK_COMMANDS: &str = "file, list, show";
 
@@ -127,6 +129,8 @@ fn desk_parts(command: &str) -> Option<&'static [Part]> {
         Some(&DAY_SESSION)
     } else if command == "offences" {
         Some(&OFFENCES)
+    } else if command == "page" {
+        Some(&PAGE)
     } else if command == "digest" {
         Some(&DIGEST)
     } else if command == "file" {
