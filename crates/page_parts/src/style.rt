@@ -1,5 +1,5 @@
-//! How pages look: one typeface of the system, two colours with a tint of each, and ink for the
-//! offence. The two differ in lightness as well as in hue, so that they are told apart without
+//! How pages look: one typeface of the system, two colours with a tint of each, and ink for trades
+//! and the offence. The two differ in lightness as well as in hue, so that they are told apart without
 //! colour sight and in print.
 
 /// The style of a page. It holds none of the bytes that are written as entities, since a browser
@@ -14,11 +14,12 @@ main{max-width:46rem;margin:0 auto;padding:2rem 1rem 3rem}\
 h1{font-size:1.6rem;line-height:1.25;margin:0 0 .5rem;overflow-wrap:anywhere;white-space:pre-wrap}\
 h2{font-size:1.1rem;margin:2rem 0 .5rem}\
 p{margin:.4rem 0;white-space:pre-wrap;overflow-wrap:anywhere}\
-figcaption,caption,.soft{color:var(--soft);font-size:.9rem}\
+figcaption,caption{color:var(--soft);font-size:.9rem}\
 section{overflow-x:auto}\
 table{border-collapse:collapse;width:100%;font-size:.85rem;font-variant-numeric:tabular-nums}\
 caption{text-align:left;padding:0 0 .35rem}\
-th,td{padding:.3rem .4rem;text-align:left;vertical-align:top}\
+th,td{padding:.3rem .4rem;vertical-align:top}\
+.text,tbody th{text-align:left}\
 tr{border-bottom:1px solid var(--rule)}\
 thead tr{border-bottom:2px solid var(--ink)}\
 thead th{color:var(--soft);font-weight:600}\
@@ -30,7 +31,8 @@ figcaption{margin-top:.4rem}\
 svg{display:block;width:100%;height:auto}\
 code{display:block;background:#f6f8fa;padding:.6rem .75rem;font:.85rem/1.45 ui-monospace,monospace;\
 white-space:pre-wrap;overflow-wrap:anywhere}\
-svg text{font:11px system-ui,sans-serif;fill:var(--soft)}\
+svg text{font:11px system-ui,sans-serif}\
+svg .tick{fill:var(--soft)}\
 svg .label{fill:var(--ink);font-weight:600;transform:translateY(-4px)}\
 svg .bids{fill:var(--bid);font-weight:600}\
 svg .asks{fill:var(--ask);font-weight:600}\
@@ -45,6 +47,7 @@ svg .askline{fill:none;stroke:var(--ask);stroke-width:1}\
 svg .volume{stroke:var(--ink);stroke-width:1.5}\
 svg .greatest{stroke:var(--ink);stroke-width:1.5;stroke-dasharray:5 3}\
 svg .price{stroke:var(--ink);stroke-width:1;stroke-dasharray:1 3}\
+svg .trade{fill:var(--ink)}\
 svg .mark{fill:none;stroke:var(--ink);stroke-width:2}\
 svg .badge{fill:var(--ink)}\
 svg .badgetext{fill:#fff;font-weight:700}\
