@@ -1,5 +1,5 @@
--- How a browser reads the address of a link: each `%` with two hexadecimal digits behind it is one byte
--- (URL Living Standard, percent-decode). The code of `%` is 37.
+-- How a browser reads the address of a link: each `%` with two hexadecimal digits behind it is one
+-- byte (URL Living Standard, percent-decode). The code of `%` is 37.
 use Rattle.std.specs.Prelude.{ℕ, zero, suc, Bool, ◌==◌, ◌&&◌, ◌+◌, ◌*◌, List, [], ◌∷◌, get_or, if◌then◌else◌}
 use Rattle.std.specs.Char.{digit_value, is_ascii_hexdigit}
 

@@ -5,8 +5,7 @@ use Rattle.audit_base.specs.Least.{first_answer, only_if}
 use Rattle.audit_base.specs.Words.{property_word}
 use Rattle.audit_base.specs.declared.findings.Property.{Property}
 use Rattle.audit_base.specs.declared.findings.Property.TheVariants as property
-use Rattle.audit_base.specs.declared.terms.Which.TheVariants.{Orders, Trades}
-use Rattle.page_table.specs.Wording.{broken_words, log_words}
+use Rattle.page_table.specs.Wording.{broken_words}
 use Rattle.day_page.specs.DayLines.{is_word}
 
 -- all properties of the rules
@@ -49,8 +48,3 @@ what_is_broken word = if is_of_volume word then codes "the volume is not the gre
 -- what is said of a symbol that is rejected, with the word of the property
 abbrev pub rejected_words : List ℕ → List ℕ
 rejected_words word = codes "rejected: " ++ what_is_broken word ++ codes " (" ++ word ++ codes ")"
-
--- the words for a log, by the word of a report
-abbrev pub log_in_words : List ℕ → List ℕ
-log_in_words word = if is_word word (codes "orders") then log_words Orders
-    else (if is_word word (codes "trades") then log_words Trades else word)

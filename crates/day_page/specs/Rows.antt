@@ -11,7 +11,7 @@ use Rattle.page_table.specs.declared.cells.Column.TheVariants.{Symbol, Answer, L
 use Rattle.page_table.specs.Elements.{gaps, words_cell}
 use Rattle.day_page.specs.DayLines.{field_at, is_word, lines_of}
 use Rattle.day_page.specs.FileNames.{page_address}
-use Rattle.day_page.specs.PropertyWords.{is_of_volume, log_in_words, rejected_words}
+use Rattle.day_page.specs.PropertyWords.{is_of_volume, rejected_words}
 
 -- the columns of the table
 abbrev pub day_columns : List Column
@@ -44,11 +44,11 @@ abbrev pub accepted_row : List ℕ → List ℕ → List ℕ → List ℕ → Li
 accepted_row symbol orders trades volume =
     element tag.Row [] (accepted_cells symbol orders trades volume)
 
--- the cells of the record that offends, its log and its place; none does where the volume is not the
--- greatest
+-- the cells of the record that offends, its log as the report writes it and its place; none does
+-- where the volume is not the greatest
 abbrev pub record_cells : List ℕ → List ℕ → List ℕ → List ℕ
 record_cells property log place = if is_of_volume property then []
-    else words_cell (log_in_words log) ++ digits_cell place
+    else words_cell log ++ digits_cell place
 
 -- the cells and the row of a symbol that is rejected; its totals are on its page
 abbrev pub rejected_cells : List ℕ → List ℕ → List ℕ → List ℕ → List ℕ

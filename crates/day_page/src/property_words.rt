@@ -8,8 +8,7 @@ ghost use Rattle.day_page.specs.PropertyWords as spec;
 use crate::lines::is_word;
 use audit_base::faults::NoMemory;
 use audit_base::findings::Property;
-use audit_base::terms::Which;
-use page_table::wording::{broken_words, log_words};
+use page_table::wording::broken_words;
 use std::alloc::Global;
 
 const PROPERTIES: [Property; 16] = [
@@ -130,17 +129,4 @@ pub(crate) fn rejected_words(alloc: Global, word: &[u8]) -> Result<Vec<u8>, NoMe
     text.extend_from_slice(word)?;
     text.extend_from_slice(b")")?;
     Ok(text)
-}
-
-/// The words for a log, by the word of a report.
-pub(crate) fn log_in_words(word: &[u8]) -> &[u8]
-    ensures { result.now ≡ spec.log_in_words word.now }
-{
-    if is_word(word, b"orders") {
-        return log_words(Which::Orders);
-    }
-    if is_word(word, b"trades") {
-        return log_words(Which::Trades);
-    }
-    word
 }

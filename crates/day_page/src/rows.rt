@@ -4,7 +4,7 @@ ghost use Rattle.day_page.specs.Rows as spec;
 
 use crate::file_names::page_address;
 use crate::lines::{behind_line, field_at, first_line, is_word};
-use crate::property_words::{is_of_volume, log_in_words, rejected_words};
+use crate::property_words::{is_of_volume, rejected_words};
 use audit_base::faults::NoMemory;
 use page_markup::markup::Markup;
 use page_markup::words::{AttributeName, Tag};
@@ -95,7 +95,7 @@ fn with_record(
     if is_of_volume(property) {
         return Ok(row);
     }
-    let row = with_words(alloc, row, log_in_words(log))?;
+    let row = with_words(alloc, row, log)?;
     with_digits(alloc, row, place)
 }
 

@@ -26,12 +26,12 @@ const BODY: &str =
 <td class=\"number\">2</td><td class=\"number\">1</td><td class=\"number\">5</td></tr>\
 <tr><th scope=\"row\" class=\"name\"><a href=\"%253Cb%253E%2527.html\">&lt;b&gt;&#39;</a></th>\
 <td>rejected: a record lets its bid trade more than its quantity (buy-quantity)</td>\
-<td>trade log</td><td class=\"number\">2</td></tr>\
+<td>trades</td><td class=\"number\">2</td></tr>\
 <tr><th scope=\"row\" class=\"name\"><a href=\"a%2520b.html\">a b</a></th>\
 <td>rejected: the volume is not the greatest (volume)</td></tr>\
 <tr><th scope=\"row\" class=\"name\"><a href=\"totals.html\">totals</a></th>\
 <td>rejected: a record has an earlier time than the record of its bid or of its ask (trade-time)</td>\
-<td>trade log</td><td class=\"number\">4</td></tr>\
+<td>trades</td><td class=\"number\">4</td></tr>\
 </tbody></table></main></body></html>\n";
 
 const UNPAIRED_HEAD: &str = "<!DOCTYPE html>\n<html lang=\"en\"><head><meta charset=\"utf-8\">\
