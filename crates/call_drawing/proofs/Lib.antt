@@ -1,2 +1,1 @@
 mod BarLemmas
-mod BehindLemmas

@@ -1,23 +1,19 @@
 -- What stands below the picture of a call: what its colours and marks are, and what is not drawn.
-use Rattle.std.specs.Prelude.{ℕ, Bool, true, false, not, ◌||◌, ◌&&◌, nat_lt, Option, None, Some, List, [], ◌++◌, codes, decimal, if◌then◌else◌}
+use Rattle.std.specs.Prelude.{ℕ, Bool, true, false, not, ◌||◌, ◌&&◌, nat_lt, Option, is_some, List, [], ◌++◌, codes, decimal, if◌then◌else◌}
 use Rattle.audit_base.specs.declared.findings.Shown.{Shown}
-use Rattle.audit_base.specs.declared.findings.Shown.TheVariants as shown
+use Rattle.audit_base.specs.declared.terms.Side.TheVariants.{Buy, Sell}
 use Rattle.call_drawing.specs.declared.sections.Marked.{Marked}
 use Rattle.call_picture.specs.declared.pictures.CallPicture.{CallPicture}
 use Rattle.call_picture.specs.declared.pictures.SidePicture.{SidePicture}
 use Rattle.call_picture.specs.declared.windows.Drawn.{Drawn}
 use Rattle.page_markup.specs.declared.words.Tag.TheVariants as tag
-use Rattle.page_plots.specs.declared.shapes.Anchor.TheVariants.{Start}
 use Rattle.page_parts.specs.Elements.{text_element}
-use Rattle.page_plots.specs.Shapes.{label, rectangle}
+use Rattle.page_plots.specs.Orders.{order_shown}
+use Rattle.page_plots.specs.Sides.{legend_entry}
 
 -- what the two colours are
 abbrev pub legend : List ℕ
-legend =
-    rectangle (codes "bidtraded") (record { x = 68; y = 332 }) 16 9
-    ++ label (codes "bids") (record { x = 89; y = 340 }) Start (codes "bids")
-    ++ rectangle (codes "asktraded") (record { x = 124; y = 332 }) 16 9
-    ++ label (codes "asks") (record { x = 145; y = 340 }) Start (codes "asks")
+legend = legend_entry Buy 68 (codes "bids") ++ legend_entry Sell 124 (codes "asks")
 
 -- what a bar of a side is
 unfoldable pub bar_words : Bool → List ℕ
@@ -46,11 +42,7 @@ picture_words = codes "A bar is as wide as its quantity, and filled as far as it
 
 -- what is shown is an order, whose step is marked
 abbrev pub is_order : Option Shown → Bool
-is_order None = false
-is_order (Some (shown.Place log place)) = false
-is_order (Some (shown.Unknown side key)) = false
-is_order (Some (shown.Order line)) = true
-is_order (Some (shown.Due line due)) = true
+is_order it = is_some (order_shown it)
 
 -- what the marks are, where an order is marked
 abbrev pub marks_words : Marked → List ℕ

@@ -1,9 +1,8 @@
 -- The marks of the orders of the evidence, with the numbers of their rows in the table.
-use Rattle.std.specs.Prelude.{ℕ, Bool, true, false, ◌==◌, ◌+◌, List, [], ◌++◌, Option, None, Some, codes, slice_get, if◌then◌else◌}
+use Rattle.std.specs.Prelude.{ℕ, Bool, true, false, ◌==◌, List, [], ◌++◌, Option, None, Some, codes, slice_get, if◌then◌else◌}
 use Rattle.std.specs.List.{flat_map}
 use Rattle.audit_base.specs.declared.findings.OrderLine.{OrderLine}
 use Rattle.audit_base.specs.declared.findings.Shown.{Shown}
-use Rattle.audit_base.specs.declared.findings.Shown.TheVariants as shown
 use Rattle.audit_base.specs.declared.orders.Order.{Order}
 use Rattle.audit_base.specs.declared.terms.Side.{Side}
 use Rattle.audit_base.specs.declared.terms.Side.TheVariants.{Buy, Sell}
@@ -12,25 +11,23 @@ use Rattle.call_drawing.specs.declared.bars.Bar.{Bar}
 use Rattle.call_drawing.specs.declared.layouts.CallLayout.{CallLayout}
 use Rattle.call_drawing.specs.declared.bars.PlacedSide.{PlacedSide}
 use Rattle.call_drawing.specs.declared.bars.PlacedStep.{PlacedStep}
-use Rattle.page_plots.specs.declared.shapes.Anchor.TheVariants.{Middle}
-use Rattle.page_plots.specs.Shapes.{circle, label}
+use Rattle.page_plots.specs.declared.shapes.Point.{Point}
+use Rattle.page_plots.specs.Orders.{badge, has_place, order_shown}
 use Rattle.call_drawing.specs.Steps.{bar_to}
-
--- the order is there, and its record has this place
-abbrev pub has_place : Option Order → ℕ → Bool
-has_place None place = false
-has_place (Some o) place = o.place == place
 
 -- the step is that of an order, or of its limit
 abbrev pub is_step_of : List Order → Bool → Step → OrderLine → Bool
 is_step_of orders true step line = step.limit == line.limit
 is_step_of orders false step line = has_place (slice_get orders step.best) line.place
 
+-- the centre of the mark that a bar may have
+abbrev pub mark_of : Bar → Point
+mark_of bar = record { x = bar.mark_x; y = bar.mark_y }
+
 -- a mark round a bar, with this number
 abbrev pub mark_shapes : List ℕ → Bar → List ℕ
 mark_shapes number bar = bar_to (codes "mark") bar bar.right
-    ++ circle (codes "badge") (record { x = bar.mark_x; y = bar.mark_y }) 8
-    ++ label (codes "badgetext") (record { x = bar.mark_x; y = bar.mark_y + 4 }) Middle number
+    ++ badge number (mark_of bar)
 
 -- the mark of an order at a step, where it is that of the order
 abbrev pub mark_at_step : List Order → Bool → List ℕ → OrderLine → PlacedStep → List ℕ
@@ -52,14 +49,11 @@ abbrev pub order_mark : List Order → CallLayout → List ℕ → OrderLine →
 order_mark orders layout number line =
     mark_on_side orders number line (placed_side layout line.side)
 
--- the mark of what is shown, where it is an order
-abbrev pub shown_mark : List Order → CallLayout → List ℕ → Shown → List ℕ
-shown_mark orders layout number (shown.Place log place) = []
-shown_mark orders layout number (shown.Unknown side key) = []
-shown_mark orders layout number (shown.Order line) = order_mark orders layout number line
-shown_mark orders layout number (shown.Due line due) = order_mark orders layout number line
+-- the same, where there is an order
+abbrev pub mark_if_there : List Order → CallLayout → List ℕ → Option OrderLine → List ℕ
+mark_if_there orders layout number None = []
+mark_if_there orders layout number (Some line) = order_mark orders layout number line
 
--- the same where something is shown
-abbrev pub shown_mark_if_there : List Order → CallLayout → List ℕ → Option Shown → List ℕ
-shown_mark_if_there orders layout number None = []
-shown_mark_if_there orders layout number (Some it) = shown_mark orders layout number it
+-- the mark of what is shown, where it is an order
+abbrev pub shown_mark : List Order → CallLayout → List ℕ → Option Shown → List ℕ
+shown_mark orders layout number it = mark_if_there orders layout number (order_shown it)

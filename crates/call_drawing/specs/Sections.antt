@@ -1,5 +1,5 @@
 -- The section of a page that has the picture of a call.
-use Rattle.std.specs.Prelude.{◌≡◌, ℕ, List, [], ◌++◌, Option, None, Some, codes}
+use Rattle.std.specs.Prelude.{◌≡◌, ℕ, List, ◌++◌, Option, None, Some, codes}
 use Rattle.audit_base.specs.declared.findings.Finding.{Finding}
 use Rattle.audit_base.specs.declared.findings.Short.{Short}
 use Rattle.audit_base.specs.declared.orders.Deal.{Deal}
@@ -7,15 +7,14 @@ use Rattle.audit_base.specs.declared.orders.Order.{Order}
 use Rattle.audit_base.specs.declared.terms.Side.TheVariants.{Buy, Sell}
 use Rattle.call_picture.specs.declared.pictures.CallPicture.{CallPicture}
 use Rattle.call_picture.specs.Pictures.{IsCallPicture}
-use Rattle.page_markup.specs.declared.words.Tag.TheVariants as tag
 use Rattle.page_plots.specs.Axes.{axes_shapes}
-use Rattle.page_parts.specs.Elements.{element, section}
-use Rattle.page_plots.specs.Shapes.{svg}
+use Rattle.page_plots.specs.Figures.{figure_section}
+use Rattle.page_plots.specs.Papers.{plot_paper}
 use Rattle.call_drawing.specs.declared.layouts.CallLayout.{CallLayout}
 use Rattle.call_drawing.specs.declared.sections.Marked.{Marked}
 use Rattle.call_drawing.specs.Captions.{caption, legend}
 use Rattle.call_drawing.specs.Lines.{greatest_shapes, price_shapes, volume_shapes}
-use Rattle.call_drawing.specs.Marks.{shown_mark_if_there}
+use Rattle.call_drawing.specs.Marks.{shown_mark}
 use Rattle.call_drawing.specs.Extents.{plot_of}
 use Rattle.call_drawing.specs.Placed.{IsLayoutOf}
 use Rattle.call_drawing.specs.Steps.{side_shapes}
@@ -45,8 +44,8 @@ call_lines numbers marked layout =
 -- the marks of the orders of the evidence
 abbrev pub call_marks : List Order → Marked → CallLayout → List ℕ
 call_marks orders marked layout =
-    shown_mark_if_there orders layout (codes "1") marked.first
-    ++ shown_mark_if_there orders layout (codes "2") marked.second
+    shown_mark orders layout (codes "1") marked.first
+    ++ shown_mark orders layout (codes "2") marked.second
 
 -- the shapes of the picture
 abbrev pub call_shapes : List Order → CallPicture → Marked → CallLayout → List ℕ
@@ -54,19 +53,11 @@ call_shapes orders numbers marked layout =
     axes_shapes layout.axes (codes "quantity, best orders first") ++ both_sides orders layout
     ++ call_lines numbers marked layout ++ call_marks orders marked layout ++ legend
 
--- the caption, as an element of the figure
-abbrev pub figure_caption : CallPicture → Marked → List ℕ
-figure_caption numbers marked = element tag.FigureCaption [] (caption numbers marked)
-
--- the figure, with this in it
-abbrev pub figure : List ℕ → List ℕ
-figure inner = element tag.Figure [] inner
-
 -- the section: the picture, and its caption
 abbrev pub call_section : List Order → CallPicture → Marked → CallLayout → List ℕ
-call_section orders numbers marked layout = section (codes "The orders of the call") (figure
-    (svg (codes "0 0 480 346") (codes "Bids and asks by price and quantity")
-    (call_shapes orders numbers marked layout) ++ figure_caption numbers marked))
+call_section orders numbers marked layout = figure_section (codes "The orders of the call")
+    (codes "Bids and asks by price and quantity") (plot_paper layout.axes)
+    (call_shapes orders numbers marked layout) (caption numbers marked)
 
 -- the greatest volume, where the finding tells it
 abbrev pub greatest_of : Option Short → ℕ

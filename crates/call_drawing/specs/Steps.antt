@@ -1,29 +1,18 @@
 -- What is drawn of a step: its bar, and its title with the numbers of its order.
-use Rattle.std.specs.Prelude.{ℕ, Bool, true, false, ◌-◌, nat_lt, List, [], ◌∷◌, ◌++◌, Option, None, Some, codes, decimal, length, slice_get, if◌then◌else◌}
+use Rattle.std.specs.Prelude.{ℕ, Bool, true, false, ◌-◌, nat_lt, List, [], ◌∷◌, ◌++◌, codes, decimal, length, slice_get, if◌then◌else◌}
 use Rattle.std.specs.List.{flat_map, join_with_byte}
-use Rattle.audit_base.specs.declared.findings.OrderLine.{OrderLine}
 use Rattle.audit_base.specs.declared.orders.Order.{Order}
 use Rattle.audit_base.specs.declared.terms.Side.{Side}
 use Rattle.audit_base.specs.declared.terms.Side.TheVariants.{Buy, Sell}
 use Rattle.audit_base.specs.Numbers.{price_text}
-use Rattle.audit_base.specs.Shows.{with_traded_number}
 use Rattle.audit_report.specs.Lines.{side_word}
 use Rattle.call_picture.specs.declared.steps.Step.{Step}
 use Rattle.call_drawing.specs.declared.bars.Bar.{Bar}
 use Rattle.call_drawing.specs.declared.bars.PlacedSide.{PlacedSide}
 use Rattle.call_drawing.specs.declared.bars.PlacedStep.{PlacedStep}
+use Rattle.page_plots.specs.Orders.{order_title}
 use Rattle.page_plots.specs.Shapes.{group, path, path_point, rectangle}
-
--- the title of an order: PLACE,SIDE,FIRM,ID,QUANTITY,LIMIT,TRADED
-abbrev pub line_title : OrderLine → List ℕ
-line_title o = join_with_byte 44
-    (decimal o.place ∷ side_word o.side ∷ o.key.firm ∷ o.key.id ∷ decimal o.quantity
-    ∷ price_text o.limit ∷ decimal o.traded ∷ [])
-
--- the same of an order of the list, if there is one
-abbrev pub order_title : Option Order → ℕ → List ℕ
-order_title None traded = []
-order_title (Some o) traded = line_title (with_traded_number o traded)
+use Rattle.page_plots.specs.Sides.{bar_class, filled_class}
 
 -- the title of the orders of one limit: how many they are, SIDE,QUANTITY,LIMIT,TRADED, their
 -- quantities and traded numbers added
@@ -37,15 +26,7 @@ abbrev pub step_title : List Order → Side → Bool → Step → List ℕ
 step_title orders side true step = limit_title side step
 step_title orders side false step = order_title (slice_get orders step.best) step.traded
 
--- the classes of a side: of a bar, of its traded part, and of the line that joins the bars
-abbrev pub bar_class : Side → List ℕ
-bar_class Buy = codes "bid"
-bar_class Sell = codes "ask"
-
-abbrev pub traded_class : Side → List ℕ
-traded_class Buy = codes "bidtraded"
-traded_class Sell = codes "asktraded"
-
+-- the class of the line that joins the bars of a side
 abbrev pub line_class : Side → List ℕ
 line_class Buy = codes "bidline"
 line_class Sell = codes "askline"
@@ -57,7 +38,7 @@ bar_to class bar right = rectangle class (record { x = bar.left; y = bar.top }) 
 -- the traded part of a bar, where the step traded
 abbrev pub traded_bar : Side → PlacedStep → List ℕ
 traded_bar side placed =
-    if nat_lt 0 placed.step.traded then bar_to (traded_class side) placed.bar placed.bar.filled
+    if nat_lt 0 placed.step.traded then bar_to (filled_class side) placed.bar placed.bar.filled
     else []
 
 -- a step: its title, its bar, and its traded part

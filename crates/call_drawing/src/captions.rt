@@ -5,25 +5,23 @@ ghost use Rattle.call_drawing.specs.Captions as spec;
 use crate::sections::Marked;
 use audit_base::faults::NoMemory;
 use audit_base::findings::Shown;
+use audit_base::terms::Side;
 use audit_base::texts::write_number;
 use call_picture::pictures::{CallPicture, SidePicture};
 use call_picture::windows::Drawn;
 use page_markup::markup::Markup;
 use page_markup::words::Tag;
 use page_parts::elements::with_text_element;
-use page_plots::shapes::{Anchor, Point, with_label, with_rectangle};
+use page_plots::orders::order_shown;
+use page_plots::sides::with_legend_entry;
 use std::alloc::Global;
 
 /// With what the two colours are behind it, below the plot.
 pub fn with_legend(alloc: Global, made: Markup) -> Result<Markup, NoMemory>
     ensures { IfOk result (λ more. more ≡ made ++ spec.legend) }
 {
-    let made = with_rectangle(alloc, made, b"bidtraded", Point { x: 68, y: 332 }, 16, 9)?;
-    let at = Point { x: 89, y: 340 };
-    let made = with_label(alloc, made, b"bids", at, Anchor::Start, b"bids")?;
-    let made = with_rectangle(alloc, made, b"asktraded", Point { x: 124, y: 332 }, 16, 9)?;
-    let at = Point { x: 145, y: 340 };
-    with_label(alloc, made, b"asks", at, Anchor::Start, b"asks")
+    let made = with_legend_entry(alloc, made, Side::Buy, 68, b"bids")?;
+    with_legend_entry(alloc, made, Side::Sell, 124, b"asks")
 }
 
 /// What a bar of a side is.
@@ -82,15 +80,7 @@ fn picture_words() -> &'static [u8]
 fn is_order(shown: &Option<Shown>) -> bool
     ensures { result ≡ spec.is_order shown.now }
 {
-    match shown {
-        Some(shown) => match shown {
-            Shown::Place { .. } => false,
-            Shown::Unknown { .. } => false,
-            Shown::Order(_) => true,
-            Shown::Due(_, _) => true,
-        },
-        None => false,
-    }
+    order_shown(shown).is_some()
 }
 
 /// What the marks are, where an order is marked.

@@ -1,15 +1,15 @@
 //! The lines of the picture of a call: the volume, the greatest volume, and the one price.
 ghost use Rattle.std.specs.Prelude.{◌≡◌, ◌++◌, IfOk, decimal};
-ghost use Rattle.audit_base.specs.Numbers.{price_text};
 ghost use Rattle.call_drawing.specs.Lines as spec;
 
 use crate::layouts::UprightLine;
 use audit_base::faults::NoMemory;
 use audit_base::findings::Short;
 use audit_base::numbers::Price;
-use audit_base::texts::{write_number, write_price};
+use audit_base::texts::write_number;
 use page_markup::markup::Markup;
 use page_plots::axes::{BOTTOM, LEFT, RIGHT};
+use page_plots::papers::price_words;
 use page_plots::shapes::{Anchor, Point, with_label, with_line};
 use std::alloc::Global;
 
@@ -19,15 +19,6 @@ fn upright_words(alloc: Global, words: &[u8], quantity: u128) -> Result<Vec<u8>,
 {
     let mut text = Vec::from_slice(alloc, words)?;
     write_number(alloc, quantity, &mut text)?;
-    Ok(text)
-}
-
-/// The text of a price.
-fn price_words(alloc: Global, price: Price) -> Result<Vec<u8>, NoMemory>
-    ensures { IfOk result (λ text. text.items ≡ price_text price) }
-{
-    let mut text = Vec::new(alloc);
-    write_price(alloc, price.units(), &mut text)?;
     Ok(text)
 }
 

@@ -1,5 +1,5 @@
 //! The marks of the orders of the evidence.
-ghost use Rattle.std.specs.Prelude.{◌≡◌, ◌++◌, IfOk, slice_get};
+ghost use Rattle.std.specs.Prelude.{◌≡◌, ◌++◌, IfOk};
 ghost use Rattle.std.specs.List.{flat_map};
 ghost use Rattle.call_drawing.specs.Marks as spec;
 
@@ -12,18 +12,9 @@ use audit_base::terms::Side;
 use call_picture::steps::Step;
 use order_list::lists::OrderList;
 use page_markup::markup::Markup;
-use page_plots::shapes::{Anchor, Point, with_circle, with_label};
+use page_plots::orders::{has_place, order_shown, with_badge};
+use page_plots::shapes::Point;
 use std::alloc::Global;
-
-/// Whether there is an order at this index, whose record has this place.
-fn has_place(orders: &OrderList<'_>, index: usize, place: u32) -> bool
-    ensures { result ≡ spec.has_place (slice_get orders.now index) place }
-{
-    match orders.get(index) {
-        Some(order) => order.place() == place,
-        None => false,
-    }
-}
 
 /// Whether a step is that of this order, or of its limit.
 fn is_step_of(orders: &OrderList<'_>, by_limit: bool, step: &Step, line: &OrderLine) -> bool
@@ -36,15 +27,22 @@ fn is_step_of(orders: &OrderList<'_>, by_limit: bool, step: &Step, line: &OrderL
     }
 }
 
+/// The centre of the mark that a bar may have.
+fn mark_of(bar: Bar) -> Point
+    ensures { result ≡ spec.mark_of bar }
+{
+    Point {
+        x: u32::from(bar.mark_x),
+        y: u32::from(bar.mark_y),
+    }
+}
+
 /// With a mark round a bar behind it.
 fn with_mark(alloc: Global, made: Markup, number: &[u8], bar: Bar) -> Result<Markup, NoMemory>
     ensures { IfOk result (λ more. more ≡ made ++ spec.mark_shapes number.now bar) }
 {
-    let (x, y) = (u32::from(bar.mark_x), u32::from(bar.mark_y));
     let made = with_bar(alloc, made, b"mark", bar, bar.right)?;
-    let made = with_circle(alloc, made, b"badge", Point { x, y }, 8)?;
-    let at = Point { x, y: y + 4 };
-    with_label(alloc, made, b"badgetext", at, Anchor::Middle, number)
+    with_badge(alloc, made, number, mark_of(bar))
 }
 
 /// With the mark of an order behind it, where this step is that of the order.
@@ -128,28 +126,26 @@ fn with_order_mark(
     }
 }
 
-/// With the mark of what is shown behind it, where it is an order.
-fn with_shown_mark(
+/// With the mark of an order behind it, where there is one.
+fn with_mark_if_there(
     alloc: Global,
     made: Markup,
     orders: &OrderList<'_>,
     layout: &CallLayout,
     number: &[u8],
-    shown: &Shown,
+    line: &Option<OrderLine>,
 ) -> Result<Markup, NoMemory>
     ensures { IfOk result
-        (λ more. more ≡ made ++ spec.shown_mark orders.now layout.now number.now shown.now) }
+        (λ more. more ≡ made ++ spec.mark_if_there orders.now layout.now number.now line.now) }
 {
-    match shown {
-        Shown::Place { .. } => Ok(made),
-        Shown::Unknown { .. } => Ok(made),
-        Shown::Order(line) => with_order_mark(alloc, made, orders, layout, number, line),
-        Shown::Due(line, _) => with_order_mark(alloc, made, orders, layout, number, line),
+    match line {
+        Some(line) => with_order_mark(alloc, made, orders, layout, number, line),
+        None => Ok(made),
     }
 }
 
-/// With the mark of what is shown behind it, where something is.
-pub fn with_mark_if_shown(
+/// With the mark of what is shown behind it, where it is an order.
+pub fn with_shown_mark(
     alloc: Global,
     made: Markup,
     orders: &OrderList<'_>,
@@ -157,11 +153,9 @@ pub fn with_mark_if_shown(
     number: &[u8],
     shown: &Option<Shown>,
 ) -> Result<Markup, NoMemory>
-    ensures { IfOk result (λ more. more
-        ≡ made ++ spec.shown_mark_if_there orders.now layout.now number.now shown.now) }
+    ensures { IfOk result
+        (λ more. more ≡ made ++ spec.shown_mark orders.now layout.now number.now shown.now) }
 {
-    match shown {
-        Some(shown) => with_shown_mark(alloc, made, orders, layout, number, shown),
-        None => Ok(made),
-    }
+    let line = order_shown(shown);
+    with_mark_if_there(alloc, made, orders, layout, number, &line)
 }

@@ -8,7 +8,7 @@ ghost use Rattle.call_picture.specs.Pictures.{IsPictureInRange};
 use crate::captions::{caption_of, with_legend};
 use crate::layouts::{CallLayout, layout_of};
 use crate::lines::{with_greatest, with_price, with_volume};
-use crate::marks::with_mark_if_shown;
+use crate::marks::with_shown_mark;
 use crate::steps::with_side;
 use audit_base::faults::NoMemory;
 use audit_base::findings::{Finding, Short, Shown};
@@ -18,10 +18,9 @@ use audit_base::terms::Side;
 use call_picture::pictures::{CallPicture, call_picture};
 use order_list::lists::OrderList;
 use page_markup::markup::Markup;
-use page_markup::words::Tag;
-use page_parts::elements::with_section;
 use page_plots::axes::with_axes;
-use page_plots::shapes::with_picture;
+use page_plots::figures::with_figure;
+use page_plots::papers::plot_paper;
 use std::alloc::Global;
 
 /// What is marked in the picture of a call.
@@ -108,8 +107,8 @@ fn with_marks(
     ensures { IfOk result
         (λ more. more ≡ made ++ spec.call_marks orders.now marked.now layout.now) }
 {
-    let made = with_mark_if_shown(alloc, made, orders, layout, b"1", &marked.first)?;
-    with_mark_if_shown(alloc, made, orders, layout, b"2", &marked.second)
+    let made = with_shown_mark(alloc, made, orders, layout, b"1", &marked.first)?;
+    with_shown_mark(alloc, made, orders, layout, b"2", &marked.second)
 }
 
 /// The shapes of the picture.
@@ -131,26 +130,6 @@ fn call_shapes(
     with_legend(alloc, made)
 }
 
-/// With the caption of the picture behind it.
-fn with_caption(
-    alloc: Global,
-    made: Markup,
-    numbers: &CallPicture,
-    marked: &Marked,
-) -> Result<Markup, NoMemory>
-    ensures { IfOk result (λ more. more ≡ made ++ spec.figure_caption numbers.now marked.now) }
-{
-    let caption = caption_of(alloc, numbers, marked)?;
-    made.with_element(Tag::FigureCaption, &[], &caption)
-}
-
-/// The figure with the picture and its caption in it.
-fn figure_of(alloc: Global, inner: &Markup) -> Result<Markup, NoMemory>
-    ensures { IfOk result (λ made. made ≡ spec.figure inner.now) }
-{
-    Markup::new(alloc).with_element(Tag::Figure, &[], inner)
-}
-
 /// The section of the picture that is laid out so.
 fn section_of(
     alloc: Global,
@@ -163,16 +142,12 @@ fn section_of(
         (λ made. made ≡ spec.call_section orders.now numbers.now marked.now layout.now) }
 {
     let shapes = call_shapes(alloc, orders, numbers, marked, layout)?;
+    let caption = caption_of(alloc, numbers, marked)?;
+    let paper = plot_paper(alloc, &layout.axes)?;
+    let made = Markup::new(alloc);
+    let heading = b"The orders of the call";
     let title = b"Bids and asks by price and quantity";
-    let inner = with_picture(alloc, Markup::new(alloc), b"0 0 480 346", title, &shapes)?;
-    let inner = with_caption(alloc, inner, numbers, marked)?;
-    let figure = figure_of(alloc, &inner)?;
-    with_section(
-        alloc,
-        Markup::new(alloc),
-        b"The orders of the call",
-        &figure,
-    )
+    with_figure(alloc, made, heading, title, &paper, &shapes, &caption)
 }
 
 /// The section of the picture of a call with these numbers.

@@ -1,11 +1,10 @@
 //! The steps of a side, drawn.
-ghost use Rattle.std.specs.Prelude.{◌≡◌, ◌++◌, IfOk, OnOk, codes, slice_get};
+ghost use Rattle.std.specs.Prelude.{◌≡◌, ◌++◌, IfOk, OnOk, codes};
 ghost use Rattle.std.specs.List.{flat_map};
 ghost use Rattle.call_drawing.specs.Steps as spec;
 
 use crate::bars::{Bar, PlacedSide, PlacedStep};
 use audit_base::faults::NoMemory;
-use audit_base::findings::OrderLine;
 use audit_base::terms::Side;
 use audit_base::texts::write_number;
 use audit_report::line_parts::{Part, append_joined};
@@ -13,46 +12,13 @@ use audit_report::words::side_word;
 use call_picture::steps::Step;
 use order_list::lists::OrderList;
 use page_markup::markup::Markup;
+use page_plots::orders::order_title;
 use page_plots::shapes::{Point, append_point, with_group, with_path, with_rectangle};
+use page_plots::sides::{bar_class, filled_class};
 use std::alloc::Global;
 
 /// How high a bar is.
 pub const BAR_HEIGHT: u32 = 9;
-
-/// The title of an order.
-fn line_title(alloc: Global, line: &OrderLine) -> Result<Vec<u8>, NoMemory>
-    ensures { IfOk result (λ text. text.items ≡ spec.line_title line.now) }
-{
-    let mut place = Vec::new(alloc);
-    write_number(alloc, u128::from(line.place), &mut place)?;
-    let parts = [
-        Part::Word(side_word(line.side)),
-        Part::Word(line.key.firm.bytes()),
-        Part::Word(line.key.id.bytes()),
-        Part::Number(u128::from(line.quantity.value())),
-        Part::Price(line.limit),
-        Part::Number(line.traded),
-    ];
-    let mut text = Vec::new(alloc);
-    append_joined(alloc, &place, &parts, &mut text)?;
-    Ok(text)
-}
-
-/// The title of the order at an index of the list, with what it traded.
-fn order_title(
-    alloc: Global,
-    orders: &OrderList<'_>,
-    index: usize,
-    traded: u128,
-) -> Result<Vec<u8>, NoMemory>
-    ensures { IfOk result
-        (λ text. text.items ≡ spec.order_title (slice_get orders.now index) traded) }
-{
-    match orders.get(index) {
-        Some(order) => line_title(alloc, &order.line(traded)),
-        None => Ok(Vec::new(alloc)),
-    }
-}
 
 /// The title of the orders of one limit.
 fn limit_title(alloc: Global, side: Side, step: &Step) -> Result<Vec<u8>, NoMemory>
@@ -86,26 +52,6 @@ fn step_title(
         limit_title(alloc, side, step)
     } else {
         order_title(alloc, orders, step.best, step.traded)
-    }
-}
-
-/// The class of a bar of a side.
-fn bar_class(side: Side) -> &'static [u8]
-    ensures { result.now ≡ spec.bar_class side }
-{
-    match side {
-        Side::Buy => b"bid",
-        Side::Sell => b"ask",
-    }
-}
-
-/// The class of the traded part of a bar.
-fn traded_class(side: Side) -> &'static [u8]
-    ensures { result.now ≡ spec.traded_class side }
-{
-    match side {
-        Side::Buy => b"bidtraded",
-        Side::Sell => b"asktraded",
     }
 }
 
@@ -150,7 +96,7 @@ fn with_traded(
         with_bar(
             alloc,
             made,
-            traded_class(side),
+            filled_class(side),
             placed.bar,
             placed.bar.filled,
         )

@@ -22,9 +22,9 @@ most_of orders number lines =
 abbrev pub most_of_book : List Order → BookBefore → ℕ
 most_of_book orders book = most_of orders (most_of orders 0 book.bids.items) book.asks.items
 
--- how far a bar of a quantity reaches: one of the greatest quantity from 92 to 352
+-- how far a bar of a quantity reaches: one of the greatest quantity from 68 to 352
 abbrev pub reach_of : ℕ → ℕ → ℕ
-reach_of most quantity = 92 + point_of (record { first = 0; last = most; length = 260 }) quantity
+reach_of most quantity = 68 + point_of (record { first = 0; last = most; length = 284 }) quantity
 
 -- the top of a line below so many others, of which there are at most 20
 abbrev pub top_below : ℕ → ℕ
@@ -52,7 +52,12 @@ placed_lines orders most first lines =
 abbrev pub first_ask : List Resting → ℕ
 first_ask bids = min (length bids) 10 + 1
 
--- each line of both sides of a book has its place, best first
+-- how high the paper of a book is: its lines, at most ten of a side, the gap between the sides, and
+-- room above and below
+abbrev pub book_height : BookBefore → ℕ
+book_height book = 26 + 14 * (first_ask book.bids.items + min (length book.asks.items) 10)
+
+-- each line of both sides of a book has its place, best first, and the paper is as high as they are
 pub record IsBookLayoutOf (orders : List Order) (book : BookBefore) (layout : BookLayout)
     : Type 0 where
   pub bids_placed : layout.bids.items
@@ -60,3 +65,4 @@ pub record IsBookLayoutOf (orders : List Order) (book : BookBefore) (layout : Bo
   pub asks_placed : layout.asks.items
       ≡ placed_lines orders (most_of_book orders book) (first_ask book.bids.items)
       book.asks.items
+  pub high : layout.height ≡ book_height book

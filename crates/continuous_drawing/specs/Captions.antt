@@ -1,5 +1,19 @@
--- What stands below the pictures.
-use Rattle.std.specs.Prelude.{ℕ, List, codes}
+-- What stands below the pictures, and the legend of the plot.
+use Rattle.std.specs.Prelude.{ℕ, List, ◌++◌, codes}
+use Rattle.audit_base.specs.declared.terms.Side.TheVariants.{Buy, Sell}
+use Rattle.page_plots.specs.declared.shapes.Anchor.TheVariants.{Start}
+use Rattle.page_plots.specs.Shapes.{circle, label}
+use Rattle.page_plots.specs.Sides.{legend_entry}
+
+-- what a dot is
+abbrev pub trade_entry : List ℕ
+trade_entry = circle (codes "trade") (record { x = 247; y = 336 }) 3
+    ++ label (codes "tick") (record { x = 256; y = 340 }) Start (codes "trade")
+
+-- what the two colours and the dots are
+abbrev pub legend : List ℕ
+legend = legend_entry Buy 68 (codes "best bid") ++ legend_entry Sell 154 (codes "best ask")
+    ++ trade_entry
 
 -- what the picture of the best limits shows
 unfoldable pub picture_words : List ℕ

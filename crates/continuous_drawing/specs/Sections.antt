@@ -1,5 +1,5 @@
 -- The sections of a page that have the picture of continuous trading.
-use Rattle.std.specs.Prelude.{◌≡◌, ℕ, List, [], ◌++◌, Option, None, Some, codes}
+use Rattle.std.specs.Prelude.{◌≡◌, ℕ, List, ◌++◌, Option, None, Some, codes}
 use Rattle.std.specs.List.{flat_map}
 use Rattle.audit_base.specs.declared.findings.Finding.{Finding}
 use Rattle.audit_base.specs.declared.orders.Deal.{Deal}
@@ -14,17 +14,18 @@ use Rattle.page_plots.specs.declared.axes.Axes.{Axes}
 use Rattle.page_plots.specs.declared.plots.Plot.{Plot}
 use Rattle.page_plots.specs.Axes.{axes_shapes}
 use Rattle.page_plots.specs.Plots.{AreAxesOf}
-use Rattle.page_parts.specs.Elements.{element, section, text_element}
-use Rattle.page_plots.specs.Shapes.{svg}
+use Rattle.page_parts.specs.Elements.{text_element}
+use Rattle.page_plots.specs.Figures.{figure_section}
+use Rattle.page_plots.specs.Papers.{plot_paper}
 use Rattle.continuous_drawing.specs.declared.book_layouts.BookLayout.{BookLayout}
 use Rattle.continuous_drawing.specs.declared.offending.Offence.{Offence}
 use Rattle.continuous_drawing.specs.declared.sections.Marked.{Marked}
 use Rattle.continuous_drawing.specs.BookLayouts.{IsBookLayoutOf}
-use Rattle.continuous_drawing.specs.Books.{line_shapes}
-use Rattle.continuous_drawing.specs.Captions.{book_words, picture_words}
+use Rattle.continuous_drawing.specs.Books.{book_paper, line_shapes}
+use Rattle.continuous_drawing.specs.Captions.{book_words, legend, picture_words}
 use Rattle.continuous_drawing.specs.Columns.{quote_shapes}
 use Rattle.continuous_drawing.specs.Extents.{plot_of}
-use Rattle.continuous_drawing.specs.Marks.{shown_mark_if_there}
+use Rattle.continuous_drawing.specs.Marks.{shown_mark}
 use Rattle.continuous_drawing.specs.Offending.{offending_place, offending_shapes}
 use Rattle.continuous_drawing.specs.Trades.{trades_shapes}
 
@@ -38,45 +39,33 @@ marked_by (Some finding) place = record {
   second = finding.second;
 }
 
--- what a picture shows, as the caption of its figure
-abbrev pub figure_caption : List ℕ → List ℕ
-figure_caption words = element tag.FigureCaption [] (text_element tag.Paragraph words)
-
--- the figure, with this in it
-abbrev pub figure : List ℕ → List ℕ
-figure inner = element tag.Figure [] inner
-
--- what is in a figure: the picture of these shapes on paper of these coordinates, and what it shows
-abbrev pub figure_inside : List ℕ → List ℕ → List ℕ → List ℕ → List ℕ
-figure_inside heading paper shapes words = svg paper heading shapes ++ figure_caption words
-
--- a section with a figure
-abbrev pub figure_section : List ℕ → List ℕ → List ℕ → List ℕ → List ℕ
-figure_section heading paper shapes words =
-    section heading (figure (figure_inside heading paper shapes words))
+-- a section with a picture, of which words below it say what it shows
+abbrev pub worded_figure : List ℕ → List ℕ → List ℕ → List ℕ → List ℕ
+worded_figure heading paper shapes words =
+    figure_section heading heading paper shapes (text_element tag.Paragraph words)
 
 -- the best limits of both sides, and the trades
 abbrev pub number_shapes : Plot → List Order → List Deal → List Column → List ℕ
 number_shapes plot orders deals columns =
     flat_map (quote_shapes plot) columns ++ trades_shapes plot orders deals columns
 
--- the axes, the best limits, the trades, and the offending place
+-- the axes, the best limits, the trades, the offending place, and the legend
 abbrev pub picture_shapes : Plot → Axes → List Order → List Deal → List Column → Option Offence
     → List ℕ
 picture_shapes plot axes orders deals columns offence =
     axes_shapes axes (codes "record") ++ number_shapes plot orders deals columns
-    ++ offending_shapes plot offence
+    ++ offending_shapes plot offence ++ legend
 
 -- the section that has these shapes
-abbrev pub picture_section : List ℕ → List ℕ
-picture_section shapes = figure_section (codes "Best bid and best ask by record")
-    (codes "0 0 500 346") shapes picture_words
+abbrev pub picture_section : Axes → List ℕ → List ℕ
+picture_section axes shapes =
+    worded_figure (codes "Best bid and best ask by record") (plot_paper axes) shapes picture_words
 
 -- the marks of the orders of the evidence
 abbrev pub book_marks : List Order → Marked → BookLayout → List ℕ
 book_marks orders marked layout =
-    shown_mark_if_there orders layout (codes "1") marked.first
-    ++ shown_mark_if_there orders layout (codes "2") marked.second
+    shown_mark orders layout (codes "1") marked.first
+    ++ shown_mark orders layout (codes "2") marked.second
 
 -- the lines of both sides of a book, and the marks
 abbrev pub book_shapes : List Order → Marked → BookLayout → List ℕ
@@ -86,8 +75,8 @@ book_shapes orders marked layout =
 
 -- the section that has them
 abbrev pub book_section : List Order → Marked → BookLayout → List ℕ
-book_section orders marked layout = figure_section (codes "The book right before the record")
-    (codes "0 0 480 320") (book_shapes orders marked layout) book_words
+book_section orders marked layout = worded_figure (codes "The book right before the record")
+    (book_paper layout) (book_shapes orders marked layout) book_words
 
 -- the section of a book behind what is made: its lines lie where their numbers say
 pub record IsWithDrawnBook (orders : List Order) (marked : Marked) (book : BookBefore)
@@ -108,7 +97,7 @@ pub record IsPlottedPicture (plot : Plot) (orders : List Order) (deals : List De
   pub axes : Axes
   pub axes_are : AreAxesOf plot axes
   pub written : text
-      ≡ picture_section (picture_shapes plot axes orders deals columns offence)
+      ≡ picture_section axes (picture_shapes plot axes orders deals columns offence)
 
 -- the same in the plot of these places and prices
 abbrev pub IsDrawnPicture : List Order → List Deal → ℕ → List Column → Option Offence → List ℕ

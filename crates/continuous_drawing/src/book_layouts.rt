@@ -19,11 +19,12 @@ pub struct PlacedLine {
     pub filled: u16,
 }
 
-/// The lines of a book with their places.
+/// The lines of a book with their places, and how high its paper is.
 #[derive(Debug, Drop)]
 pub struct BookLayout {
     pub bids: Vec<PlacedLine>,
     pub asks: Vec<PlacedLine>,
+    pub height: u32,
 }
 
 /// The quantity of the order at an index, or 0 where there is none.
@@ -47,16 +48,16 @@ fn most_of(orders: &OrderList<'_>, number: u64, lines: &[Resting]) -> u64
     most
 }
 
-/// How far a bar of a quantity reaches, where one of the greatest reaches from 92 to 352.
+/// How far a bar of a quantity reaches, where one of the greatest reaches from 68 to 352.
 fn reach_of(most: u64, quantity: u64) -> u16
     ensures { result ≡ spec.reach_of most quantity }
 {
     let axis = Axis {
         first: 0,
         last: u128::from(most),
-        length: 260,
+        length: 284,
     };
-    (92 + axis.point(u128::from(quantity))) as u16
+    (68 + axis.point(u128::from(quantity))) as u16
 }
 
 /// The top of a line below so many others.
@@ -118,6 +119,14 @@ fn first_ask(bids: &[Resting]) -> usize
     bids.len().min(10) + 1
 }
 
+/// How high the paper of a book is: its lines, the gap between the sides, and room above and below.
+fn height_of(book: &BookBefore) -> u32
+    ensures { result ≡ spec.book_height book.now }
+{
+    let lines = first_ask(&book.bids) + book.asks.len().min(10);
+    (26 + 14 * lines) as u32
+}
+
 /// The lines of a book with their places: the bids, and below them the asks.
 pub fn book_layout_of(
     alloc: Global,
@@ -130,5 +139,9 @@ pub fn book_layout_of(
     let first = first_ask(&book.bids);
     let bids = place_lines(alloc, orders, most, 0, &book.bids)?;
     let asks = place_lines(alloc, orders, most, first, &book.asks)?;
-    Ok(BookLayout { bids, asks })
+    Ok(BookLayout {
+        bids,
+        asks,
+        height: height_of(book),
+    })
 }

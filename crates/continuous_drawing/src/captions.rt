@@ -1,6 +1,31 @@
-//! What stands below the pictures.
-ghost use Rattle.std.specs.Prelude.{◌≡◌};
+//! What stands below the pictures, and the legend of the plot.
+ghost use Rattle.std.specs.Prelude.{◌≡◌, ◌++◌, IfOk};
 ghost use Rattle.continuous_drawing.specs.Captions as spec;
+
+use audit_base::faults::NoMemory;
+use audit_base::terms::Side;
+use page_markup::markup::Markup;
+use page_plots::shapes::{Anchor, Point, with_circle, with_label};
+use page_plots::sides::with_legend_entry;
+use std::alloc::Global;
+
+/// With what a dot is behind it, below the plot.
+fn with_trade_entry(alloc: Global, made: Markup) -> Result<Markup, NoMemory>
+    ensures { IfOk result (λ more. more ≡ made ++ spec.trade_entry) }
+{
+    let made = with_circle(alloc, made, b"trade", Point { x: 247, y: 336 }, 3)?;
+    let at = Point { x: 256, y: 340 };
+    with_label(alloc, made, b"tick", at, Anchor::Start, b"trade")
+}
+
+/// With what the two colours and the dots are behind it, below the plot.
+pub(crate) fn with_legend(alloc: Global, made: Markup) -> Result<Markup, NoMemory>
+    ensures { IfOk result (λ more. more ≡ made ++ spec.legend) }
+{
+    let made = with_legend_entry(alloc, made, Side::Buy, 68, b"best bid")?;
+    let made = with_legend_entry(alloc, made, Side::Sell, 154, b"best ask")?;
+    with_trade_entry(alloc, made)
+}
 
 /// What the picture of the best limits shows.
 #[tactic(auto, unfolding(crate::specs::Captions::picture_words))]

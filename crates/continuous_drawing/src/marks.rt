@@ -1,5 +1,5 @@
 //! The marks of the orders of the evidence, in the book.
-ghost use Rattle.std.specs.Prelude.{◌≡◌, ◌++◌, IfOk, slice_get};
+ghost use Rattle.std.specs.Prelude.{◌≡◌, ◌++◌, IfOk};
 ghost use Rattle.std.specs.List.{flat_map};
 ghost use Rattle.continuous_drawing.specs.Marks as spec;
 
@@ -10,18 +10,8 @@ use audit_base::findings::{OrderLine, Shown};
 use audit_base::terms::Side;
 use order_list::lists::OrderList;
 use page_markup::markup::Markup;
-use page_plots::shapes::{Anchor, with_circle, with_label};
+use page_plots::orders::{has_place, order_shown, with_badge};
 use std::alloc::Global;
-
-/// Whether there is an order at this index, whose record has this place.
-fn has_place(orders: &OrderList<'_>, index: usize, place: u32) -> bool
-    ensures { result ≡ spec.has_place (slice_get orders.now index) place }
-{
-    match orders.get(index) {
-        Some(order) => order.place() == place,
-        None => false,
-    }
-}
 
 /// With a mark beside a line behind it.
 fn with_mark(
@@ -32,10 +22,7 @@ fn with_mark(
 ) -> Result<Markup, NoMemory>
     ensures { IfOk result (λ more. more ≡ made ++ spec.mark_shapes number.now placed.now) }
 {
-    let centre = beside(placed, 12, 4);
-    let made = with_circle(alloc, made, b"badge", centre, 7)?;
-    let at = beside(placed, 12, 8);
-    with_label(alloc, made, b"badgetext", at, Anchor::Middle, number)
+    with_badge(alloc, made, number, beside(placed, 488, 4))
 }
 
 /// With the mark of an order behind it, where this line is that of the order.
@@ -94,28 +81,26 @@ fn with_order_mark(
     }
 }
 
-/// With the mark of what is shown behind it, where it is an order.
-fn with_shown_mark(
+/// With the mark of an order behind it, where there is one.
+fn with_mark_if_there(
     alloc: Global,
     made: Markup,
     orders: &OrderList<'_>,
     layout: &BookLayout,
     number: &[u8],
-    shown: &Shown,
+    shown: &Option<OrderLine>,
 ) -> Result<Markup, NoMemory>
     ensures { IfOk result
-        (λ more. more ≡ made ++ spec.shown_mark orders.now layout.now number.now shown.now) }
+        (λ more. more ≡ made ++ spec.mark_if_there orders.now layout.now number.now shown.now) }
 {
     match shown {
-        Shown::Place { .. } => Ok(made),
-        Shown::Unknown { .. } => Ok(made),
-        Shown::Order(line) => with_order_mark(alloc, made, orders, layout, number, line),
-        Shown::Due(line, _) => with_order_mark(alloc, made, orders, layout, number, line),
+        Some(line) => with_order_mark(alloc, made, orders, layout, number, line),
+        None => Ok(made),
     }
 }
 
-/// With the mark of what is shown behind it, where something is.
-pub fn with_mark_if_shown(
+/// With the mark of what is shown behind it, where it is an order.
+pub fn with_shown_mark(
     alloc: Global,
     made: Markup,
     orders: &OrderList<'_>,
@@ -123,11 +108,9 @@ pub fn with_mark_if_shown(
     number: &[u8],
     shown: &Option<Shown>,
 ) -> Result<Markup, NoMemory>
-    ensures { IfOk result (λ more. more
-        ≡ made ++ spec.shown_mark_if_there orders.now layout.now number.now shown.now) }
+    ensures { IfOk result
+        (λ more. more ≡ made ++ spec.shown_mark orders.now layout.now number.now shown.now) }
 {
-    match shown {
-        Some(shown) => with_shown_mark(alloc, made, orders, layout, number, shown),
-        None => Ok(made),
-    }
+    let line = order_shown(shown);
+    with_mark_if_there(alloc, made, orders, layout, number, &line)
 }

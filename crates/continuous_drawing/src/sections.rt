@@ -6,11 +6,11 @@ ghost use Rattle.continuous_drawing.specs.Sections as spec;
 ghost use Rattle.page_plots.specs.Plots.{IsPlot};
 
 use crate::book_layouts::{BookLayout, book_layout_of};
-use crate::books::with_book;
-use crate::captions::{book_words, picture_words};
+use crate::books::{book_paper, with_book};
+use crate::captions::{book_words, picture_words, with_legend};
 use crate::columns::with_all_quotes;
 use crate::extents::plot_of;
-use crate::marks::with_mark_if_shown;
+use crate::marks::with_shown_mark;
 use crate::offending::{Offence, offending_place, with_offending};
 use crate::trades::with_trades;
 use audit_base::faults::NoMemory;
@@ -22,10 +22,11 @@ use continuous_picture::pictures::{BookBefore, ContinuousPicture, continuous_pic
 use order_list::lists::OrderList;
 use page_markup::markup::Markup;
 use page_markup::words::Tag;
-use page_parts::elements::{with_section, with_text_element};
+use page_parts::elements::with_text_element;
 use page_plots::axes::{Axes, with_axes};
+use page_plots::figures::with_figure;
+use page_plots::papers::plot_paper;
 use page_plots::plots::Plot;
-use page_plots::shapes::with_picture;
 use std::alloc::Global;
 
 /// What is marked in the picture of continuous trading.
@@ -61,38 +62,8 @@ impl Marked {
     }
 }
 
-/// With what a picture shows behind it, as the caption of its figure.
-fn with_caption(alloc: Global, made: Markup, words: &[u8]) -> Result<Markup, NoMemory>
-    ensures { IfOk result (λ more. more ≡ made ++ spec.figure_caption words.now) }
-{
-    let caption = with_text_element(alloc, Markup::new(alloc), Tag::Paragraph, words)?;
-    made.with_element(Tag::FigureCaption, &[], &caption)
-}
-
-/// The figure with this in it.
-fn figure_of(alloc: Global, inner: &Markup) -> Result<Markup, NoMemory>
-    ensures { IfOk result (λ made. made ≡ spec.figure inner.now) }
-{
-    Markup::new(alloc).with_element(Tag::Figure, &[], inner)
-}
-
-/// What is in a figure: the picture of these shapes, and what it shows.
-fn figure_inside(
-    alloc: Global,
-    heading: &[u8],
-    paper: &[u8],
-    shapes: &Markup,
-    words: &[u8],
-) -> Result<Markup, NoMemory>
-    ensures { IfOk result (λ made. made
-        ≡ spec.figure_inside heading.now paper.now shapes.now words.now) }
-{
-    let made = with_picture(alloc, Markup::new(alloc), paper, heading, shapes)?;
-    with_caption(alloc, made, words)
-}
-
-/// With a section behind it that has a picture of these shapes, and what it shows.
-fn with_figure(
+/// With a section behind it that has a picture of these shapes, and these words below it.
+fn with_worded_figure(
     alloc: Global,
     made: Markup,
     heading: &[u8],
@@ -101,11 +72,10 @@ fn with_figure(
     words: &[u8],
 ) -> Result<Markup, NoMemory>
     ensures { IfOk result (λ more. more
-        ≡ made ++ spec.figure_section heading.now paper.now shapes.now words.now) }
+        ≡ made ++ spec.worded_figure heading.now paper.now shapes.now words.now) }
 {
-    let inner = figure_inside(alloc, heading, paper, shapes, words)?;
-    let figure = figure_of(alloc, &inner)?;
-    with_section(alloc, made, heading, &figure)
+    let caption = with_text_element(alloc, Markup::new(alloc), Tag::Paragraph, words)?;
+    with_figure(alloc, made, heading, heading, paper, shapes, &caption)
 }
 
 /// With the best limits and the trades behind it.
@@ -143,23 +113,18 @@ fn picture_shapes(
 {
     let made = with_axes(alloc, Markup::new(alloc), axes, b"record")?;
     let made = with_numbers(alloc, made, plot, orders, deals, columns)?;
-    with_offending(alloc, made, plot, offence)
+    let made = with_offending(alloc, made, plot, offence)?;
+    with_legend(alloc, made)
 }
 
 /// The section of a picture of these shapes.
-fn picture_section(alloc: Global, shapes: &Markup) -> Result<Markup, NoMemory>
-    ensures { IfOk result (λ made. made ≡ spec.picture_section shapes.now) }
+fn picture_section(alloc: Global, axes: &Axes, shapes: &Markup) -> Result<Markup, NoMemory>
+    ensures { IfOk result (λ made. made ≡ spec.picture_section axes.now shapes.now) }
 {
+    let paper = plot_paper(alloc, axes)?;
     let made = Markup::new(alloc);
     let heading = b"Best bid and best ask by record";
-    with_figure(
-        alloc,
-        made,
-        heading,
-        b"0 0 500 346",
-        shapes,
-        picture_words(),
-    )
+    with_worded_figure(alloc, made, heading, &paper, shapes, picture_words())
 }
 
 /// With the marks of the orders of the evidence behind it.
@@ -173,8 +138,8 @@ fn with_marks(
     ensures { IfOk result
         (λ more. more ≡ made ++ spec.book_marks orders.now marked.now layout.now) }
 {
-    let made = with_mark_if_shown(alloc, made, orders, layout, b"1", &marked.first)?;
-    with_mark_if_shown(alloc, made, orders, layout, b"2", &marked.second)
+    let made = with_shown_mark(alloc, made, orders, layout, b"1", &marked.first)?;
+    with_shown_mark(alloc, made, orders, layout, b"2", &marked.second)
 }
 
 /// The shapes of the picture of a book.
@@ -203,8 +168,9 @@ fn with_book_section(
         (λ more. more ≡ made ++ spec.book_section orders.now marked.now layout.now) }
 {
     let shapes = book_shapes(alloc, orders, marked, layout)?;
+    let paper = book_paper(alloc, layout)?;
     let heading = b"The book right before the record";
-    with_figure(alloc, made, heading, b"0 0 480 320", &shapes, book_words())
+    with_worded_figure(alloc, made, heading, &paper, &shapes, book_words())
 }
 
 /// With the section of a book behind it.
@@ -254,7 +220,7 @@ fn plotted_picture(
 {
     let axes = plot.axes(alloc)?;
     let shapes = picture_shapes(alloc, plot, &axes, orders, deals, columns, offence)?;
-    let made = picture_section(alloc, &shapes)?;
+    let made = picture_section(alloc, &axes, &shapes)?;
     Ok(made)
 }
 

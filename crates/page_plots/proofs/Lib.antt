@@ -1,3 +1,4 @@
 mod ShapeLemmas
 pub mod SeriesLemmas
 mod PlotLemmas
+pub mod BehindLemmas

@@ -1,17 +1,17 @@
 //! The axes of a plot of prices, drawn.
 ghost use Rattle.std.specs.Prelude.{◌≡◌, ◌++◌, IfOk, decimal};
 ghost use Rattle.std.specs.List.{flat_map};
-ghost use Rattle.audit_base.specs.Numbers.{price_text};
 ghost use Rattle.page_plots.specs.Axes as spec;
 
+use crate::papers::price_words;
 use crate::shapes::{Anchor, Point, with_label, with_line};
 use audit_base::faults::NoMemory;
 use audit_base::numbers::Price;
-use audit_base::texts::{write_number, write_price};
+use audit_base::texts::write_number;
 use page_markup::markup::Markup;
 use std::alloc::Global;
 
-/// The plot on its paper, which is 480 wide and 346 high.
+/// The plot on its paper, which is 500 wide and 346 high.
 pub const LEFT: u32 = 68;
 
 pub const RIGHT: u32 = 468;
@@ -39,15 +39,6 @@ pub struct NumberTick {
 pub struct Axes {
     pub prices: Vec<PriceTick>,
     pub numbers: Vec<NumberTick>,
-}
-
-/// The text of a price.
-fn price_words(alloc: Global, price: Price) -> Result<Vec<u8>, NoMemory>
-    ensures { IfOk result (λ text. text.items ≡ price_text price) }
-{
-    let mut text = Vec::new(alloc);
-    write_price(alloc, price.units(), &mut text)?;
-    Ok(text)
 }
 
 /// The text of a number.

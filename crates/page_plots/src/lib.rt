@@ -1,9 +1,15 @@
 //! Shapes of pictures, and plots of prices: their axes drawn, and where numbers lie on the paper.
 //!
 //! What `shapes` and `axes` write is said exactly, of places that are given. `plots` says where
-//! numbers and prices lie, and what is marked on the axes.
+//! numbers and prices lie, and what is marked on the axes, and `papers` how far the paper reaches.
+//! The other modules have what all pictures share: `sides` the classes of the two sides and their
+//! legend, `orders` the title and the badge of an order, and `figures` the section of a picture.
 #![tactic(auto)]
 
 pub mod axes;
+pub mod figures;
+pub mod orders;
+pub mod papers;
 pub mod plots;
 pub mod shapes;
+pub mod sides;

@@ -3,7 +3,6 @@
 ghost use Rattle.std.specs.Prelude.{◌≡◌, ◌<◌, ◌≤◌, ◌-◌, ◌^◌, ◌++◌, ◌∷◌, [], IfOk, OnOk, map, nat_lt, if◌then◌else◌, Some, None};
 ghost use Rattle.std.specs.List.{flat_map};
 ghost use Rattle.page_layout.specs.Axes.{IsAxis};
-ghost use Rattle.page_layout.specs.Rounds.{IsLeastRound};
 ghost use Rattle.page_plots.specs.Plots as spec;
 ghost use Rattle.page_plots.specs.Plots.{AreAxesOf, AreMarks, AreNumberTicks, ArePriceTicks, IsPlot};
 

@@ -1,6 +1,6 @@
 use Rattle.std.proofs.Common.{◌++◌, ◌∙◌, ap, sym, Bool, ℕ, List, [], decimal, if◌then◌else◌}
 use Rattle.std.specs.Prelude.{codes}
-use Rattle.call_drawing.proofs.BehindLemmas.{five-behind}
+use Rattle.page_plots.proofs.BehindLemmas.{five-behind}
 use Rattle.call_drawing.proofs.captions.append_left_out.Goals as goal
 
 pub returns-in_ok-extend_from_slice-3 : goal.returns-in_ok-extend_from_slice-3
