@@ -1,6 +1,6 @@
 -- What is drawn of a line of the book: its title with the numbers of its order, its bar, filled as
 -- far as is left of it, its limit, and how much is left of how much.
-use Rattle.std.specs.Prelude.{ℕ, Bool, ◌||◌, ◌+◌, ◌-◌, List, ◌++◌, codes, decimal, slice_get}
+use Rattle.std.specs.Prelude.{ℕ, Bool, false, ◌||◌, ◌+◌, ◌-◌, List, ◌++◌, codes, decimal, slice_get}
 use Rattle.std.specs.List.{list_any}
 use Rattle.audit_base.specs.declared.orders.Order.{Order}
 use Rattle.audit_base.specs.declared.terms.Side.{Side}
@@ -53,8 +53,8 @@ line_shapes orders side placed =
 abbrev pub is_long_line : PlacedLine → Bool
 is_long_line placed = is_long placed.line.limit
 
--- the paper of a book is as high as its lines, and wide where a limit is long
+-- the paper of a book is as high as its lines, and has more room at its left where a limit is long
 abbrev pub book_paper : BookLayout → List ℕ
 book_paper layout =
     paper_of (list_any is_long_line layout.bids.items || list_any is_long_line layout.asks.items)
-    layout.height
+    false layout.height

@@ -151,6 +151,6 @@ pub fn book_paper(alloc: Global, layout: &BookLayout) -> Result<Vec<u8>, NoMemor
 {
     let long_bids = has_long_limit(alloc, &layout.bids)?;
     let long_asks = has_long_limit(alloc, &layout.asks)?;
-    let is_wide = either_is_long(long_bids, long_asks);
-    paper_of(alloc, is_wide, layout.height)
+    let left = either_is_long(long_bids, long_asks);
+    paper_of(alloc, left, false, layout.height)
 }

@@ -1,12 +1,13 @@
-//! The paper of a picture: how far its coordinates reach. The longest price has 19 characters, some
-//! 7 units wide each; a price of eight ends at 60 units from the left. Where one is longer the
-//! paper begins farther left, so that no price is cut.
+//! The paper of a picture: how far its coordinates reach. A digit is some 7 units wide. A price ends
+//! 60 units from the left, and has at most 19 characters; a number stands in the middle at its mark,
+//! at most 32 units from the right. Where one is longer than that the paper reaches farther, so that
+//! none is cut.
 ghost use Rattle.std.specs.Prelude.{◌≡◌, IfOk};
 ghost use Rattle.std.specs.List.{list_any};
 ghost use Rattle.audit_base.specs.Numbers.{price_text};
 ghost use Rattle.page_plots.specs.Papers as spec;
 
-use crate::axes::{Axes, PriceTick};
+use crate::axes::{Axes, NumberTick, PriceTick};
 use audit_base::faults::NoMemory;
 use audit_base::numbers::Price;
 use audit_base::texts::{write_number, write_price};
@@ -14,6 +15,9 @@ use std::alloc::Global;
 
 /// How high the paper of a plot is.
 const PLOT_HEIGHT: u32 = 346;
+
+/// The least number that has ten digits.
+const LONG_NUMBER: u128 = 1_000_000_000;
 
 /// The text of a price.
 pub fn price_words(alloc: Global, price: Price) -> Result<Vec<u8>, NoMemory>
@@ -44,19 +48,34 @@ fn has_long_price(alloc: Global, ticks: &[PriceTick]) -> Result<bool, NoMemory>
     Ok(false)
 }
 
-/// The front of the coordinates of a paper.
-fn paper_front(is_wide: bool) -> &'static [u8]
-    ensures { result.now ≡ spec.paper_front is_wide }
+/// Whether a marked number is long.
+fn has_long_number(ticks: &[NumberTick]) -> bool
+    ensures { result ≡ list_any spec.is_long_number ticks.now }
 {
-    if is_wide { b"-76 0 576 " } else { b"0 0 500 " }
+    ticks.iter().any(|tick| LONG_NUMBER <= tick.number)
 }
 
-/// The coordinates of a paper of this height, which has room for long prices at its left where it
-/// is wide.
-pub fn paper_of(alloc: Global, is_wide: bool, height: u32) -> Result<Vec<u8>, NoMemory>
-    ensures { IfOk result (λ text. text.items ≡ spec.paper_of is_wide height) }
+/// The front of the coordinates of a paper.
+fn paper_front(left: bool, right: bool) -> &'static [u8]
+    ensures { result.now ≡ spec.paper_front left right }
 {
-    let mut text = Vec::from_slice(alloc, paper_front(is_wide))?;
+    if left && right {
+        b"-76 0 636 "
+    } else if left {
+        b"-76 0 576 "
+    } else if right {
+        b"0 0 560 "
+    } else {
+        b"0 0 500 "
+    }
+}
+
+/// The coordinates of a paper of this height, with more room at its left for long prices, and at its
+/// right for long numbers.
+pub fn paper_of(alloc: Global, left: bool, right: bool, height: u32) -> Result<Vec<u8>, NoMemory>
+    ensures { IfOk result (λ text. text.items ≡ spec.paper_of left right height) }
+{
+    let mut text = Vec::from_slice(alloc, paper_front(left, right))?;
     write_number(alloc, u128::from(height), &mut text)?;
     Ok(text)
 }
@@ -65,6 +84,7 @@ pub fn paper_of(alloc: Global, is_wide: bool, height: u32) -> Result<Vec<u8>, No
 pub fn plot_paper(alloc: Global, axes: &Axes) -> Result<Vec<u8>, NoMemory>
     ensures { IfOk result (λ text. text.items ≡ spec.plot_paper axes.now) }
 {
-    let is_wide = has_long_price(alloc, &axes.prices)?;
-    paper_of(alloc, is_wide, PLOT_HEIGHT)
+    let left = has_long_price(alloc, &axes.prices)?;
+    let right = has_long_number(&axes.numbers);
+    paper_of(alloc, left, right, PLOT_HEIGHT)
 }

@@ -1,10 +1,11 @@
-use Rattle.std.proofs.Common.{◌≡◌, ◌∙◌, ap, Bool}
+use Rattle.std.proofs.Common.{◌≡◌, ◌∙◌, ap}
 use Rattle.std.specs.List.{list_any}
 use Rattle.std.proofs.lemmas.Result.{IfOk-weaker}
-use Rattle.page_plots.specs.Papers.{is_long_tick, paper_of}
+use Rattle.page_plots.specs.Papers.{is_long_number, is_long_tick, paper_of}
 use Rattle.page_plots.proofs.papers.plot_paper.Goals as goal
 
 pub returns : goal.returns
 returns c =
-    let wide : c.in_ok-is_wide.is_wide ≡ list_any is_long_tick c.args.axes.now.prices.items = c.in_ok-is_wide.ensures ∙ ap (list_any is_long_tick) c.deref.ensures.value in
-    IfOk-weaker c.paper_of.result _ _ (λ text e. e ∙ ap (λ (w : Bool). paper_of w 346) wide) c.paper_of.ensures
+    let left : c.in_ok-left.left ≡ list_any is_long_tick c.args.axes.now.prices.items = c.in_ok-left.ensures ∙ ap (list_any is_long_tick) c.deref.ensures.value in
+    let right : c.has_long_number-right.result ≡ list_any is_long_number c.args.axes.now.numbers.items = c.has_long_number-right.ensures ∙ ap (list_any is_long_number) c.deref-2.ensures.value in
+    IfOk-weaker c.paper_of.result _ _ (λ text e. e ∙ (λ i. paper_of (left i) (right i) 346)) c.paper_of.ensures
