@@ -48,9 +48,9 @@ offence_question rule symbol records checks =
     record { rule = rule; symbol = symbol; records = records; checks = checks }
 
 -- the log that a command starts after those that it has read, whose bytes these are: its slot and
--- its name; nothing where it needs no more. `audit`, `session`, `offences` and `contents` start both
--- logs, the trade log where the order log is good, `digest` both whatever is in them, `convert` its
--- one log, `plain` the day as the order log, `orders`, `help` and `--version` none
+-- its name; nothing where it needs no more. `audit`, `session`, `offences` and `contents` start
+-- both logs, the trade log where the order log is good, `digest` both whatever is in them,
+-- `convert` its one log, `plain` the day as the order log, `orders`, `help` and `--version` none
 abbrev pub next_desk_log : DeskRequest → List (List ℕ) → Option (Which × List ℕ)
 next_desk_log (Audit rule logs table share checks page) bytes =
     next_of_both_logs logs.orders logs.trades logs.orders_form bytes

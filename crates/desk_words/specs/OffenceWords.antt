@@ -2,7 +2,6 @@
 use Rattle.std.specs.Prelude.{ℕ, Bool, true, false, not, ◌||◌, Option, None, Some, option_map, option_and_then, List, [], ◌∷◌, codes, if◌then◌else◌}
 use Rattle.audit_base.specs.declared.terms.Rule.{Rule}
 use Rattle.audit_base.specs.Least.{only_if}
-use Rattle.command_words.specs.declared.options.Options.{Options}
 use Rattle.command_words.specs.Options.{no_options, with_form_option}
 use Rattle.command_words.specs.WordForms.{word_equals}
 use Rattle.command_words.specs.Words.{when_some}
