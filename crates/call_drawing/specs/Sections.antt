@@ -64,8 +64,8 @@ abbrev pub greatest_of : Option Short → ℕ
 greatest_of None = 0
 greatest_of (Some short) = short.greatest
 
--- the section of a page that has the picture of a call with these numbers: its parts lie where their
--- numbers lie in the plot
+-- the section of a page that has the picture of a call with these numbers: its parts lie where
+-- their numbers lie in the plot
 pub record IsDrawnSection (orders : List Order) (numbers : CallPicture) (marked : Marked)
     (text : List ℕ) : Type 0 where
   pub layout : CallLayout

@@ -1,6 +1,6 @@
 //! How pages look: one typeface of the system, two colours with a tint of each, and ink for trades
-//! and the offence. The two differ in lightness as well as in hue, so that they are told apart without
-//! colour sight and in print.
+//! and the offence. The two differ in lightness as well as in hue, so that they are told apart
+//! without colour sight and in print.
 
 /// The style of a page. It holds none of the bytes that are written as entities, since a browser
 /// reads no entity in a style. A row of a table may end before its last column, so rows have the

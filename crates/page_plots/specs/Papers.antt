@@ -18,8 +18,8 @@ is_long_tick tick = is_long tick.price
 abbrev pub is_long_number : NumberTick → Bool
 is_long_number tick = nat_le (10 ^ 9) tick.number
 
--- the coordinates of a paper of a height: its left end, its upper end and its width come first, which
--- give it more room at its left, at its right or at both
+-- the coordinates of a paper of a height: its left end, its upper end and its width come first,
+-- which give it more room at its left, at its right or at both
 abbrev pub paper_front : Bool → Bool → List ℕ
 paper_front false false = codes "0 0 500 "
 paper_front true false = codes "-76 0 576 "
@@ -29,8 +29,8 @@ paper_front true true = codes "-76 0 636 "
 abbrev pub paper_of : Bool → Bool → ℕ → List ℕ
 paper_of left right height = paper_front left right ++ decimal height
 
--- the paper of a plot has more room at its left where a marked price is long, and at its right where
--- a marked number is long
+-- the paper of a plot has more room at its left where a marked price is long, and at its right
+-- where a marked number is long
 abbrev pub plot_paper : Axes → List ℕ
 plot_paper axes = paper_of (list_any is_long_tick axes.prices.items)
     (list_any is_long_number axes.numbers.items) 346

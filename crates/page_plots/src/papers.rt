@@ -1,7 +1,7 @@
-//! The paper of a picture: how far its coordinates reach. A digit is some 7 units wide. A price ends
-//! 60 units from the left, and has at most 19 characters; a number stands in the middle at its mark,
-//! at most 32 units from the right. Where one is longer than that the paper reaches farther, so that
-//! none is cut.
+//! The paper of a picture: how far its coordinates reach. A digit is some 7 units wide. The price
+//! of a line ends 60 units from the left, and has at most 19 characters; a number stands with its
+//! middle at its mark, 32 units or more from the right. Where one needs more than that, the paper
+//! reaches farther, so that none is cut.
 ghost use Rattle.std.specs.Prelude.{◌≡◌, IfOk};
 ghost use Rattle.std.specs.List.{list_any};
 ghost use Rattle.audit_base.specs.Numbers.{price_text};
@@ -70,8 +70,8 @@ fn paper_front(left: bool, right: bool) -> &'static [u8]
     }
 }
 
-/// The coordinates of a paper of this height, with more room at its left for long prices, and at its
-/// right for long numbers.
+/// The coordinates of a paper of this height, with more room at its left for long prices, and at
+/// its right for long numbers.
 pub fn paper_of(alloc: Global, left: bool, right: bool, height: u32) -> Result<Vec<u8>, NoMemory>
     ensures { IfOk result (λ text. text.items ≡ spec.paper_of left right height) }
 {
