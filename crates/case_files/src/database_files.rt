@@ -1,10 +1,14 @@
 //! The files of a database: they are opened when no other process has them open, and the log is
-//! removed after the last transaction that was in it. No clause speaks of either.
-ghost use Rattle.std.specs.Prelude.{IsTrue, IfOk};
+//! removed after the last transaction that was in it. No clause speaks of either, but of which file
+//! the log is.
+ghost use Rattle.std.specs.Prelude.{◌≡◌, IsTrue, IfOk};
+ghost use Rattle.std.specs.String.{string_bytes};
+ghost use Rattle.case_files.specs.DatabasePlaces.{HasLogBeside, path_of_log};
 
 use sqlite::{File, Files, Unknown};
 use sqlite_disk::Disk;
 use sqlite_std_file::{OpenError, open};
+use std::alloc::{AllocError, Global};
 use std::fs::Metadata;
 use std::os::unix::fs::MetadataExt;
 use std::time::Duration;
@@ -41,14 +45,29 @@ pub struct DatabasePlace {
     number: u64,
 }
 
+/// The path of the log of a database.
+fn log_path(alloc: Global, database: &str) -> Result<String, AllocError>
+    ensures { IfOk result (λ log. string_bytes log ≡ path_of_log database.now) }
+{
+    let mut log = String::from_str(alloc, database)?;
+    log.push_str("-wal")?;
+    Ok(log)
+}
+
 impl DatabasePlace {
-    /// Where the database under this path is, with no link in its path.
-    pub fn of(rt: &HostRuntime, path: &str) -> io::Result<DatabasePlace> {
+    /// Where the database under this path is, with no link in its path, and the log beside it. No
+    /// file is changed. Err where the path leads to no file, where a folder on it may not be
+    /// searched, or out of memory.
+    pub fn of(rt: &HostRuntime, path: &str) -> io::Result<DatabasePlace>
+        ensures { IfOk result HasLogBeside }
+    {
         let real = fs::canonicalize(rt, path)?;
         let found = fs::symlink_metadata(rt, real.as_str())?;
+        let database = String::from_str(rt.alloc(), real.as_str())?;
+        let log = log_path(rt.alloc(), database.as_str())?;
         Ok(DatabasePlace {
-            database: String::from_str(rt.alloc(), real.as_str())?,
-            log: format!(in rt.alloc(); "{}-wal", real.as_str())?,
+            database,
+            log,
             device: found.dev(),
             number: found.ino(),
         })
