@@ -24,6 +24,11 @@ long_tells shelf = false
 abbrev pub long_log_of : LongShelf → Which → List ℕ → Option (List ℕ)
 long_log_of shelf which name = None
 
+-- how many bytes the log of each slot has
+abbrev pub long_bytes : LongShelf → Which → ℕ
+long_bytes shelf Orders = shelf.order_bytes
+long_bytes shelf Trades = shelf.trade_bytes
+
 -- the state of each slot
 abbrev pub long_slot : LongShelf → Which → Slot
 long_slot shelf Orders = long_state shelf.orders

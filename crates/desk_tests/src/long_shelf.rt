@@ -1,6 +1,8 @@
 //! A shelf of logs that are as long as a log may be, or longer, and are not made: all that can be
 //! seen of them but their first bytes is how many bytes they have.
-ghost use Rattle.std.specs.Prelude.{◌≡◌, ◌+◌, ◌≤◌, true};
+ghost use Rattle.std.specs.Prelude.{◌≡◌, ◌+◌, ◌≤◌, true, None};
+ghost use Rattle.audit_base.specs.declared.terms.Which.{Which};
+ghost use Rattle.log_source.specs.Sources.{fresh_slot};
 
 use audit_base::terms::Which;
 use log_source::shelf::{Failed, Shelf, StartFault};
@@ -25,8 +27,15 @@ pub struct LongShelf {
 }
 
 impl LongShelf {
-    /// A shelf with nothing started.
-    pub fn new(front: &'static [u8], order_bytes: u64, trade_bytes: u64) -> LongShelf {
+    ghost use Rattle.desk_tests.specs.LongShelves.{long_bytes, long_slot};
+
+    /// A shelf with nothing started, whose logs have so many bytes.
+    pub fn new(front: &'static [u8], order_bytes: u64, trade_bytes: u64) -> LongShelf
+        ensures front { result.front.now ≡ front.now }
+        ensures orders { long_bytes result Which.Orders ≡ order_bytes }
+        ensures trades { long_bytes result Which.Trades ≡ trade_bytes }
+        ensures fresh { (which : Which) → long_slot result which ≡ fresh_slot None }
+    {
         let fresh = LongSlot {
             started: false,
             taken: 0,
