@@ -1,4 +1,3 @@
-mod AbsenceLemmas
 mod PageLemmas
 mod ReadLemmas
 mod DecideLemmas

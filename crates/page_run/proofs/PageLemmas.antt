@@ -20,7 +20,6 @@ use Rattle.command_run.specs.VerdictAnswers.{IsVerdictAnswer}
 use Rattle.matching_core.specs.declared.deals_draft.ResolvedTrades.{ResolvedTrades}
 use Rattle.page_run.specs.PageAnswers.{finding_of, in_words, IsPageAfter, IsPageOfMarket, Pictures}
 use Rattle.page_run.specs.Telling.{IsAnswerBySome, IsAnswerToGiven, IsNamedByPresence, IsPageOfFinding}
-use Rattle.page_run.proofs.AbsenceLemmas.{found-present, sound-absent}
 use Rattle.record_verdict.specs.declared.before_rule.BeforeRule.{BeforeRule}
 use Rattle.record_verdict.specs.declared.before_rule.BeforeRule.TheVariants as before_rule
 use Rattle.record_verdict.specs.declared.questions.Question.{Question}
@@ -28,6 +27,7 @@ use Rattle.record_verdict.specs.BeforeRule.{IsBeforeRule, IsResolvedWithoutFindi
 use Rattle.record_verdict.specs.RecordVerdicts.{IsRecordVerdict}
 use Rattle.record_verdict.specs.Scopes.{finding_before_rule_in_scope, scope_of}
 use Rattle.record_verdict.specs.Stages.{IsVerdictAfterStages}
+use Rattle.symbol_offences.specs.Laws.{AbsentHasNothing, FoundIsPresent}
 use Rattle.symbol_offences.specs.OffenceAnswers.{is_absent}
 use Rattle.symbol_offences.specs.Telling.{are_none}
 use Rattle.verdict_page.specs.declared.repeats.PageLogs.{PageLogs}
@@ -64,10 +64,10 @@ module _ (is_picture : Pictures) (q : Question) (named : PageLogs) (entries : Li
   by-presence absent b same is = subst (λ (x : Bool). IsNamedByPresence x is_picture q named entries paired the_status text) (sym same) is
 
   -- a finding before the rule
-  found-answer : (finding : Finding) → finding_before_rule_in_scope (scope_of q) entries paired ≡ Some finding → v ≡ verdict.Rejected finding → IsPageOfFinding q named finding the_status text
+  found-answer : FoundIsPresent → (finding : Finding) → finding_before_rule_in_scope (scope_of q) entries paired ≡ Some finding → v ≡ verdict.Rejected finding → IsPageOfFinding q named finding the_status text
       → IsNamedByPresence (is_absent q.symbol entries paired) is_picture q named entries paired the_status text
-  found-answer finding found rejected told =
-      by-presence (is_absent q.symbol entries paired) false (found-present (scope_of q) entries paired finding found)
+  found-answer present finding found rejected told =
+      by-presence (is_absent q.symbol entries paired) false (present (scope_of q) entries paired finding found)
       (record {
         the_verdict = v;
         is = has;
@@ -86,10 +86,10 @@ module _ (is_picture : Pictures) (q : Question) (named : PageLogs) (entries : Li
     page = page-of-sound is_picture q named text v _ orders deals none told.page;
   }
 
-  sound-answer : (sound : ResolvedTrades) → IsResolvedWithoutFinding (scope_of q) entries paired sound → IsAnswerBySome (are_none sound.history sound.deals.items) is_picture q named sound.history sound.deals.items v the_status text
+  sound-answer : AbsentHasNothing → (sound : ResolvedTrades) → IsResolvedWithoutFinding (scope_of q) entries paired sound → IsAnswerBySome (are_none sound.history sound.deals.items) is_picture q named sound.history sound.deals.items v the_status text
       → IsNamedByPresence (is_absent q.symbol entries paired) is_picture q named entries paired the_status text
-  sound-answer sound resolved told =
-      by-presence (is_absent q.symbol entries paired) (are_none orders deals) (sym (sound-absent (scope_of q) entries paired resolved.none))
+  sound-answer absent sound resolved told =
+      by-presence (is_absent q.symbol entries paired) (are_none orders deals) (absent (scope_of q) entries paired resolved.none)
       (by-some resolved.none (are_none orders deals)
       (subst (λ (ds : List Deal). IsAnswerBySome (are_none orders ds) is_picture q named orders ds v the_status text) resolved.deals
       (subst (λ (os : List Order). IsAnswerBySome (are_none os sound.deals.items) is_picture q named os sound.deals.items v the_status text) resolved.orders told)))
@@ -103,20 +103,20 @@ module _ (is_picture : Pictures) (q : Question) (named : PageLogs) (given : Befo
   }
 
   -- a finding before the rule
-  pub found-told : (finding : Finding) → given ≡ before_rule.Found finding → IsAnswerOfKind (IsPageOfFinding q named finding) answer → IsAnswerToGiven is_picture q named given answer
-  found-told finding is told = record {
+  pub found-told : FoundIsPresent → (finding : Finding) → given ≡ before_rule.Found finding → IsAnswerOfKind (IsPageOfFinding q named finding) answer → IsAnswerToGiven is_picture q named given answer
+  found-told present finding is told = record {
     of_place = λ l b e. absurd (found-apart finding l b given is e);
     of_records = λ entries paired before.
-        found-answer is_picture q named entries paired v (stages.of_records entries paired before) answer.status answer.text.items finding
+        found-answer is_picture q named entries paired v (stages.of_records entries paired before) answer.status answer.text.items present finding
         (subst (λ (b : BeforeRule). IsBeforeRule (scope_of q) entries paired b) is before) (stages.of_finding finding is) told;
   }
 
   -- sound trades
-  pub sound-told : (sound : ResolvedTrades) → given ≡ before_rule.Sound sound → IsAnswerOfKind (IsAnswerBySome (are_none sound.history sound.deals.items) is_picture q named sound.history sound.deals.items v) answer
+  pub sound-told : AbsentHasNothing → (sound : ResolvedTrades) → given ≡ before_rule.Sound sound → IsAnswerOfKind (IsAnswerBySome (are_none sound.history sound.deals.items) is_picture q named sound.history sound.deals.items v) answer
       → IsAnswerToGiven is_picture q named given answer
-  sound-told sound is told = record {
+  sound-told absent sound is told = record {
     of_place = λ l b e. absurd (sound-apart sound l b given is e);
     of_records = λ entries paired before.
-        sound-answer is_picture q named entries paired v (stages.of_records entries paired before) answer.status answer.text.items sound
+        sound-answer is_picture q named entries paired v (stages.of_records entries paired before) answer.status answer.text.items absent sound
         (subst (λ (b : BeforeRule). IsBeforeRule (scope_of q) entries paired b) is before) told;
   }

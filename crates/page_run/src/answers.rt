@@ -35,6 +35,7 @@ use record_verdict::questions::Question;
 use record_verdict::verdicts::verdict_after;
 use std::alloc::Global;
 use symbol_offences::answers::absent_answer;
+use symbol_offences::laws::absent_symbols_have_nothing;
 use verdict_page::repeats::PageLogs;
 
 /// What is asked of the logs: the verdict of the rule on the symbol.
@@ -118,6 +119,8 @@ fn answer_after<D: Drawing>(
     requires { IsJudgeable given.now }
     ensures { IfOk result (IsAnswerToGiven D.is_picture question.now named.now given.now) }
 {
+    // A law that the answer rests on. It computes nothing.
+    absent_symbols_have_nothing();
     let verdict = verdict_after(alloc, question, given)?;
     match given {
         BeforeRule::Malformed { .. } => verdict_answer(alloc, &verdict),

@@ -1,7 +1,7 @@
 -- The answer to what two logs give is the answer to the records that give it.
-use Rattle.std.proofs.Common.{◌≡◌, ◌++◌, ◌∙◌, refl, sym, ap, subst, arith, ℕ, Bool, true, false, List, [], ◌∷◌, Option, Some, None, Result, Ok, Err, length}
-use Rattle.std.specs.Prelude.{◌&&◌, ◌||◌, filter_map, map, slice_get, IfOk}
-use Rattle.std.specs.List.{enumerate_from, range_with_len}
+use Rattle.std.proofs.Common.{◌≡◌, ◌++◌, ◌∙◌, refl, sym, ap, subst, ℕ, Bool, true, false, List, [], ◌∷◌, Option, Some, None, Result, length}
+use Rattle.std.specs.Prelude.{◌||◌, filter_map, slice_get, IfOk}
+use Rattle.std.specs.List.{range_with_len}
 use Rattle.std.proofs.lemmas.Option.{none-some, same_Some}
 use Rattle.std.proofs.lemmas.Result.{IfOk-weaker}
 use Rattle.audit_base.specs.Moments.{Moment}
@@ -11,16 +11,14 @@ use Rattle.audit_base.specs.declared.findings.Finding.{Finding}
 use Rattle.audit_base.specs.declared.orders.Deal.{Deal}
 use Rattle.audit_base.specs.declared.orders.Order.{Order}
 use Rattle.audit_base.specs.declared.records.OrderRecord.{OrderRecord}
-use Rattle.audit_base.specs.declared.records.OrderRecord.TheVariants.{New, Cancel, Replace}
 use Rattle.audit_base.specs.declared.records.TradeRecord.{TradeRecord}
 use Rattle.audit_base.specs.declared.terms.Rule.{Rule}
 use Rattle.audit_base.specs.declared.terms.Rule.TheVariants as rule
 use Rattle.audit_base.specs.declared.terms.Which.{Which}
-use Rattle.audit_base.specs.Histories.{entry_finding, history, history_finding, order_list, order_of_entry}
-use Rattle.audit_base.specs.Least.{first_answer, least_answer}
-use Rattle.audit_base.specs.Trades.{deal_of_trade, deals_of_symbol, trades_finding, trades_of_symbol}
+use Rattle.audit_base.specs.Histories.{history_finding, order_list}
+use Rattle.audit_base.specs.Least.{first_answer}
+use Rattle.audit_base.specs.Trades.{deals_of_symbol, trades_finding}
 use Rattle.audit_base.specs.Verdicts.{finding_before_rule, instant_finding_of_rule, paired_trades, pairing_finding}
-use Rattle.audit_base.proofs.LeastLemmas.{none-below, none_some}
 use Rattle.audit_report.specs.declared.statuses.Status.{Status}
 use Rattle.audit_report.specs.declared.statuses.Status.TheVariants as status
 use Rattle.audit_report.specs.declared.verdicts.Accepted.{Accepted}
@@ -43,11 +41,12 @@ use Rattle.record_verdict.specs.Stages.{IsVerdictAfterStages}
 use Rattle.symbol_offences.specs.declared.questions.OffenceQuestion.{OffenceQuestion}
 use Rattle.symbol_offences.specs.declared.symbol_logs.QuotedRecords.{QuotedRecords}
 use Rattle.symbol_offences.specs.declared.symbol_logs.SymbolLogs.{SymbolLogs}
-use Rattle.symbol_offences.specs.OffenceAnswers.{has_none, is_absent, IsAnswerByPresence, IsAnswerByVerdict, IsAnswerToAccepted, IsAnswerToRejected, IsOffencesOfRecords}
+use Rattle.symbol_offences.specs.OffenceAnswers.{is_absent, IsAnswerByPresence, IsAnswerByVerdict, IsAnswerToAccepted, IsAnswerToRejected, IsOffencesOfRecords}
 use Rattle.symbol_offences.specs.OffenceLines.{failure_lines}
 use Rattle.symbol_offences.specs.Questions.{audit_question, keeping_for, kept_if}
 use Rattle.symbol_offences.specs.SymbolLogs.{IsSymbolLogs, quoted_records}
 use Rattle.symbol_offences.specs.Telling.{are_none, IsAnswerByDeals, IsAnswerBySome, IsAnswerToLogs}
+use Rattle.symbol_offences.proofs.AbsenceLemmas.{found-present, sound-absent}
 
 -- What is found before the rule is what a reading in the scope of the rule finds.
 
@@ -63,83 +62,6 @@ same-before : (q : OffenceQuestion) (entries : List OrderRecord) (paired : Resul
 same-before q entries paired =
     ap (λ (o : Option Finding). first_answer (history_finding q.symbol entries ∷ o ∷ pairing_finding paired ∷ trades_finding (order_list q.symbol entries) q.symbol (paired_trades paired) ∷ []))
     (same-admission q.rule (order_list q.symbol entries))
-
--- Where the symbol is absent.
-
-none-is : {A : Type 0} (xs : List A) → has_none xs ≡ true → xs ≡ []
-none-is [] is = refl
-none-is (x ∷ xs) is = cc
-
-none-mapped : {A B : Type 0} (f : A → B) (xs : List A) → has_none (map f xs) ≡ has_none xs
-none-mapped f [] = refl
-none-mapped f (x ∷ xs) = refl
-
-both-true : (a b : Bool) → (a && b) ≡ true → (a ≡ true) × (b ≡ true)
-both-true true true e = (refl, refl)
-both-true true false e = cc
-both-true false b e = cc
-
--- the orders of a history of which these are the records
-abbrev orders_of_history : List (ℕ × OrderRecord) → List Order
-orders_of_history h = filter_map (λ e. order_of_entry h (e.0, e.1.0, e.1.1)) (enumerate_from 0 h)
-
--- no order is found in no records, and nothing else
-empty-history : (the_rule : Rule) (symbol : List ℕ) (trades : List TradeRecord) (h : List (ℕ × OrderRecord)) → h ≡ [] → trades_of_symbol symbol trades ≡ []
-    → first_answer (least_answer (entry_finding h) (length h) ∷ instant_finding_of_rule the_rule (orders_of_history h) ∷ None ∷ trades_finding (orders_of_history h) symbol trades ∷ []) ≡ None
-unfolding trades_finding
-empty-history the_rule symbol trades h none untraded = rw (none, untraded) (by-rule the_rule)
-  where
-    by-rule : (r : Rule) → ◌≡◌ {A = Option Finding} (first_answer (None ∷ instant_finding_of_rule r [] ∷ None ∷ None ∷ [])) None
-    by-rule rule.Matching = refl
-    by-rule rule.Fair = refl
-    by-rule rule.Uniform = refl
-    by-rule rule.Maximum = refl
-    by-rule rule.Continuous = refl
-
--- where something is found before the rule, the symbol is not absent
-found-present : (the_rule : Rule) (symbol : List ℕ) (entries : List OrderRecord) (paired : Result (List TradeRecord) Finding) (finding : Finding) → finding_before_rule the_rule symbol entries paired ≡ Some finding
-    → is_absent symbol entries paired ≡ false
-found-present the_rule symbol entries (Err alone) finding found = refl
-found-present the_rule symbol entries (Ok trades) finding found = by-absent (is_absent symbol entries (Ok trades)) refl
-  where
-    by-absent : (b : Bool) → is_absent symbol entries (Ok trades) ≡ b → b ≡ false
-    by-absent false e = refl
-    by-absent true e =
-        let both = both-true (has_none (history symbol entries)) (has_none (trades_of_symbol symbol trades)) e in
-        none_some (finding_before_rule the_rule symbol entries (Ok trades)) finding
-        (empty-history the_rule symbol trades (history symbol entries) (none-is (history symbol entries) both.0) (none-is (trades_of_symbol symbol trades) both.1)) found
-
--- the first record of a history without a finding is an order
-first-is-order : (h : List (ℕ × OrderRecord)) → least_answer (entry_finding h) (length h) ≡ None → has_none (orders_of_history h) ≡ has_none h
-first-is-order [] clean = refl
-first-is-order ((place, New key time symbol side quantity price life) ∷ rest) clean = refl
-first-is-order ((place, Replace key time symbol target side quantity price) ∷ rest) clean = refl
-first-is-order ((place, Cancel key time symbol target) ∷ rest) clean =
-    let h : List (ℕ × OrderRecord) = (place, Cancel key time symbol target) ∷ rest in
-    none_some (entry_finding h 0) _ (none-below (entry_finding h) (length h) clean 0 (omega arith)) refl
-
-none-dealt : (orders : List Order) (symbol : List ℕ) (trades : List TradeRecord) → has_none (deals_of_symbol orders symbol trades) ≡ has_none (trades_of_symbol symbol trades)
-unfolding deals_of_symbol
-none-dealt orders symbol trades = none-mapped (deal_of_trade orders) (trades_of_symbol symbol trades)
-
-history-clean : (a b c d : Option Finding) → first_answer (a ∷ b ∷ c ∷ d ∷ []) ≡ None → (a ≡ None) × (c ≡ None)
-history-clean None b None d e = (refl, refl)
-history-clean None None (Some x) d e = cc
-history-clean None (Some x) (Some y) d e = cc
-history-clean (Some x) b c d e = cc
-
--- where nothing is found before the rule, the symbol is absent exactly where there is no order and no deal
-sound-absent : (the_rule : Rule) (symbol : List ℕ) (entries : List OrderRecord) (paired : Result (List TradeRecord) Finding) → finding_before_rule the_rule symbol entries paired ≡ None
-    → are_none (order_list symbol entries) (deals_of_symbol (order_list symbol entries) symbol (paired_trades paired)) ≡ is_absent symbol entries paired
-sound-absent the_rule symbol entries paired none = by-pairing paired (clean.1)
-  where
-    clean : (history_finding symbol entries ≡ None) × (pairing_finding paired ≡ None)
-    clean = history-clean (history_finding symbol entries) (instant_finding_of_rule the_rule (order_list symbol entries)) (pairing_finding paired) (trades_finding (order_list symbol entries) symbol (paired_trades paired)) none
-
-    by-pairing : (p : Result (List TradeRecord) Finding) → pairing_finding p ≡ None
-        → are_none (order_list symbol entries) (deals_of_symbol (order_list symbol entries) symbol (paired_trades p)) ≡ is_absent symbol entries p
-    by-pairing (Ok trades) e = λ i. first-is-order (history symbol entries) clean.0 i && none-dealt (order_list symbol entries) symbol trades i
-    by-pairing (Err finding) e = cc
 
 -- The further checks.
 
@@ -198,15 +120,18 @@ pub found-answer : (q : OffenceQuestion) (entries : List OrderRecord) (paired : 
     → IsSymbolLogs (scope_of (audit_question q)) (keeping_for q) entries paired logs → logs.given ≡ before_rule.Found finding → v ≡ verdict.Rejected finding → IsRecordVerdict (audit_question q) entries paired v
     → IsAnswerToRejected logs.quoted [] finding (finding ∷ []) the_status text → IsOffencesOfRecords q entries paired the_status text
 found-answer q entries paired logs finding v the_status text is given rejected has told =
-    by-presence (is_absent q.symbol entries paired) false (found-present q.rule q.symbol entries paired finding found) q entries paired the_status text
+    by-presence (is_absent q.symbol entries paired) false (found-present (scope_of (audit_question q)) entries paired finding in_scope) q entries paired the_status text
     (record {
       the_verdict = verdict.Rejected finding;
       is = subst (λ (w : Verdict). IsRecordVerdict (audit_question q) entries paired w) rejected has;
       answer = rw found (subst (λ (r : QuotedRecords). IsAnswerToRejected r [] finding (finding ∷ []) the_status text) is.quoted told);
     })
   where
+    in_scope : finding_before_rule_in_scope (scope_of (audit_question q)) entries paired ≡ Some finding
+    in_scope = subst (λ (b : BeforeRule). IsBeforeRule (scope_of (audit_question q)) entries paired b) given is.before
+
     found : finding_before_rule q.rule q.symbol entries paired ≡ Some finding
-    found = sym (same-before q entries paired) ∙ subst (λ (b : BeforeRule). IsBeforeRule (scope_of (audit_question q)) entries paired b) given is.before
+    found = sym (same-before q entries paired) ∙ in_scope
 
 -- the records of two logs have no verdict that a log is malformed
 malformed-apart : (q : OffenceQuestion) (entries : List OrderRecord) (paired : Result (List TradeRecord) Finding) (log : Which) (bad : BadPlace) → IsRecordVerdict (audit_question q) entries paired (verdict.Malformed log bad) → ⊥
@@ -249,7 +174,7 @@ pub sound-answer : (q : OffenceQuestion) (entries : List OrderRecord) (paired : 
     → IsAnswerBySome (are_none sound.history sound.deals.items) q sound.history sound.deals.items logs.times.items logs.quoted v the_status text
     → IsOffencesOfRecords q entries paired the_status text
 sound-answer q entries paired logs sound v the_status text is given has told =
-    by-presence (is_absent q.symbol entries paired) (are_none orders deals) (sym (sound-absent q.rule q.symbol entries paired clean)) q entries paired the_status text
+    by-presence (is_absent q.symbol entries paired) (are_none orders deals) (sound-absent (scope_of (audit_question q)) entries paired resolved.none) q entries paired the_status text
     (by-some q entries paired the_status text clean (are_none orders deals) v has moved)
   where
     resolved : IsResolvedWithoutFinding (scope_of (audit_question q)) entries paired sound

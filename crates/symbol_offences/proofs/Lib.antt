@@ -5,4 +5,5 @@ mod ReadLemmas
 mod PlaceLemmas
 mod TextLemmas
 mod RuleLemmas
+mod AbsenceLemmas
 mod AnswerLemmas

@@ -1,6 +1,7 @@
 -- What the public contracts cite.
 pub mod Questions
 pub mod OffenceAnswers
+pub mod Laws
 pub mod OffenceLines
 pub mod Quotes
 pub mod SymbolLogs

@@ -6,11 +6,13 @@
 //! what they give, and `verdict_answers` tells it: an accepted log as an audit does, a rejected one
 //! with a line for each offence (`listing`), or for each trade that fails a further check
 //! (`further`), and behind each line the records that a letter quotes (`quotes`, `record_lines`,
-//! found by `places`). A symbol that no record has is told to be absent.
+//! found by `places`). A symbol that no record has is told to be absent, which `laws` leads back to
+//! what is found of it.
 #![tactic(auto)]
 
 pub mod answers;
 mod further;
+pub mod laws;
 mod listing;
 pub mod order_log;
 mod places;

@@ -1,5 +1,5 @@
--- A symbol is absent exactly where nothing is found before the rule and it has no order and no deal.
-use Rattle.std.proofs.Common.{◌≡◌, refl, arith, ℕ, Bool, true, false, List, [], ◌∷◌, Option, Some, None, Result, Ok, Err, length}
+-- An absent symbol has nothing: no finding before the rule, no order and no deal.
+use Rattle.std.proofs.Common.{◌≡◌, refl, sym, arith, ℕ, Bool, true, false, List, [], ◌∷◌, Option, Some, None, Result, Ok, Err, length}
 use Rattle.std.specs.Prelude.{◌&&◌, filter_map, map}
 use Rattle.std.specs.List.{enumerate_from}
 use Rattle.audit_base.specs.declared.findings.Finding.{Finding}
@@ -16,8 +16,8 @@ use Rattle.record_verdict.specs.declared.scopes.Admission.{Admission}
 use Rattle.record_verdict.specs.declared.scopes.Admission.TheVariants as admission
 use Rattle.record_verdict.specs.declared.scopes.Scope.{Scope}
 use Rattle.record_verdict.specs.Scopes.{finding_before_rule_in_scope, unadmitted_order_finding}
+use Rattle.symbol_offences.specs.Laws.{has_nothing}
 use Rattle.symbol_offences.specs.OffenceAnswers.{has_none, is_absent}
-use Rattle.symbol_offences.specs.Telling.{are_none}
 
 none-is : {A : Type 0} (xs : List A) → has_none xs ≡ true → xs ≡ []
 none-is [] is = refl
@@ -78,15 +78,15 @@ history-clean None None (Some x) d e = cc
 history-clean None (Some x) (Some y) d e = cc
 history-clean (Some x) b c d e = cc
 
--- where nothing is, it is absent exactly where there is no order and no deal
+-- where nothing is, it is absent exactly where it has no order and no deal
 pub sound-absent : (scope : Scope) (entries : List OrderRecord) (paired : Result (List TradeRecord) Finding) → finding_before_rule_in_scope scope entries paired ≡ None
-    → are_none (order_list scope.symbol entries) (deals_of_symbol (order_list scope.symbol entries) scope.symbol (paired_trades paired)) ≡ is_absent scope.symbol entries paired
-sound-absent scope entries paired none = by-pairing paired (clean.1)
+    → is_absent scope.symbol entries paired ≡ has_nothing scope.symbol entries paired
+sound-absent scope entries paired none = sym (by-pairing paired (clean.1))
   where
     clean : (history_finding scope.symbol entries ≡ None) × (pairing_finding paired ≡ None)
     clean = history-clean (history_finding scope.symbol entries) (unadmitted_order_finding scope.admission (order_list scope.symbol entries)) (pairing_finding paired) (trades_finding (order_list scope.symbol entries) scope.symbol (paired_trades paired)) none
 
     by-pairing : (p : Result (List TradeRecord) Finding) → pairing_finding p ≡ None
-        → are_none (order_list scope.symbol entries) (deals_of_symbol (order_list scope.symbol entries) scope.symbol (paired_trades p)) ≡ is_absent scope.symbol entries p
+        → has_nothing scope.symbol entries p ≡ is_absent scope.symbol entries p
     by-pairing (Ok trades) e = λ i. first-is-order (history scope.symbol entries) clean.0 i && none-dealt (order_list scope.symbol entries) scope.symbol trades i
     by-pairing (Err finding) e = cc
