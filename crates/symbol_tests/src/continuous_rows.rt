@@ -428,7 +428,7 @@ fn places_that_offend(rt: HostRuntime) -> Result<(), Fail> {
 }
 
 /// What stands behind a place that failed, and what is told of it.
-const OF_CHAINS: [Row; 11] = [
+const OF_CHAINS: [Row; 10] = [
     Row {
         name: "a place outside a limit that leaves a crossed book has one line",
         orders: &[
@@ -589,28 +589,6 @@ offence,spread,orders,2
 record,orders,2,N,B,s1,20240102-09:00:00,Z,S,5,10,
 record,orders,1,N,A,b1,20240102-09:00:00,Z,B,5,11,
 record,orders,2,N,B,s1,20240102-09:00:00,Z,S,5,10,
-offences,1
-",
-        ..ASKED
-    },
-    Row {
-        name: "aggressor-price",
-        resting_price: true,
-        orders: &[
-            ORDERS,
-            "N,A,b1,20240102-09:00:00,Z,B,5,100.31,
-N,B,s1,20240102-09:00:00,Z,S,5,99.49,
-",
-        ],
-        trades: &[
-            TRADES,
-            "T1,20240102-09:00:01,Z,A,b1,B,s1,5,99.49
-",
-        ],
-        report: "rejected,resting-price,trades,1
-order,1,buy,A,b1,5,100.31,5
-order,2,sell,B,s1,5,99.49,5
-offence,resting-price,trades,1
 offences,1
 ",
         ..ASKED

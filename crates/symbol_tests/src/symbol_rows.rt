@@ -1,4 +1,5 @@
-//! Every offence of a symbol, from two logs to the text.
+//! Every offence of a symbol, from two logs to the text. An accepted log, an absent symbol and a log
+//! that is not in its grammar are rows of `desk_tests`.
 use crate::answers::{ORDERS, Row, TRADES, check_rows};
 use audit_base::terms::{Form, Rule};
 use std::test::Fail;
@@ -9,15 +10,6 @@ const BID_AND_ASK: [&str; 2] = [
     "N,A,b1,20240102-09:00:00,Z,B,10,11,
 N,A,y1,20240102-09:00:00,Y,B,1,1,
 N,B,s1,20240102-09:00:02,Z,S,10,10,
-",
-];
-
-/// Two bids, the better one first, and an ask.
-const TWO_BIDS: [&str; 2] = [
-    ORDERS,
-    "N,A,b1,20240102-09:00:00,Z,B,5,12,
-N,A,b2,20240102-09:00:00,Z,B,9,11,
-N,B,s1,20240102-09:00:00,Z,S,9,10,
 ",
 ];
 
@@ -36,14 +28,7 @@ const ASKED: Row = Row {
     report: "",
 };
 
-const LISTED: [Row; 7] = [
-    Row {
-        name: "offences-accepted",
-        trades: &[TRADES, "T1,20240102-09:00:03,Z,A,b1,B,s1,10,10.5\n"],
-        status: 0,
-        report: "accepted,matching,Z\ntotals,2,1,10\n",
-        ..ASKED
-    },
+const LISTED: [Row; 5] = [
     Row {
         name: "offences-all-deals",
         trades: &[
@@ -61,27 +46,6 @@ order,3,sell,B,s1,10,10,2
 offence,limit,trades,2
 offence,limit,trades,4
 offences,2
-",
-        ..ASKED
-    },
-    Row {
-        name: "offences-priority",
-        rule: Rule::Fair,
-        orders: &TWO_BIDS,
-        trades: &[
-            TRADES,
-            "T1,20240102-09:00:03,Z,A,b2,B,s1,1,10
-T2,20240102-09:00:03,Z,A,b2,B,s1,1,11
-T3,20240102-09:00:03,Z,A,b2,B,s1,1,10
-",
-        ],
-        report: "rejected,buy-priority,trades,1
-order,1,buy,A,b1,5,12,0
-order,2,buy,A,b2,9,11,3
-offence,buy-priority,trades,1
-offence,buy-priority,trades,2
-offence,buy-priority,trades,3
-offences,3
 ",
         ..ASKED
     },
@@ -164,13 +128,7 @@ const LONE_REPORT: [&str; 1] = [
     "8=FIX.4.4|9=78|35=8|49=X|56=A|11=1|150=F|527=T1|55=Z|54=1|32=100|31=9.5|60=20240102-09:00:02|10=101|",
 ];
 
-const ALONE: [Row; 9] = [
-    Row {
-        name: "absent-symbol",
-        symbol: "z",
-        report: "absent,z\n",
-        ..ASKED
-    },
+const ALONE: [Row; 7] = [
     Row {
         name: "a symbol without trades is there",
         symbol: "Y",
@@ -270,16 +228,9 @@ offences,1
 ",
         ..ASKED
     },
-    Row {
-        name: "a log that is not in its grammar",
-        trades: &[ORDERS],
-        status: 3,
-        report: "malformed,trades,1,0,header\n",
-        ..ASKED
-    },
 ];
 
-/// Rows of what stands alone: a symbol that is absent, a finding before the rule, a bad log.
+/// Rows of what stands alone: a finding before the rule, and a symbol of few records.
 #[test]
 fn what_stands_alone(rt: HostRuntime) -> Result<(), Fail> {
     check_rows(rt.alloc(), &ALONE)
