@@ -55,5 +55,6 @@ svg .badgetext{fill:#fff;font-weight:700}\
 tbody th{min-width:4.5rem}.name{min-width:2.2rem}}\
 @page{size:A4;margin:16mm}\
 @media print{main{padding:0;max-width:none}body{font-size:11pt;-webkit-print-color-adjust:exact;\
-print-color-adjust:exact}section,figure,tr{break-inside:avoid}}"
+print-color-adjust:exact}section,figure,tr{break-inside:avoid}section{overflow:visible}\
+table{font-size:.72rem}th,td{padding:.25rem}td.number{overflow-wrap:anywhere;min-width:4.5em}}"
 }
