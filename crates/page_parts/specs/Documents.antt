@@ -2,6 +2,7 @@
 use Rattle.std.specs.Prelude.{◌≡◌, ℕ, List, [], ◌++◌, codes}
 use Rattle.page_markup.specs.declared.words.AttributeName.TheVariants as name
 use Rattle.page_markup.specs.declared.words.Tag.TheVariants as tag
+use Rattle.page_markup.specs.Escapes.{escaped}
 use Rattle.page_markup.specs.Trees.{page_text}
 use Rattle.page_parts.specs.Elements.{element, said, text_element}
 
@@ -24,7 +25,9 @@ styled_page style title main = page_text
     (element tag.Html (said name.Lang (codes "en"))
     (head_of_page style title ++ element tag.Body [] (element tag.Main [] main)))
 
--- the text is that of the page with this title and chief part, in some style
+-- the text is that of the page with this title and chief part, in some style of which no byte is
+-- written as an entity
 pub record IsPage (title main text : List ℕ) : Type 0 where
   pub style : List ℕ
+  pub plain : escaped style ≡ style
   pub written : text ≡ styled_page style title main

@@ -1,12 +1,11 @@
 //! How pages look: one typeface of the system, two colours with a tint of each, and ink for trades
 //! and the offence. The two differ in lightness as well as in hue, so that they are told apart
 //! without colour sight and in print.
+ghost use Rattle.std.specs.Prelude.{◌≡◌};
+ghost use Rattle.page_markup.specs.Escapes.{escaped};
 
-/// The style of a page. It holds none of the bytes that are written as entities, since a browser
-/// reads no entity in a style. A row of a table may end before its last column, so rows have the
-/// lines.
-pub fn style_text() -> &'static [u8] {
-    b":root{--ink:#1c2128;--soft:#57606a;--rule:#d0d7de;\
+/// The style of a page. A row of a table may end before its last column, so rows have the lines.
+const STYLE: &[u8] = b":root{--ink:#1c2128;--soft:#57606a;--rule:#d0d7de;\
 --bid:#1f4e8c;--bidtint:#c3d5ec;--ask:#c26a12;--asktint:#f9e6cf}\
 *{box-sizing:border-box}\
 body{margin:0;background:#fff;color:var(--ink);font:16px/1.5 system-ui,sans-serif}\
@@ -56,5 +55,12 @@ tbody th{min-width:4.5rem}.name{min-width:2.2rem}}\
 @page{size:A4;margin:16mm}\
 @media print{main{padding:0;max-width:none}body{font-size:11pt;-webkit-print-color-adjust:exact;\
 print-color-adjust:exact}section,figure,tr{break-inside:avoid}section{overflow:visible}\
-table{font-size:.72rem}th,td{padding:.25rem}td.number{overflow-wrap:anywhere;min-width:4.5em}}"
+table{font-size:.72rem}th,td{padding:.25rem}td.number{overflow-wrap:anywhere;min-width:4.5em}}";
+
+/// The style of a page. It holds none of the bytes that are written as entities, since a browser
+/// reads no entity in a style.
+pub fn style_text() -> &'static [u8]
+    ensures { escaped result.now ≡ result.now }
+{
+    STYLE
 }

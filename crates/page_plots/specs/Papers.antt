@@ -18,14 +18,15 @@ is_long_tick tick = is_long tick.price
 abbrev pub is_long_number : NumberTick → Bool
 is_long_number tick = nat_le (10 ^ 9) tick.number
 
--- the coordinates of a paper of a height: its left end, its upper end and its width come first,
--- which give it more room at its left, at its right or at both
+-- the first coordinates of a paper, which are its left end, its upper end and its width: they give
+-- it more room at its left, at its right or at both
 abbrev pub paper_front : Bool → Bool → List ℕ
 paper_front false false = codes "0 0 500 "
 paper_front true false = codes "-76 0 576 "
 paper_front false true = codes "0 0 560 "
 paper_front true true = codes "-76 0 636 "
 
+-- the coordinates of a paper of this height, with such room
 abbrev pub paper_of : Bool → Bool → ℕ → List ℕ
 paper_of left right height = paper_front left right ++ decimal height
 
