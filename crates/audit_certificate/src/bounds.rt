@@ -118,7 +118,7 @@ fn above_if_short(order: &ListedOrder<'_>, traded: u128) -> u64
     ensures in_range { result ≤ 10 ^ 18 }
 {
     let quantity = order.quantity().value();
-    if order.stands_on(Side::Buy) && traded < u128::from(quantity) {
+    if order.is_uncancelled_on(Side::Buy) && traded < u128::from(quantity) {
         order.limit().units() + 1
     } else {
         0

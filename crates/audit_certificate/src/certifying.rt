@@ -102,7 +102,7 @@ pub fn certify(
     greatest_matching_reaches_the_least_cut();
     short_orders_do_not_meet();
     // These calls give the proof the ranges of the numbers and the form that a name keeps.
-    orders.in_range();
+    orders.numbers_are_in_range();
     deals_in_range(deals);
     let _ = symbol.bytes();
     let rule = rule.volume_rule().unwrap();

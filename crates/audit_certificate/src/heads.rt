@@ -25,7 +25,9 @@ fn keeps(orders: &OrderList<'_>, deal: &Deal) -> bool
 {
     let bid = orders.at(deal.bid);
     let ask = orders.at(deal.ask);
-    bid.stands_on(Side::Buy) && ask.stands_on(Side::Sell) && is_within(deal, &bid, &ask)
+    bid.is_uncancelled_on(Side::Buy)
+        && ask.is_uncancelled_on(Side::Sell)
+        && is_within(deal, &bid, &ask)
 }
 
 /// Whether all deals are such ones.

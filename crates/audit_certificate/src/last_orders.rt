@@ -17,7 +17,7 @@ fn trades_on(orders: &OrderList<'_>, traded: &[u128], side: Side, index: usize) 
     requires count { length traded.now ≡ length orders.now }
     ensures { result ≡ spec.trades_on orders.now traded.now side index }
 {
-    orders.at(index).stands_on(side) && 0 < traded[index]
+    orders.at(index).is_uncancelled_on(side) && 0 < traded[index]
 }
 
 /// The worse of the last one so far and the order at this index.
@@ -88,7 +88,7 @@ fn is_filled_ahead(
     ensures { result ≡ spec.is_filled_ahead orders.now traded.now side last index }
 {
     let order = orders.at(index);
-    if !order.stands_on(side) {
+    if !order.is_uncancelled_on(side) {
         return true;
     }
     if !better(&order, &orders.at(last)) {

@@ -9,3 +9,5 @@ pub mod Certificates
 pub mod Reasons
 -- What private functions pass on to one another.
 pub mod LineParts
+-- What a reader must believe: how the text of a day is made of counts and reports.
+pub mod DayTexts

@@ -2,11 +2,11 @@
 use Rattle.std.specs.Prelude.{ℕ, List, ◌∷◌, ◌++◌, decimal}
 use Rattle.std.specs.List.{flat_map}
 use Rattle.audit_base.specs.Numbers.{price_text}
-use Rattle.audit_report.specs.declared.line_parts.Part.{Part}
-use Rattle.audit_report.specs.declared.line_parts.Part.TheVariants.{Word, Number, Price, Named, Numbered}
+use Rattle.audit_report.specs.declared.line_parts.LinePart.{LinePart}
+use Rattle.audit_report.specs.declared.line_parts.LinePart.TheVariants.{Word, Number, Price, Named, Numbered}
 
 -- what a part writes; the code of `:` is 58
-abbrev pub part_text : Part → List ℕ
+abbrev pub part_text : LinePart → List ℕ
 part_text (Word word) = word.now
 part_text (Number number) = decimal number
 part_text (Price price) = price_text price

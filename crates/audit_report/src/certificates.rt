@@ -3,7 +3,7 @@
 ghost use Rattle.std.specs.Prelude.{◌≡◌, ◌++◌, OnOk};
 ghost use Rattle.audit_report.specs.Certificates as text;
 
-use super::line_parts::{Part, append_line};
+use super::line_parts::{LinePart, append_line};
 use audit_base::faults::NoMemory;
 use audit_base::names::Name;
 use audit_base::terms::Rule;
@@ -21,9 +21,9 @@ pub fn append_verified_line(
         OnOk result (out.new.items ≡ out.old.items ++ line) }
 {
     let parts = [
-        Part::Word(rule.word()),
-        Part::Word(symbol.bytes()),
-        Part::Number(volume),
+        LinePart::Word(rule.word()),
+        LinePart::Word(symbol.bytes()),
+        LinePart::Number(volume),
     ];
     append_line(alloc, b"verified", &parts, out)
 }
@@ -32,5 +32,10 @@ pub fn append_verified_line(
 pub fn append_refused_line(alloc: Global, line: u32, out: &mut Vec<u8>) -> Result<(), NoMemory>
     ensures { OnOk result (out.new.items ≡ out.old.items ++ text.refused_line line) }
 {
-    append_line(alloc, b"refused", &[Part::Number(u128::from(line))], out)
+    append_line(
+        alloc,
+        b"refused",
+        &[LinePart::Number(u128::from(line))],
+        out,
+    )
 }

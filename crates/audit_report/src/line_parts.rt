@@ -12,7 +12,7 @@ use std::alloc::Global;
 
 /// A part of a line. No word or name of a part holds a comma or an LF.
 #[derive(Clone, Copy, Debug)]
-pub enum Part<'a> {
+pub enum LinePart<'a> {
     /// A word or a name.
     Word(&'a [u8]),
     /// A number, in decimal without leading zeros.
@@ -29,7 +29,7 @@ pub enum Part<'a> {
 pub fn append_line(
     alloc: Global,
     word: &[u8],
-    parts: &[Part<'_>],
+    parts: &[LinePart<'_>],
     out: &mut Vec<u8>,
 ) -> Result<(), NoMemory>
     ensures { OnOk result
@@ -44,7 +44,7 @@ pub fn append_line(
 pub fn append_joined(
     alloc: Global,
     word: &[u8],
-    parts: &[Part<'_>],
+    parts: &[LinePart<'_>],
     out: &mut Vec<u8>,
 ) -> Result<(), NoMemory>
     ensures { OnOk result
@@ -55,7 +55,7 @@ pub fn append_joined(
 }
 
 /// Appends the parts, each with a comma before it.
-pub fn append_rest(alloc: Global, parts: &[Part<'_>], out: &mut Vec<u8>) -> Result<(), NoMemory>
+pub fn append_rest(alloc: Global, parts: &[LinePart<'_>], out: &mut Vec<u8>) -> Result<(), NoMemory>
     ensures { OnOk result
         (out.new.items ≡ out.old.items ++ later_parts_text (map part_text parts.now)) }
 {
@@ -66,7 +66,7 @@ pub fn append_rest(alloc: Global, parts: &[Part<'_>], out: &mut Vec<u8>) -> Resu
 }
 
 /// Appends a comma and the part.
-fn append_after_comma(alloc: Global, part: &Part<'_>, out: &mut Vec<u8>) -> Result<(), NoMemory>
+fn append_after_comma(alloc: Global, part: &LinePart<'_>, out: &mut Vec<u8>) -> Result<(), NoMemory>
     ensures { OnOk result (out.new.items ≡ out.old.items ++ 44 ∷ part_text part.now) }
 {
     append(b",", out)?;
@@ -74,15 +74,15 @@ fn append_after_comma(alloc: Global, part: &Part<'_>, out: &mut Vec<u8>) -> Resu
 }
 
 /// Appends what the part writes.
-fn append_part(alloc: Global, part: &Part<'_>, out: &mut Vec<u8>) -> Result<(), NoMemory>
+fn append_part(alloc: Global, part: &LinePart<'_>, out: &mut Vec<u8>) -> Result<(), NoMemory>
     ensures { OnOk result (out.new.items ≡ out.old.items ++ part_text part.now) }
 {
     match part {
-        Part::Word(word) => append(word, out),
-        Part::Number(number) => write_number(alloc, *number, out),
-        Part::Price(price) => write_price(alloc, price.units(), out),
-        Part::Named(kind, name) => append_named(kind, name, out),
-        Part::Numbered(kind, number) => append_numbered(alloc, kind, *number, out),
+        LinePart::Word(word) => append(word, out),
+        LinePart::Number(number) => write_number(alloc, *number, out),
+        LinePart::Price(price) => write_price(alloc, price.units(), out),
+        LinePart::Named(kind, name) => append_named(kind, name, out),
+        LinePart::Numbered(kind, number) => append_numbered(alloc, kind, *number, out),
     }
 }
 

@@ -4,7 +4,7 @@ ghost use Rattle.std.specs.List.{join_with_byte};
 ghost use Rattle.audit_report.specs.Lines as text;
 ghost use Rattle.audit_report.specs.Texts.{IsBoundInRange};
 
-use super::line_parts::{Part, append, append_joined, append_line, append_rest};
+use super::line_parts::{LinePart, append, append_joined, append_line, append_rest};
 use super::reasons::reason_part;
 use super::tables::Line;
 use super::words::{log_word, side_word};
@@ -28,7 +28,7 @@ pub fn append_accepted_line(
     append_line(
         alloc,
         b"accepted",
-        &[Part::Word(rule.word()), Part::Word(symbol.bytes())],
+        &[LinePart::Word(rule.word()), LinePart::Word(symbol.bytes())],
         out,
     )
 }
@@ -45,9 +45,9 @@ pub fn append_totals_line(
         OnOk result (out.new.items ≡ out.old.items ++ line) }
 {
     let parts = [
-        Part::Number(orders as u128),
-        Part::Number(u128::from(trades)),
-        Part::Number(volume),
+        LinePart::Number(orders as u128),
+        LinePart::Number(u128::from(trades)),
+        LinePart::Number(volume),
     ];
     append_line(alloc, b"totals", &parts, out)
 }
@@ -59,7 +59,7 @@ pub fn append_bound_line(alloc: Global, cut: &Cut, out: &mut Vec<u8>) -> Result<
 {
     append(b"bound,", out)?;
     write_price(alloc, cut.price, out)?;
-    append_rest(alloc, &[Part::Number(cut.volume)], out)?;
+    append_rest(alloc, &[LinePart::Number(cut.volume)], out)?;
     append(b"\n", out)
 }
 
@@ -81,7 +81,7 @@ pub fn append_due_line(
     ensures { OnOk result (out.new.items ≡ out.old.items ++ text.due_line line.now due) }
 {
     append_order(alloc, line, out)?;
-    append_rest(alloc, &[Part::Number(due)], out)?;
+    append_rest(alloc, &[LinePart::Number(due)], out)?;
     append(b"\n", out)
 }
 
@@ -91,13 +91,13 @@ fn append_order(alloc: Global, line: &OrderLine, out: &mut Vec<u8>) -> Result<()
         (out.new.items ≡ out.old.items ++ join_with_byte 44 (text.order_parts line.now)) }
 {
     let parts = [
-        Part::Number(u128::from(line.place)),
-        Part::Word(side_word(line.side)),
-        Part::Word(line.key.firm.bytes()),
-        Part::Word(line.key.id.bytes()),
-        Part::Number(u128::from(line.quantity.value())),
-        Part::Price(line.limit),
-        Part::Number(line.traded),
+        LinePart::Number(u128::from(line.place)),
+        LinePart::Word(side_word(line.side)),
+        LinePart::Word(line.key.firm.bytes()),
+        LinePart::Word(line.key.id.bytes()),
+        LinePart::Number(u128::from(line.quantity.value())),
+        LinePart::Price(line.limit),
+        LinePart::Number(line.traded),
     ];
     append_joined(alloc, b"order", &parts, out)
 }
@@ -113,9 +113,9 @@ pub fn append_pair_line(
     ensures { OnOk result (out.new.items ≡ out.old.items ++ text.pair_line bid ask quantity) }
 {
     let parts = [
-        Part::Number(u128::from(bid)),
-        Part::Number(u128::from(ask)),
-        Part::Number(quantity),
+        LinePart::Number(u128::from(bid)),
+        LinePart::Number(u128::from(ask)),
+        LinePart::Number(quantity),
     ];
     append_line(alloc, b"pair", &parts, out)
 }
@@ -139,9 +139,9 @@ pub fn append_rejected_line(
     ensures { OnOk result (out.new.items ≡ out.old.items ++ text.rejected_line finding.now) }
 {
     let parts = [
-        Part::Word(finding.property.word()),
-        Part::Word(log_word(finding.log)),
-        Part::Number(u128::from(finding.place)),
+        LinePart::Word(finding.property.word()),
+        LinePart::Word(log_word(finding.log)),
+        LinePart::Number(u128::from(finding.place)),
     ];
     append_line(alloc, b"rejected", &parts, out)
 }
@@ -153,7 +153,10 @@ pub fn append_volume_line(alloc: Global, short: &Short, out: &mut Vec<u8>) -> Re
     append_line(
         alloc,
         b"volume",
-        &[Part::Number(short.reached), Part::Number(short.greatest)],
+        &[
+            LinePart::Number(short.reached),
+            LinePart::Number(short.greatest),
+        ],
         out,
     )
 }
@@ -177,7 +180,10 @@ fn append_see_line(alloc: Global, log: Which, place: u32, out: &mut Vec<u8>) -> 
     append_line(
         alloc,
         b"see",
-        &[Part::Word(log_word(log)), Part::Number(u128::from(place))],
+        &[
+            LinePart::Word(log_word(log)),
+            LinePart::Number(u128::from(place)),
+        ],
         out,
     )
 }
@@ -192,9 +198,9 @@ fn append_unknown_line(
     ensures { OnOk result (out.new.items ≡ out.old.items ++ text.unknown_line side key.now) }
 {
     let parts = [
-        Part::Word(side_word(side)),
-        Part::Word(key.firm.bytes()),
-        Part::Word(key.id.bytes()),
+        LinePart::Word(side_word(side)),
+        LinePart::Word(key.firm.bytes()),
+        LinePart::Word(key.id.bytes()),
     ];
     append_line(alloc, b"unknown", &parts, out)
 }
@@ -209,9 +215,9 @@ pub fn append_malformed_line(
     ensures { OnOk result (out.new.items ≡ out.old.items ++ text.malformed_line log bad.now) }
 {
     let parts = [
-        Part::Word(log_word(log)),
-        Part::Number(u128::from(bad.place)),
-        Part::Number(u128::from(bad.offset)),
+        LinePart::Word(log_word(log)),
+        LinePart::Number(u128::from(bad.place)),
+        LinePart::Number(u128::from(bad.offset)),
         reason_part(log, bad.reason),
     ];
     append_line(alloc, b"malformed", &parts, out)

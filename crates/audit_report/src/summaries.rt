@@ -4,7 +4,7 @@ ghost use Rattle.std.specs.Prelude.{◌≡◌, ◌++◌, OnOk};
 ghost use Rattle.audit_report.specs.Summaries as text;
 ghost use Rattle.audit_report.specs.Texts.{IsBoundInRange};
 
-use super::line_parts::{Part, append, append_joined, append_line};
+use super::line_parts::{LinePart, append, append_joined, append_line};
 use audit_base::faults::NoMemory;
 use audit_base::orders::Cut;
 use audit_base::terms::Rule;
@@ -21,8 +21,8 @@ pub fn append_generated_line(
     ensures { OnOk result (out.new.items ≡ out.old.items ++ text.generated_line start count) }
 {
     let parts = [
-        Part::Number(u128::from(start)),
-        Part::Number(u128::from(count)),
+        LinePart::Number(u128::from(start)),
+        LinePart::Number(u128::from(count)),
     ];
     append_line(alloc, b"generated", &parts, out)
 }
@@ -39,7 +39,10 @@ pub fn append_call_line(
     requires { IsBoundInRange cut.now }
     ensures { OnOk result (out.new.items ≡ out.old.items ++ text.call_line rule trades cut.now) }
 {
-    let parts = [Part::Number(u128::from(trades)), Part::Number(cut.volume)];
+    let parts = [
+        LinePart::Number(u128::from(trades)),
+        LinePart::Number(cut.volume),
+    ];
     append_joined(alloc, rule.word(), &parts, out)?;
     append(b",", out)?;
     write_price(alloc, cut.price, out)?;
@@ -55,6 +58,9 @@ pub fn append_continuous_line(
 ) -> Result<(), NoMemory>
     ensures { OnOk result (out.new.items ≡ out.old.items ++ text.continuous_line trades volume) }
 {
-    let parts = [Part::Number(u128::from(trades)), Part::Number(volume)];
+    let parts = [
+        LinePart::Number(u128::from(trades)),
+        LinePart::Number(volume),
+    ];
     append_line(alloc, Rule::Continuous.word(), &parts, out)
 }

@@ -42,8 +42,8 @@ use Rattle.record_verdict.specs.declared.questions.Question.{Question}
 use Rattle.record_verdict.specs.RecordVerdicts.{question}
 use Rattle.record_verdict.specs.Scopes.{call_scope, finding_before_rule_in_scope}
 use Rattle.session_audit.specs.declared.phases.Phase.{Phase}
-use Rattle.session_verdict.specs.Laws.{SessionIsOne}
-use Rattle.session_verdict.specs.Sessions.{session_status}
+use Rattle.session_audit.specs.VerdictLaws.{SessionIsOne}
+use Rattle.session_audit.specs.SessionVerdicts.{session_status}
 use Rattle.verdict_laws.specs.Histories.{ExpectedTradesAreOne}
 use Rattle.command_run.specs.Laws.{CallsAgree}
 use Rattle.command_words.specs.declared.requests.Request.{Request}

@@ -8,8 +8,8 @@ use Rattle.audit_base.specs.declared.terms.Which.{Which}
 use Rattle.audit_report.specs.declared.verdicts.Verdict.{Verdict}
 use Rattle.audit_report.specs.declared.verdicts.Verdict.TheVariants as verdict
 use Rattle.session_audit.specs.declared.phases.Phase.{Phase}
-use Rattle.session_verdict.specs.declared.sessions.Session.{Session}
-use Rattle.session_verdict.specs.Sessions.{session_status, IsSessionAfter, IsSessionOfRecords}
+use Rattle.session_audit.specs.declared.verdicts.Session.{Session}
+use Rattle.session_audit.specs.SessionVerdicts.{session_status, IsSessionAfter, IsSessionOfRecords}
 use Rattle.record_verdict.specs.declared.before_rule.BeforeRule.{BeforeRule}
 use Rattle.record_verdict.specs.declared.before_rule.BeforeRule.TheVariants as before_rule
 use Rattle.command_run.specs.declared.answers.Answer.{Answer}

@@ -7,7 +7,7 @@ use Rattle.audit_base.specs.declared.records.TradeRecord.{TradeRecord}
 use Rattle.audit_report.specs.declared.statuses.Status.{Status}
 use Rattle.audit_report.specs.declared.verdicts.Verdict.TheVariants.{Malformed}
 use Rattle.session_audit.specs.declared.phases.Phase.{Phase}
-use Rattle.session_verdict.specs.Sessions.{session_status, IsSessionOfRecords}
+use Rattle.session_audit.specs.SessionVerdicts.{session_status, IsSessionOfRecords}
 use Rattle.log_verdict.specs.LogVerdicts.{Log, OfLogs}
 use Rattle.command_run.specs.VerdictAnswers.{IsVerdictAnswer}
 

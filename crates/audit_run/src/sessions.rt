@@ -7,7 +7,7 @@ ghost use Rattle.audit_run.specs.JudgedAnswers.{IsSessionAnswerOn};
 ghost use Rattle.log_verdict.specs.Steps.{reading_by, KeepsShelfLogs, FaultsNeverFall};
 ghost use Rattle.record_verdict.specs.BeforeRule.{IsJudgeable};
 ghost use Rattle.session_audit.specs.Phases.{ArePhases};
-ghost use Rattle.session_verdict.specs.Sessions.{session_status};
+ghost use Rattle.session_audit.specs.SessionVerdicts.{session_status};
 
 use super::given_logs::GivenBeforeRule;
 use super::program::Auditor;
@@ -22,7 +22,7 @@ use log_verdict::stops::Stop;
 use record_verdict::before_rule::BeforeRule;
 use record_verdict::scopes::{Admission, Scope};
 use session_audit::phases::Phase;
-use session_verdict::sessions::{Session, session_after};
+use session_audit::verdicts::{Session, session_after};
 use std::alloc::Global;
 
 /// The answer that a session is: its status, and its text as it is.

@@ -2,7 +2,7 @@
 //! a second time over logs that are rejected (`auditor_rejects`).
 #![tactic(auto)]
 
-use audit_program::run_auditor;
+use auditor_program::run_auditor;
 use std::process::ExitCode;
 
 /// Ends with the number of the status.

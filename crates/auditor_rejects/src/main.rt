@@ -2,7 +2,7 @@
 //! stored run of `auditor` itself is of logs that are accepted, and a program has one.
 #![tactic(auto)]
 
-use audit_program::run_auditor;
+use auditor_program::run_auditor;
 use std::process::ExitCode;
 
 /// Ends with the number of the status.

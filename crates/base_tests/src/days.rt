@@ -1,8 +1,8 @@
 //! The symbols of a day, its shares, and the lines of its text.
 use audit_base::names::{Name, read_name};
-use day_report::day_line::{DayCounts, append_day_line};
-use day_report::symbol_lines::append_symbol_lines;
-use day_symbols::shares::Share;
+use audit_report::day_line::{DayCounts, append_day_line};
+use audit_report::symbol_lines::append_symbol_lines;
+use day_symbols::shares::DayShare;
 use day_symbols::symbols::Symbols;
 use seeded_hash::seed::HashSeed;
 use std::process::Abort;
@@ -34,15 +34,15 @@ fn a_symbol_keeps_the_index_of_its_first_record(rt: HostRuntime) {
 
 #[test]
 fn shares_deal_the_symbols_out_in_turn(rt: HostRuntime) {
-    let first = Share::of(1, 2).expect(&rt, "a share");
+    let first = DayShare::of(1, 2).expect(&rt, "a share");
     assert_eq!(rt;
         (first.has(0), first.has(1), first.has(2)),
         (true, false, true)
     );
-    assert!(rt; Share::whole().has(7));
+    assert!(rt; DayShare::whole().has(7));
     let refused = [(0, 1), (2, 1), (1, 0), (1, 65_537)];
     for &(number, count) in &refused {
-        assert!(rt; Share::of(number, count).is_none());
+        assert!(rt; DayShare::of(number, count).is_none());
     }
 }
 

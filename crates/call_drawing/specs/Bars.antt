@@ -4,7 +4,7 @@ use Rattle.std.specs.List.{enumerate_from}
 use Rattle.audit_base.specs.declared.terms.Side.{Side}
 use Rattle.audit_base.specs.declared.terms.Side.TheVariants.{Buy, Sell}
 use Rattle.call_picture.specs.declared.pictures.SidePicture.{SidePicture}
-use Rattle.call_picture.specs.declared.steps.Step.{Step}
+use Rattle.call_picture.specs.declared.steps.SideStep.{SideStep}
 use Rattle.call_picture.specs.declared.windows.Drawn.{Drawn}
 use Rattle.call_picture.specs.Windows.{quantity_of_steps}
 use Rattle.call_drawing.specs.declared.bars.Bar.{Bar}
@@ -34,7 +34,7 @@ mark_centre Sell level = level + 20
 
 -- the bar of a step that begins at a quantity: it reaches as far as the quantity of the step, and is
 -- filled as far as what it traded, at most whole
-abbrev pub bar_of : Plot → Side → ℕ → Step → Bar
+abbrev pub bar_of : Plot → Side → ℕ → SideStep → Bar
 bar_of plot side start step = record {
   left = x_of plot start;
   right = x_of plot (start + step.quantity);
@@ -46,7 +46,7 @@ bar_of plot side start step = record {
 }
 
 -- the step at a place of a side, with its bar
-abbrev pub step_at_place : Plot → Side → Drawn → ℕ × Step → PlacedStep
+abbrev pub step_at_place : Plot → Side → Drawn → ℕ × SideStep → PlacedStep
 step_at_place plot side drawn at =
     record { step = at.1; bar = bar_of plot side (start_of drawn at.0) at.1 }
 

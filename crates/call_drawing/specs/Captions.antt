@@ -2,7 +2,7 @@
 use Rattle.std.specs.Prelude.{ℕ, Bool, true, false, not, ◌||◌, ◌&&◌, nat_lt, Option, is_some, List, [], ◌++◌, codes, decimal, if◌then◌else◌}
 use Rattle.audit_base.specs.declared.findings.Shown.{Shown}
 use Rattle.audit_base.specs.declared.terms.Side.TheVariants.{Buy, Sell}
-use Rattle.call_drawing.specs.declared.sections.Marked.{Marked}
+use Rattle.call_drawing.specs.declared.sections.MarkedCall.{MarkedCall}
 use Rattle.call_picture.specs.declared.pictures.CallPicture.{CallPicture}
 use Rattle.call_picture.specs.declared.pictures.SidePicture.{SidePicture}
 use Rattle.call_picture.specs.declared.windows.Drawn.{Drawn}
@@ -45,12 +45,12 @@ abbrev pub is_order : Option Shown → Bool
 is_order it = is_some (order_shown it)
 
 -- what the marks are, where an order is marked
-abbrev pub marks_words : Marked → List ℕ
+abbrev pub marks_words : MarkedCall → List ℕ
 marks_words marked = if is_order marked.first || is_order marked.second
     then codes " The marks are those of the table." else []
 
 -- what the picture shows, and what its marks are
-abbrev pub whole_words : Marked → List ℕ
+abbrev pub whole_words : MarkedCall → List ℕ
 whole_words marked = picture_words ++ marks_words marked
 
 -- each step of the side is an order's, and none is left out
@@ -71,5 +71,5 @@ bars picture = if is_plain picture.bids && is_plain picture.asks
     then text_element tag.Paragraph (codes "Each bar is an order.") else each_side picture
 
 -- the caption, with what is marked in the picture
-abbrev pub caption : CallPicture → Marked → List ℕ
+abbrev pub caption : CallPicture → MarkedCall → List ℕ
 caption picture marked = text_element tag.Paragraph (whole_words marked) ++ bars picture

@@ -2,16 +2,16 @@
 use Rattle.std.specs.Prelude.{ℕ, max, min, List}
 use Rattle.std.specs.List.{fold}
 use Rattle.call_picture.specs.declared.pictures.CallPicture.{CallPicture}
-use Rattle.call_picture.specs.declared.steps.Step.{Step}
+use Rattle.call_picture.specs.declared.steps.SideStep.{SideStep}
 use Rattle.page_plots.specs.declared.plots.Plot.{Plot}
 use Rattle.page_plots.specs.Plots.{plot_between}
 use Rattle.call_drawing.specs.Bars.{end_of}
 
 -- the greatest, and the least, of a number and the limits of steps
-abbrev pub greatest_limit : ℕ → List Step → ℕ
+abbrev pub greatest_limit : ℕ → List SideStep → ℕ
 greatest_limit number steps = fold (λ most step. max most step.limit) number steps
 
-abbrev pub least_limit : ℕ → List Step → ℕ
+abbrev pub least_limit : ℕ → List SideStep → ℕ
 least_limit number steps = fold (λ least step. min least step.limit) number steps
 
 -- the greatest, and the least, limit that is drawn; 0 where there is none

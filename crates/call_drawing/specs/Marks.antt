@@ -6,7 +6,7 @@ use Rattle.audit_base.specs.declared.findings.Shown.{Shown}
 use Rattle.audit_base.specs.declared.orders.Order.{Order}
 use Rattle.audit_base.specs.declared.terms.Side.{Side}
 use Rattle.audit_base.specs.declared.terms.Side.TheVariants.{Buy, Sell}
-use Rattle.call_picture.specs.declared.steps.Step.{Step}
+use Rattle.call_picture.specs.declared.steps.SideStep.{SideStep}
 use Rattle.call_drawing.specs.declared.bars.Bar.{Bar}
 use Rattle.call_drawing.specs.declared.layouts.CallLayout.{CallLayout}
 use Rattle.call_drawing.specs.declared.bars.PlacedSide.{PlacedSide}
@@ -16,7 +16,7 @@ use Rattle.page_plots.specs.Orders.{badge, has_place, order_shown}
 use Rattle.call_drawing.specs.Steps.{bar_to}
 
 -- the step is that of an order, or of its limit
-abbrev pub is_step_of : List Order → Bool → Step → OrderLine → Bool
+abbrev pub is_step_of : List Order → Bool → SideStep → OrderLine → Bool
 is_step_of orders true step line = step.limit == line.limit
 is_step_of orders false step line = has_place (slice_get orders step.best) line.place
 

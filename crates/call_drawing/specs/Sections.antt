@@ -7,11 +7,11 @@ use Rattle.audit_base.specs.declared.orders.Order.{Order}
 use Rattle.audit_base.specs.declared.terms.Side.TheVariants.{Buy, Sell}
 use Rattle.call_picture.specs.declared.pictures.CallPicture.{CallPicture}
 use Rattle.call_picture.specs.Pictures.{IsCallPicture}
-use Rattle.page_plots.specs.Axes.{axes_shapes}
+use Rattle.page_plots.specs.PlotAxes.{axes_shapes}
 use Rattle.page_plots.specs.Figures.{figure_section}
 use Rattle.page_plots.specs.Papers.{plot_paper}
 use Rattle.call_drawing.specs.declared.layouts.CallLayout.{CallLayout}
-use Rattle.call_drawing.specs.declared.sections.Marked.{Marked}
+use Rattle.call_drawing.specs.declared.sections.MarkedCall.{MarkedCall}
 use Rattle.call_drawing.specs.Captions.{caption, legend}
 use Rattle.call_drawing.specs.Lines.{greatest_shapes, price_shapes, volume_shapes}
 use Rattle.call_drawing.specs.Marks.{shown_mark}
@@ -21,7 +21,7 @@ use Rattle.call_drawing.specs.Steps.{side_shapes}
 
 -- what is marked in the picture: of an accepted log the price, of a finding also its orders and the
 -- greatest volume that it tells
-abbrev pub marked_by : Option Finding → Option ℕ → Marked
+abbrev pub marked_by : Option Finding → Option ℕ → MarkedCall
 marked_by None price = record { first = None; second = None; short = None; price = price }
 marked_by (Some finding) price = record {
   first = finding.first;
@@ -36,25 +36,25 @@ both_sides orders layout =
     side_shapes orders Buy layout.bids ++ side_shapes orders Sell layout.asks
 
 -- the lines
-abbrev pub call_lines : CallPicture → Marked → CallLayout → List ℕ
+abbrev pub call_lines : CallPicture → MarkedCall → CallLayout → List ℕ
 call_lines numbers marked layout =
     price_shapes layout.price_y marked.price ++ volume_shapes layout.volume numbers.volume
     ++ greatest_shapes layout.greatest marked.short
 
 -- the marks of the orders of the evidence
-abbrev pub call_marks : List Order → Marked → CallLayout → List ℕ
+abbrev pub call_marks : List Order → MarkedCall → CallLayout → List ℕ
 call_marks orders marked layout =
     shown_mark orders layout (codes "1") marked.first
     ++ shown_mark orders layout (codes "2") marked.second
 
 -- the shapes of the picture
-abbrev pub call_shapes : List Order → CallPicture → Marked → CallLayout → List ℕ
+abbrev pub call_shapes : List Order → CallPicture → MarkedCall → CallLayout → List ℕ
 call_shapes orders numbers marked layout =
     axes_shapes layout.axes (codes "quantity, best orders first") ++ both_sides orders layout
     ++ call_lines numbers marked layout ++ call_marks orders marked layout ++ legend
 
 -- the section: the picture, and its caption
-abbrev pub call_section : List Order → CallPicture → Marked → CallLayout → List ℕ
+abbrev pub call_section : List Order → CallPicture → MarkedCall → CallLayout → List ℕ
 call_section orders numbers marked layout = figure_section (codes "The orders of the call")
     (codes "Bids and asks by price and quantity") (plot_paper layout.axes)
     (call_shapes orders numbers marked layout) (caption numbers marked)
@@ -66,7 +66,7 @@ greatest_of (Some short) = short.greatest
 
 -- the section of a page that has the picture of a call with these numbers: its parts lie where
 -- their numbers lie in the plot
-pub record IsDrawnSection (orders : List Order) (numbers : CallPicture) (marked : Marked)
+pub record IsDrawnSection (orders : List Order) (numbers : CallPicture) (marked : MarkedCall)
     (text : List ℕ) : Type 0 where
   pub layout : CallLayout
   pub laid_out : IsLayoutOf (plot_of numbers (greatest_of marked.short)) numbers
@@ -74,7 +74,7 @@ pub record IsDrawnSection (orders : List Order) (numbers : CallPicture) (marked 
   pub written : text ≡ call_section orders numbers marked layout
 
 -- the section that has the picture of these orders and deals
-pub record IsCallSection (orders : List Order) (deals : List Deal) (marked : Marked)
+pub record IsCallSection (orders : List Order) (deals : List Deal) (marked : MarkedCall)
     (text : List ℕ) : Type 0 where
   pub numbers : CallPicture
   pub numbers_are : IsCallPicture orders deals numbers

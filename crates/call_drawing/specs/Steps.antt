@@ -6,7 +6,7 @@ use Rattle.audit_base.specs.declared.terms.Side.{Side}
 use Rattle.audit_base.specs.declared.terms.Side.TheVariants.{Buy, Sell}
 use Rattle.audit_base.specs.Numbers.{price_text}
 use Rattle.audit_report.specs.Lines.{side_word}
-use Rattle.call_picture.specs.declared.steps.Step.{Step}
+use Rattle.call_picture.specs.declared.steps.SideStep.{SideStep}
 use Rattle.call_drawing.specs.declared.bars.Bar.{Bar}
 use Rattle.call_drawing.specs.declared.bars.PlacedSide.{PlacedSide}
 use Rattle.call_drawing.specs.declared.bars.PlacedStep.{PlacedStep}
@@ -16,13 +16,13 @@ use Rattle.page_plots.specs.Sides.{bar_class, filled_class}
 
 -- the title of the orders of one limit: how many they are, SIDE,QUANTITY,LIMIT,TRADED, their
 -- quantities and traded numbers added
-abbrev pub limit_title : Side → Step → List ℕ
+abbrev pub limit_title : Side → SideStep → List ℕ
 limit_title side step = join_with_byte 44
     (decimal step.orders ∷ side_word side ∷ decimal step.quantity ∷ price_text step.limit
     ∷ decimal step.traded ∷ [])
 
 -- the title of a step
-abbrev pub step_title : List Order → Side → Bool → Step → List ℕ
+abbrev pub step_title : List Order → Side → Bool → SideStep → List ℕ
 step_title orders side true step = limit_title side step
 step_title orders side false step = order_title (slice_get orders step.best) step.traded
 

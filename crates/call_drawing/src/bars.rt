@@ -7,7 +7,7 @@ ghost use Rattle.page_plots.specs.Plots.{IsPlot};
 use audit_base::faults::NoMemory;
 use audit_base::terms::Side;
 use call_picture::pictures::SidePicture;
-use call_picture::steps::Step;
+use call_picture::steps::SideStep;
 use call_picture::windows::Drawn;
 use page_plots::plots::Plot;
 use std::alloc::Global;
@@ -28,7 +28,7 @@ pub struct Bar {
 /// A step with its bar.
 #[derive(Clone, Copy, Debug)]
 pub struct PlacedStep {
-    pub step: Step,
+    pub step: SideStep,
     pub bar: Bar,
 }
 
@@ -63,7 +63,7 @@ fn mark_centre(side: Side, level: u16) -> u16
 
 /// The bar of a step that begins at this quantity. An order that traded more than its quantity has
 /// a bar that is filled whole.
-fn bar_of(plot: Plot, side: Side, start: u128, step: &Step) -> Bar
+fn bar_of(plot: Plot, side: Side, start: u128, step: &SideStep) -> Bar
     requires plot { IsPlot plot }
     requires fits { start + step.now.quantity < 2 ^ 128 }
     ensures { result ≡ spec.bar_of plot side start step.now }
@@ -86,7 +86,7 @@ fn bar_of(plot: Plot, side: Side, start: u128, step: &Step) -> Bar
 }
 
 /// Adds a step behind the others.
-fn push_step(placed: &mut Vec<PlacedStep>, step: Step, bar: Bar) -> Result<(), NoMemory>
+fn push_step(placed: &mut Vec<PlacedStep>, step: SideStep, bar: Bar) -> Result<(), NoMemory>
     ensures { OnOk result
         (placed.new.items ≡ placed.old.items ++ record { step = step; bar = bar } ∷ []) }
 {

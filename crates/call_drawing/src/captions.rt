@@ -2,7 +2,7 @@
 ghost use Rattle.std.specs.Prelude.{◌≡◌, ◌++◌, IfOk, OnOk};
 ghost use Rattle.call_drawing.specs.Captions as spec;
 
-use crate::sections::Marked;
+use crate::sections::MarkedCall;
 use audit_base::faults::NoMemory;
 use audit_base::findings::Shown;
 use audit_base::terms::Side;
@@ -84,7 +84,7 @@ fn is_order(shown: &Option<Shown>) -> bool
 }
 
 /// What the marks are, where an order is marked.
-fn marks_words(marked: &Marked) -> &'static [u8]
+fn marks_words(marked: &MarkedCall) -> &'static [u8]
     ensures { result.now ≡ spec.marks_words marked.now }
 {
     if is_order(&marked.first) || is_order(&marked.second) {
@@ -95,7 +95,7 @@ fn marks_words(marked: &Marked) -> &'static [u8]
 }
 
 /// What the picture shows, and what its marks are.
-fn whole_words(alloc: Global, marked: &Marked) -> Result<Vec<u8>, NoMemory>
+fn whole_words(alloc: Global, marked: &MarkedCall) -> Result<Vec<u8>, NoMemory>
     ensures { IfOk result (λ text. text.items ≡ spec.whole_words marked.now) }
 {
     let mut text = Vec::from_slice(alloc, picture_words())?;
@@ -142,7 +142,11 @@ fn with_bars(alloc: Global, made: Markup, picture: &CallPicture) -> Result<Marku
 }
 
 /// The caption of the picture, with what is marked in it.
-pub fn caption_of(alloc: Global, picture: &CallPicture, marked: &Marked) -> Result<Markup, NoMemory>
+pub fn caption_of(
+    alloc: Global,
+    picture: &CallPicture,
+    marked: &MarkedCall,
+) -> Result<Markup, NoMemory>
     ensures { IfOk result (λ made. made ≡ spec.caption picture.now marked.now) }
 {
     let words = whole_words(alloc, marked)?;

@@ -6,7 +6,7 @@ ghost use Rattle.call_picture.specs.Pictures.{IsPictureInRange};
 ghost use Rattle.page_plots.specs.Plots.{IsPlot};
 
 use call_picture::pictures::CallPicture;
-use call_picture::steps::Step;
+use call_picture::steps::SideStep;
 use call_picture::windows::Drawn;
 use page_plots::plots::Plot;
 
@@ -23,7 +23,7 @@ fn end_of(drawn: &Drawn) -> u128
 }
 
 /// The greatest of a number and the limits of steps.
-fn greatest_limit(number: u64, steps: &[Step]) -> u64
+fn greatest_limit(number: u64, steps: &[SideStep]) -> u64
     ensures { result ≡ spec.greatest_limit number steps.now }
 {
     let mut greatest = number;
@@ -34,7 +34,7 @@ fn greatest_limit(number: u64, steps: &[Step]) -> u64
 }
 
 /// The least of a number and the limits of steps.
-fn least_limit(number: u64, steps: &[Step]) -> u64
+fn least_limit(number: u64, steps: &[SideStep]) -> u64
     ensures { result ≡ spec.least_limit number steps.now }
 {
     let mut least = number;

@@ -12,7 +12,7 @@ use audit_base::faults::NoMemory;
 use audit_base::numbers::Price;
 use audit_base::terms::Side;
 use call_picture::pictures::CallPicture;
-use page_plots::axes::Axes;
+use page_plots::plot_axes::Axes;
 use page_plots::plots::Plot;
 use page_plots::shapes::Anchor;
 use std::alloc::Global;

@@ -8,8 +8,8 @@ use audit_base::findings::Short;
 use audit_base::numbers::Price;
 use audit_base::texts::write_number;
 use page_markup::markup::Markup;
-use page_plots::axes::{BOTTOM, LEFT, RIGHT};
 use page_plots::papers::price_words;
+use page_plots::plot_axes::{BOTTOM, LEFT, RIGHT};
 use page_plots::shapes::{Anchor, Point, with_label, with_line};
 use std::alloc::Global;
 

@@ -9,7 +9,7 @@ use crate::steps::with_bar;
 use audit_base::faults::NoMemory;
 use audit_base::findings::{OrderLine, Shown};
 use audit_base::terms::Side;
-use call_picture::steps::Step;
+use call_picture::steps::SideStep;
 use order_list::lists::OrderList;
 use page_markup::markup::Markup;
 use page_plots::orders::{has_place, order_shown, with_badge};
@@ -17,7 +17,7 @@ use page_plots::shapes::Point;
 use std::alloc::Global;
 
 /// Whether a step is that of this order, or of its limit.
-fn is_step_of(orders: &OrderList<'_>, by_limit: bool, step: &Step, line: &OrderLine) -> bool
+fn is_step_of(orders: &OrderList<'_>, by_limit: bool, step: &SideStep, line: &OrderLine) -> bool
     ensures { result ≡ spec.is_step_of orders.now by_limit step.now line.now }
 {
     if by_limit {

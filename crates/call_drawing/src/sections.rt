@@ -18,14 +18,14 @@ use audit_base::terms::Side;
 use call_picture::pictures::{CallPicture, call_picture};
 use order_list::lists::OrderList;
 use page_markup::markup::Markup;
-use page_plots::axes::with_axes;
 use page_plots::figures::with_figure;
 use page_plots::papers::plot_paper;
+use page_plots::plot_axes::with_axes;
 use std::alloc::Global;
 
 /// What is marked in the picture of a call.
 #[derive(Clone, Copy, Debug)]
-pub struct Marked {
+pub struct MarkedCall {
     /// What the finding shows first and second: where it is an order, its step is marked.
     pub first: Option<Shown>,
     pub second: Option<Shown>,
@@ -35,19 +35,19 @@ pub struct Marked {
     pub price: Option<Price>,
 }
 
-impl Marked {
+impl MarkedCall {
     /// What a finding marks, and the price.
-    pub fn by(finding: &Option<Finding>, price: Option<Price>) -> Marked
+    pub fn by(finding: &Option<Finding>, price: Option<Price>) -> MarkedCall
         ensures { result ≡ spec.marked_by finding.now price }
     {
         match finding {
-            Some(finding) => Marked {
+            Some(finding) => MarkedCall {
                 first: finding.first,
                 second: finding.second,
                 short: finding.short,
                 price,
             },
-            None => Marked {
+            None => MarkedCall {
                 first: None,
                 second: None,
                 short: None,
@@ -85,7 +85,7 @@ fn with_lines(
     alloc: Global,
     made: Markup,
     numbers: &CallPicture,
-    marked: &Marked,
+    marked: &MarkedCall,
     layout: &CallLayout,
 ) -> Result<Markup, NoMemory>
     ensures { IfOk result
@@ -101,7 +101,7 @@ fn with_marks(
     alloc: Global,
     made: Markup,
     orders: &OrderList<'_>,
-    marked: &Marked,
+    marked: &MarkedCall,
     layout: &CallLayout,
 ) -> Result<Markup, NoMemory>
     ensures { IfOk result
@@ -116,7 +116,7 @@ fn call_shapes(
     alloc: Global,
     orders: &OrderList<'_>,
     numbers: &CallPicture,
-    marked: &Marked,
+    marked: &MarkedCall,
     layout: &CallLayout,
 ) -> Result<Markup, NoMemory>
     ensures { IfOk result
@@ -135,7 +135,7 @@ fn section_of(
     alloc: Global,
     orders: &OrderList<'_>,
     numbers: &CallPicture,
-    marked: &Marked,
+    marked: &MarkedCall,
     layout: &CallLayout,
 ) -> Result<Markup, NoMemory>
     ensures { IfOk result
@@ -155,7 +155,7 @@ fn drawn_section(
     alloc: Global,
     orders: &OrderList<'_>,
     numbers: &CallPicture,
-    marked: &Marked,
+    marked: &MarkedCall,
 ) -> Result<Markup, NoMemory>
     requires { IsPictureInRange numbers.now }
     ensures { IfOk result (spec.IsDrawnSection orders.now numbers.now marked.now) }
@@ -171,7 +171,7 @@ pub fn call_section(
     alloc: Global,
     orders: &OrderList<'_>,
     deals: &[Deal],
-    marked: &Marked,
+    marked: &MarkedCall,
 ) -> Result<Markup, NoMemory>
     requires order_list { IsOrderList orders.now }
     requires deal_list { IsDealList orders.now deals.now }

@@ -7,9 +7,9 @@ use crate::bars::{Bar, PlacedSide, PlacedStep};
 use audit_base::faults::NoMemory;
 use audit_base::terms::Side;
 use audit_base::texts::write_number;
-use audit_report::line_parts::{Part, append_joined};
+use audit_report::line_parts::{LinePart, append_joined};
 use audit_report::words::side_word;
-use call_picture::steps::Step;
+use call_picture::steps::SideStep;
 use order_list::lists::OrderList;
 use page_markup::markup::Markup;
 use page_plots::orders::order_title;
@@ -21,16 +21,16 @@ use std::alloc::Global;
 pub const BAR_HEIGHT: u32 = 9;
 
 /// The title of the orders of one limit.
-fn limit_title(alloc: Global, side: Side, step: &Step) -> Result<Vec<u8>, NoMemory>
+fn limit_title(alloc: Global, side: Side, step: &SideStep) -> Result<Vec<u8>, NoMemory>
     ensures { IfOk result (λ text. text.items ≡ spec.limit_title side step.now) }
 {
     let mut count = Vec::new(alloc);
     write_number(alloc, step.orders as u128, &mut count)?;
     let parts = [
-        Part::Word(side_word(side)),
-        Part::Number(step.quantity),
-        Part::Price(step.limit),
-        Part::Number(step.traded),
+        LinePart::Word(side_word(side)),
+        LinePart::Number(step.quantity),
+        LinePart::Price(step.limit),
+        LinePart::Number(step.traded),
     ];
     let mut text = Vec::new(alloc);
     append_joined(alloc, &count, &parts, &mut text)?;
@@ -43,7 +43,7 @@ fn step_title(
     orders: &OrderList<'_>,
     side: Side,
     by_limit: bool,
-    step: &Step,
+    step: &SideStep,
 ) -> Result<Vec<u8>, NoMemory>
     ensures { IfOk result
         (λ text. text.items ≡ spec.step_title orders.now side by_limit step.now) }

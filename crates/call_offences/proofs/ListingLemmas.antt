@@ -13,8 +13,8 @@ use Rattle.audit_base.specs.Deals.{traded, volume, deal_at, deal_past_end, Names
 use Rattle.audit_base.specs.CallOffences.{is_cancelled, keeps_limits, call_inactive_finding, call_limit_finding, uniform_price_finding, bid_quantity_finding, ask_quantity_finding, matching_finding}
 use Rattle.audit_base.proofs.TotalsLemmas.{AreTotalsSoFar, bid-more, ask-more, after, totals-more}
 use Rattle.matching_core.specs.DealFlaws.{is_overfilled, traded_with_deal}
-use Rattle.offence_list.specs.declared.offences.Offence.{Offence}
-use Rattle.offence_list.specs.declared.offences.Offence.TheVariants.{Inactive, Limit, UniformPrice, Quantity}
+use Rattle.offence_list.specs.declared.offences.ListedOffence.{ListedOffence}
+use Rattle.offence_list.specs.declared.offences.ListedOffence.TheVariants.{Inactive, Limit, UniformPrice, Quantity}
 use Rattle.offence_list.specs.Answers.{answers_below, with_answer}
 use Rattle.offence_list.specs.ListedOffences.{finding_of_offence, findings_of_offences}
 use Rattle.offence_list.proofs.ListLemmas.{mapped-further}
@@ -26,19 +26,19 @@ abbrev pub AreTotalsOf : List Order → List Deal → ℕ → List ℕ → Type 
 AreTotalsOf orders deals k so_far = AreTotalsSoFar orders deals k so_far (volume (take k deals))
 
 -- the first k deals have been read, with these offences
-pub record IsListedUpto (uniform : Bool) (orders : List Order) (deals : List Deal) (k : ℕ) (so_far : List ℕ) (found : List Offence) : Type 0 where
+pub record IsListedUpto (uniform : Bool) (orders : List Order) (deals : List Deal) (k : ℕ) (so_far : List ℕ) (found : List ListedOffence) : Type 0 where
   pub totals : AreTotalsOf orders deals k so_far
   pub found_is : findings_of_offences orders found ≡ answers_below (matching_finding uniform orders deals) k
   pub inside : AreOffencesInside orders found
 
 -- one more offence, where there is one
-pub inside-further : (orders : List Order) (found later : List Offence) (o : Option Offence) → AreOffencesInside orders found → IfSome o (IsOffenceInside orders) → later ≡ with_answer found o → AreOffencesInside orders later
+pub inside-further : (orders : List Order) (found later : List ListedOffence) (o : Option ListedOffence) → AreOffencesInside orders found → IfSome o (IsOffenceInside orders) → later ≡ with_answer found o → AreOffencesInside orders later
 inside-further orders found later None all one is = rw is all
 inside-further orders found later (Some x) all one is =
     rw is (All-append (IsOffenceInside orders) found (x ∷ []) all (All-cons (IsOffenceInside orders) x [] one (λ k d lt. absurd (omega arith))))
 
 -- the first of what is wrong, as a finding, is the first of the findings
-first-made : (a b c d e g : Bool) (ia ib ic id ie ig : Offence) (f : Offence → Finding)
+first-made : (a b c d e g : Bool) (ia ib ic id ie ig : ListedOffence) (f : ListedOffence → Finding)
     → option_map f (first_answer (only_if a ia ∷ only_if b ib ∷ only_if c ic ∷ only_if d id ∷ only_if e ie ∷ only_if g ig ∷ []))
     ≡ first_answer (first_answer (only_if a (f ia) ∷ only_if b (f ib) ∷ []) ∷ only_if c (f ic) ∷ only_if d (f id) ∷ only_if e (f ie) ∷ only_if g (f ig) ∷ [])
 first-made true b c d e g ia ib ic id ie ig f = refl
@@ -90,7 +90,7 @@ module _ (orders : List Order) (deals : List Deal) (k : ℕ) (lt : k < length de
       let a : ask_traded ≡ traded (take (k + 1) deals) (deal_at deals k).ask = at_is ∙ ap (λ (x : Deal). get_or so_far x.ask 0 + quantity) d_is ∙ a' in
       (λ i. option_map (finding_of_offence orders) (deal_offence uniform orders (d_is i) (f_is i) (b i) (a i))) ∙ offence-is uniform orders deals k
 
-  pub listed-further : (uniform : Bool) (found later_found : List Offence) (later : List ℕ) (offence : Option Offence) (first : Deal) (bid_traded ask_traded : ℕ)
+  pub listed-further : (uniform : Bool) (found later_found : List ListedOffence) (later : List ℕ) (offence : Option ListedOffence) (first : Deal) (bid_traded ask_traded : ℕ)
       → findings_of_offences orders found ≡ answers_below (matching_finding uniform orders deals) k
       → first ≡ deal_at deals 0 → bid_traded ≡ get_or so_far d.bid 0 + quantity → ask_traded ≡ get_or so_far d.ask 0 + quantity
       → later ≡ traded_with_deal so_far d.bid d.ask quantity → offence ≡ deal_offence uniform orders d first bid_traded ask_traded → later_found ≡ with_answer found offence

@@ -21,8 +21,8 @@ use Rattle.audit_base.proofs.PriorityLemmas.{IsBest, best-is, best-exists, Bette
 use Rattle.offence_list.specs.Answers.{answers_below, with_answer}
 use Rattle.offence_list.specs.CallLists.{priority_finding}
 use Rattle.offence_list.proofs.ListLemmas.{mapped-further}
-use Rattle.offence_list.specs.declared.offences.Offence.{Offence}
-use Rattle.offence_list.specs.declared.offences.Offence.TheVariants.{Priority}
+use Rattle.offence_list.specs.declared.offences.ListedOffence.{ListedOffence}
+use Rattle.offence_list.specs.declared.offences.ListedOffence.TheVariants.{Priority}
 use Rattle.offence_list.specs.ListedOffences.{finding_of_offence, findings_of_offences}
 use Rattle.audit_base.proofs.OffenceLemmas.{get_or-default}
 use Rattle.call_offences.specs.DealOffences.{order_trading, IsOrderOnSide, order_on_side, passed_over_on_side, passed_over}
@@ -110,7 +110,7 @@ module _ (orders : List Order) (deals : List Deal) (numbers : List ℕ) (list : 
 
   -- the list of what is found, one deal further
   pub passed-further : (bid ask : Option ℕ) → bid ≡ best_short orders deals Buy → ask ≡ best_short orders deals Sell → All (NamesOrders orders) deals → (k : ℕ) → k < length deals
-      → (d : Deal) → d ≡ get_or deals k d → (found later : List Offence) (offence : Option Offence) → findings_of_offences orders found ≡ answers_below (priority_finding orders deals) k
+      → (d : Deal) → d ≡ get_or deals k d → (found later : List ListedOffence) (offence : Option ListedOffence) → findings_of_offences orders found ≡ answers_below (priority_finding orders deals) k
       → offence ≡ passed_over orders numbers bid ask d → later ≡ with_answer found offence → findings_of_offences orders later ≡ answers_below (priority_finding orders deals) (k + 1)
   passed-further bid ask bid_is ask_is named k lt d d_is found later offence found_is offence_is later_is =
       let d' : d ≡ deal_at deals k = d_is ∙ get_or-default deals k d deal_past_end lt in

@@ -12,8 +12,8 @@ use Rattle.audit_base.specs.Least.{first_answer, only_if}
 use Rattle.audit_base.specs.Orders.{order_at, side_at}
 use Rattle.audit_base.specs.Priority.{better}
 use Rattle.matching_core.specs.DealFlaws.{is_overfilled}
-use Rattle.offence_list.specs.declared.offences.Offence.{Offence}
-use Rattle.offence_list.specs.declared.offences.Offence.TheVariants.{Inactive, Limit, UniformPrice, Quantity, Priority}
+use Rattle.offence_list.specs.declared.offences.ListedOffence.{ListedOffence}
+use Rattle.offence_list.specs.declared.offences.ListedOffence.TheVariants.{Inactive, Limit, UniformPrice, Quantity, Priority}
 
 -- an order with a traded number
 abbrev pub order_trading : ℕ → ℕ → TradedOrder
@@ -21,7 +21,7 @@ order_trading order amount = record { index = order; traded = amount }
 
 -- the first of what is wrong with a deal: 7 of the bid, or else of the ask; 8; 9, where one price
 -- is asked for; 10 of the bid; and 11 of the ask
-abbrev pub deal_offence : Bool → List Order → Deal → Deal → ℕ → ℕ → Option Offence
+abbrev pub deal_offence : Bool → List Order → Deal → Deal → ℕ → ℕ → Option ListedOffence
 deal_offence uniform orders d first bid_traded ask_traded =
     let bid = order_trading d.bid bid_traded in
     let ask = order_trading d.ask ask_traded in
@@ -43,7 +43,7 @@ order_on_side Buy d = d.bid
 order_on_side Sell d = d.ask
 
 -- the best short order of a side outranks the deal's order of the side
-abbrev pub passed_over_on_side : List Order → List ℕ → Side → Option ℕ → Deal → Option Offence
+abbrev pub passed_over_on_side : List Order → List ℕ → Side → Option ℕ → Deal → Option ListedOffence
 passed_over_on_side orders traded side None d = None
 passed_over_on_side orders traded side (Some short) d = let own = order_on_side side d in
     only_if (better (order_at orders short) (order_at orders own))
@@ -51,7 +51,7 @@ passed_over_on_side orders traded side (Some short) d = let own = order_on_side 
     (order_trading own (slice_index traded own)))
 
 -- the best short bid outranks the deal's bid, or else the best short ask its ask
-abbrev pub passed_over : List Order → List ℕ → Option ℕ → Option ℕ → Deal → Option Offence
+abbrev pub passed_over : List Order → List ℕ → Option ℕ → Option ℕ → Deal → Option ListedOffence
 passed_over orders traded bid ask d =
     option_or (passed_over_on_side orders traded Buy bid d)
     (passed_over_on_side orders traded Sell ask d)

@@ -7,7 +7,7 @@ ghost use Rattle.matching_core.specs.DealFlaws.{is_overfilled};
 use audit_base::flaws::TradedOrder;
 use audit_base::orders::Deal;
 use audit_base::terms::Side;
-use offence_list::offences::Offence;
+use offence_list::offences::ListedOffence;
 use order_list::listed::{ListedOrder, is_within};
 use order_list::lists::OrderList;
 
@@ -27,7 +27,7 @@ pub(crate) fn deal_offence(
     first: &Deal,
     bid_traded: u128,
     ask_traded: u128,
-) -> Option<Offence>
+) -> Option<ListedOffence>
     requires bid { deal.now.bid < length orders.now }
     requires ask { deal.now.ask < length orders.now }
     ensures first { let offence = spec.deal_offence uniform orders.now deal.now first.now in
@@ -44,24 +44,24 @@ pub(crate) fn deal_offence(
     };
     let place = deal.place;
     if orders.at(bid.index).cancelled().is_some() {
-        Some(Offence::Inactive { place, order: bid })
+        Some(ListedOffence::Inactive { place, order: bid })
     } else if orders.at(ask.index).cancelled().is_some() {
-        Some(Offence::Inactive { place, order: ask })
+        Some(ListedOffence::Inactive { place, order: ask })
     } else if !is_within(deal, &orders.at(bid.index), &orders.at(ask.index)) {
-        Some(Offence::Limit { place, bid, ask })
+        Some(ListedOffence::Limit { place, bid, ask })
     } else if uniform && deal.price != first.price {
         let first = first.place;
-        Some(Offence::UniformPrice { place, first })
+        Some(ListedOffence::UniformPrice { place, first })
     } else if is_overfilled(&orders.at(bid.index), bid_traded) {
         let side = Side::Buy;
-        Some(Offence::Quantity {
+        Some(ListedOffence::Quantity {
             place,
             side,
             order: bid,
         })
     } else if is_overfilled(&orders.at(ask.index), ask_traded) {
         let side = Side::Sell;
-        Some(Offence::Quantity {
+        Some(ListedOffence::Quantity {
             place,
             side,
             order: ask,

@@ -12,7 +12,7 @@ use audit_base::findings::Finding;
 use audit_base::orders::Deal;
 use audit_base::terms::CallRule;
 use offence_list::kinds::OffenceKind;
-use offence_list::offences::Offence;
+use offence_list::offences::ListedOffence;
 use order_list::lists::OrderList;
 use std::alloc::Global;
 
@@ -22,7 +22,7 @@ pub enum Listing {
     /// The first one alone.
     Alone,
     /// These, of which it is the first.
-    Listed(Vec<Offence>),
+    Listed(Vec<ListedOffence>),
 }
 
 /// Whether the rule asks for one price.

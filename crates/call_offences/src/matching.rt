@@ -11,7 +11,7 @@ use audit_base::orders::Deal;
 use matching_core::checking::add_deal;
 use matching_core::totals::zeros;
 use offence_list::answers::push_answer;
-use offence_list::offences::Offence;
+use offence_list::offences::ListedOffence;
 use order_list::lists::OrderList;
 use std::alloc::Global;
 
@@ -24,7 +24,7 @@ pub fn matching_offences(
     orders: &OrderList<'_>,
     deals: &[Deal],
     uniform: bool,
-) -> Result<Vec<Offence>, NoMemory>
+) -> Result<Vec<ListedOffence>, NoMemory>
     requires { IsDealList orders.now deals.now }
     ensures list { IfOk result (λ found. findings_of_offences orders.now found.items
         ≡ list.matching_offences uniform orders.now deals.now) }

@@ -8,7 +8,7 @@ ghost use Rattle.call_offences.specs.Inside.{IsOffenceInside};
 use audit_base::flaws::TradedOrder;
 use audit_base::orders::Deal;
 use audit_base::terms::Side;
-use offence_list::offences::Offence;
+use offence_list::offences::ListedOffence;
 use order_list::lists::OrderList;
 use rank_order::comparing::better;
 
@@ -29,7 +29,7 @@ fn passed_over_on_side(
     side: Side,
     short: Option<usize>,
     deal: &Deal,
-) -> Option<Offence>
+) -> Option<ListedOffence>
     requires count { length traded.now ≡ length orders.now }
     requires short { IfSome short (spec.IsOrderOnSide orders.now side) }
     requires own { spec.IsOrderOnSide orders.now side (spec.order_on_side side deal.now) }
@@ -49,7 +49,7 @@ fn passed_over_on_side(
             traded: traded[index],
         };
         let place = deal.place;
-        Some(Offence::Priority {
+        Some(ListedOffence::Priority {
             place,
             side,
             ahead,
@@ -67,7 +67,7 @@ pub(crate) fn passed_over(
     short_bid: Option<usize>,
     short_ask: Option<usize>,
     deal: &Deal,
-) -> Option<Offence>
+) -> Option<ListedOffence>
     requires count { length traded.now ≡ length orders.now }
     requires short_bid { IfSome short_bid (spec.IsOrderOnSide orders.now Buy) }
     requires short_ask { IfSome short_ask (spec.IsOrderOnSide orders.now Sell) }

@@ -14,7 +14,7 @@ use audit_base::faults::NoMemory;
 use audit_base::orders::Deal;
 use audit_base::terms::Side;
 use offence_list::answers::push_answer;
-use offence_list::offences::Offence;
+use offence_list::offences::ListedOffence;
 use order_list::lists::OrderList;
 use short_order::searching::best_short_on;
 use std::alloc::Global;
@@ -27,7 +27,7 @@ fn all_passed_over(
     traded: &[u128],
     short_bid: Option<usize>,
     short_ask: Option<usize>,
-) -> Result<Vec<Offence>, NoMemory>
+) -> Result<Vec<ListedOffence>, NoMemory>
     requires order_list { IsOrderList orders.now }
     requires deal_list { IsDealList orders.now deals.now }
     requires totals { AreTotals orders.now deals.now traded.now }
@@ -53,7 +53,7 @@ pub fn priority_offences(
     alloc: Global,
     orders: &OrderList<'_>,
     deals: &[Deal],
-) -> Result<Vec<Offence>, NoMemory>
+) -> Result<Vec<ListedOffence>, NoMemory>
     requires order_list { IsOrderList orders.now }
     requires deal_list { IsDealList orders.now deals.now }
     ensures list { IfOk result (λ found. findings_of_offences orders.now found.items

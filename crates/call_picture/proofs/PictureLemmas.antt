@@ -16,7 +16,7 @@ use Rattle.audit_base.specs.Priority.{IsRanked}
 use Rattle.unit_pairs.proofs.UnitLemmas.{ranks-fit}
 use Rattle.call_picture.specs.declared.pictures.CallPicture.{CallPicture}
 use Rattle.call_picture.specs.declared.pictures.SidePicture.{SidePicture}
-use Rattle.call_picture.specs.declared.steps.Step.{Step}
+use Rattle.call_picture.specs.declared.steps.SideStep.{SideStep}
 use Rattle.call_picture.specs.Merging.{AreTotalsSmall}
 use Rattle.call_picture.specs.Pictures.{IsCallPicture, IsPictureInRange, IsSidePicture}
 use Rattle.call_picture.specs.Steps.{step_of_group}
@@ -54,7 +54,7 @@ groups-sum : (orders : List Order) (deals : List Deal) (groups : List (List ℕ)
     → quantity_of_steps (map (step_of_group orders deals) groups) ≡ sum_by (quantity_at orders) (flat_map (λ (g : List ℕ). g) groups)
 groups-sum orders deals [] = refl
 groups-sum orders deals (g ∷ gs) =
-    let one = sum_by-cons (λ (s : Step). s.quantity) (step_of_group orders deals g) (map (step_of_group orders deals) gs) in
+    let one = sum_by-cons (λ (s : SideStep). s.quantity) (step_of_group orders deals g) (map (step_of_group orders deals) gs) in
     let rest = groups-sum orders deals gs in
     let both = sum_by-append (quantity_at orders) g (flat_map (λ (h : List ℕ). h) gs) in
     omega (arith, one, rest, both)
@@ -66,9 +66,9 @@ quantities-most orders (r ∷ rs) in_range inside =
     let rest = quantities-most orders rs in_range (All-tail (λ order. order < length orders) r rs inside) in
     omega (arith, most, rest, sum_by-cons (quantity_at orders) r rs)
 
-part-within : (first : ℕ) (steps : List Step) → quantity_of_steps (take first steps) + quantity_of_steps (take 400 (drop first steps)) ≤ quantity_of_steps steps
+part-within : (first : ℕ) (steps : List SideStep) → quantity_of_steps (take first steps) + quantity_of_steps (take 400 (drop first steps)) ≤ quantity_of_steps steps
 part-within first steps =
-    let f = λ (s : Step). s.quantity in
+    let f = λ (s : SideStep). s.quantity in
     let cut : quantity_of_steps steps ≡ quantity_of_steps (take first steps) + quantity_of_steps (drop first steps) =
     ap quantity_of_steps (sym (take-append-drop first steps)) ∙ sum_by-append f (take first steps) (drop first steps) in
     let behind : quantity_of_steps (drop first steps) ≡ quantity_of_steps (take 400 (drop first steps)) + quantity_of_steps (drop 400 (drop first steps)) =

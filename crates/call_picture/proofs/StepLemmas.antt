@@ -16,7 +16,7 @@ use Rattle.audit_base.specs.Deals.{AreTotals, number_at, traded}
 use Rattle.audit_base.specs.Orders.{order_at, order_past_end, limit_at, quantity_at, OrdersInRange}
 use Rattle.audit_base.specs.Priority.{outranks, Better, IsRanked}
 use Rattle.audit_base.proofs.PriorityLemmas.{better-outranks}
-use Rattle.call_picture.specs.declared.steps.Step.{Step}
+use Rattle.call_picture.specs.declared.steps.SideStep.{SideStep}
 use Rattle.call_picture.specs.Merging.{AreStepsSoFar, are_one_step, joined_step, next_step, finished_steps, step_of_order, AreTotalsSmall, IsStepSmall}
 use Rattle.call_picture.specs.Steps.{AreSteps, HasOneLimit, IsBetterLimit, best_of_group, limit_of_group, step_of_group}
 
@@ -40,7 +40,7 @@ better-onward Sell a b c first second = grind arith
 
 module _ (orders : List Order) (deals : List Deal) (side : Side) (by_limit : Bool) where
   -- the first order
-  pub step-first : (ranks : List ℕ) (steps : List Step) (step : Step) (r : ℕ) → ranks ≡ r ∷ [] → steps ≡ [] → step ≡ step_of_group orders deals (r ∷ [])
+  pub step-first : (ranks : List ℕ) (steps : List SideStep) (step : SideStep) (r : ℕ) → ranks ≡ r ∷ [] → steps ≡ [] → step ≡ step_of_group orders deals (r ∷ [])
       → AreStepsSoFar orders deals side by_limit ranks steps step
   step-first ranks steps step r ranks_is steps_is step_is = record {
     groups = [];
@@ -59,7 +59,7 @@ module _ (orders : List Order) (deals : List Deal) (side : Side) (by_limit : Boo
       one-limit : (r : ℕ) → HasOneLimit orders (r ∷ [])
       one-limit r = All-cons (λ o. limit_at orders o ≡ limit_at orders r) r [] refl (All-nil (λ o. limit_at orders o ≡ limit_at orders r))
 
-  module _ (ranks : List ℕ) (steps : List Step) (step : Step) (so : AreStepsSoFar orders deals side by_limit ranks steps step) (r : ℕ) where
+  module _ (ranks : List ℕ) (steps : List SideStep) (step : SideStep) (so : AreStepsSoFar orders deals side by_limit ranks steps step) (r : ℕ) where
     earlier_some : All (λ (g : List ℕ). 0 < length g) so.groups × (0 < length so.last)
     earlier_some = All-pop (λ (g : List ℕ). 0 < length g) (so.groups ++ so.last ∷ []) so.groups (Some so.last) refl so.cut.some
 
@@ -105,7 +105,7 @@ module _ (orders : List Order) (deals : List Deal) (side : Side) (by_limit : Boo
       traded = sym (sum_by-append (traded deals) so.last (r ∷ [])) i;
     }
 
-    pub step-joined : (made : Step) → by_limit ≡ true → limit_of_group orders so.last ≡ limit_at orders r → made ≡ step_of_group orders deals (so.last ++ r ∷ [])
+    pub step-joined : (made : SideStep) → by_limit ≡ true → limit_of_group orders so.last ≡ limit_at orders r → made ≡ step_of_group orders deals (so.last ++ r ∷ [])
         → AreStepsSoFar orders deals side by_limit (ranks ++ r ∷ []) steps made
     step-joined made limits same made_is = record {
       groups = so.groups;
@@ -146,7 +146,7 @@ module _ (orders : List Order) (deals : List Deal) (side : Side) (by_limit : Boo
               better-onward side (get_or ls k d) (f so.last) (limit_at orders r) (subst (λ (x : ℕ). IsBetterLimit side (get_or ls k d) x) at first) b
         ]
 
-    pub step-begun : (made : Step) (finished : List Step) → (by_limit ≡ true → IsBetterLimit side (limit_of_group orders so.last) (limit_at orders r))
+    pub step-begun : (made : SideStep) (finished : List SideStep) → (by_limit ≡ true → IsBetterLimit side (limit_of_group orders so.last) (limit_at orders r))
         → made ≡ step_of_group orders deals (r ∷ []) → finished ≡ steps ++ step ∷ []
         → AreStepsSoFar orders deals side by_limit (ranks ++ r ∷ []) finished made
     step-begun made finished worse made_is finished_is = record {
@@ -174,7 +174,7 @@ module _ (orders : List Order) (deals : List Deal) (side : Side) (by_limit : Boo
         subst P at (subst (All P) whole all (length xs + 0) 0 inside)
 
     -- The next order, which the rank says is no better than those before it.
-    pub step-more : (next made : Step) (finished : List Step) → next ≡ step_of_group orders deals (r ∷ [])
+    pub step-more : (next made : SideStep) (finished : List SideStep) → next ≡ step_of_group orders deals (r ∷ [])
         → All (λ o. IsNoWorseLimit side (limit_at orders o) (limit_at orders r)) ranks
         → made ≡ next_step by_limit step next → finished ≡ finished_steps by_limit steps step next
         → AreStepsSoFar orders deals side by_limit (ranks ++ r ∷ []) finished made
@@ -189,7 +189,7 @@ module _ (orders : List Order) (deals : List Deal) (side : Side) (by_limit : Boo
               let kept : steps ≡ finished = sym (finished_is ∙ cond-true (are_one_step by_limit step next) steps (steps ++ step ∷ []) joins) in
               let both : made ≡ step_of_group orders deals (so.last ++ r ∷ []) =
               made_is ∙ cond-true (are_one_step by_limit step next) (joined_step step next) next joins ∙ (λ i. joined_step (so.made i) (next_is i)) ∙ made-joined in
-              subst (λ (l : List Step). AreStepsSoFar orders deals side by_limit (ranks ++ r ∷ []) l made) kept (step-joined made parts.0 (eqb-true last own parts.1) both)
+              subst (λ (l : List SideStep). AreStepsSoFar orders deals side by_limit (ranks ++ r ∷ []) l made) kept (step-joined made parts.0 (eqb-true last own parts.1) both)
           | inr f ↦
               let apart = one ∙ f in
               step-begun made finished (λ limits. elim (last-in (λ o. IsNoWorseLimit side (limit_at orders o) own) no_worse) [
@@ -201,7 +201,7 @@ module _ (orders : List Order) (deals : List Deal) (side : Side) (by_limit : Boo
         ]
 
 -- at their end these are the steps of all
-pub steps-all : (orders : List Order) (deals : List Deal) (side : Side) (by_limit : Bool) (ranks : List ℕ) (steps all : List Step) (step : Step)
+pub steps-all : (orders : List Order) (deals : List Deal) (side : Side) (by_limit : Bool) (ranks : List ℕ) (steps all : List SideStep) (step : SideStep)
     → AreStepsSoFar orders deals side by_limit ranks steps step → all ≡ steps ++ step ∷ [] → AreSteps orders deals side by_limit ranks all
 steps-all orders deals side by_limit ranks steps all step so all_is = record {
   groups = so.groups ++ so.last ∷ [];
@@ -210,7 +210,7 @@ steps-all orders deals side by_limit ranks steps all step so all_is = record {
 }
 
 -- no order is no step
-pub steps-none : (orders : List Order) (deals : List Deal) (side : Side) (by_limit : Bool) (ranks : List ℕ) (steps : List Step) → ranks ≡ [] → steps ≡ []
+pub steps-none : (orders : List Order) (deals : List Deal) (side : Side) (by_limit : Bool) (ranks : List ℕ) (steps : List SideStep) → ranks ≡ [] → steps ≡ []
     → AreSteps orders deals side by_limit ranks steps
 steps-none orders deals side by_limit ranks steps ranks_is steps_is = record {
   groups = [];
@@ -256,27 +256,27 @@ ranked-limits orders side ranks ranked k lt j d below =
 
 -- the numbers of a step stay within what its orders can make them
 
-pub small-first : (orders : List Order) (totals : List ℕ) (r : ℕ) (step : Step) → step ≡ step_of_order orders totals r → OrdersInRange orders → r < length orders → AreTotalsSmall totals → IsStepSmall 1 step
+pub small-first : (orders : List Order) (totals : List ℕ) (r : ℕ) (step : SideStep) → step ≡ step_of_order orders totals r → OrdersInRange orders → r < length orders → AreTotalsSmall totals → IsStepSmall 1 step
 small-first orders totals r step is in_range lt small =
     let most = (in_range r order_past_end lt).most in
     let few : number_at totals r ≤ 2 ^ 72 = small r in
     subst (IsStepSmall 1) (sym is) (record { few = omega arith; bounded = omega (arith, most); small = omega (arith, few) })
 
-small-joined : (n : ℕ) (step next : Step) → IsStepSmall n step → IsStepSmall 1 next → IsStepSmall (n + 1) (joined_step step next)
+small-joined : (n : ℕ) (step next : SideStep) → IsStepSmall n step → IsStepSmall 1 next → IsStepSmall (n + 1) (joined_step step next)
 small-joined n step next is one = record {
   few = omega (arith, is.few, one.few);
   bounded = omega (arith, is.bounded, one.bounded);
   small = omega (arith, is.small, one.small);
 }
 
-small-later : (n : ℕ) (next : Step) → IsStepSmall 1 next → IsStepSmall (n + 1) next
+small-later : (n : ℕ) (next : SideStep) → IsStepSmall 1 next → IsStepSmall (n + 1) next
 small-later n next one = record {
   few = omega (arith, one.few);
   bounded = omega (arith, one.bounded);
   small = omega (arith, one.small);
 }
 
-pub small-more : (n : ℕ) (by_limit : Bool) (step next made : Step) → IsStepSmall n step → IsStepSmall 1 next → made ≡ next_step by_limit step next → IsStepSmall (n + 1) made
+pub small-more : (n : ℕ) (by_limit : Bool) (step next made : SideStep) → IsStepSmall n step → IsStepSmall 1 next → made ≡ next_step by_limit step next → IsStepSmall (n + 1) made
 small-more n by_limit step next made is one made_is = elim (cases_Bool (are_one_step by_limit step next)) [
   | inl t ↦ subst (IsStepSmall (n + 1)) (sym (made_is ∙ cond-true (are_one_step by_limit step next) (joined_step step next) next t)) (small-joined n step next is one)
   | inr f ↦ subst (IsStepSmall (n + 1)) (sym (made_is ∙ cond-false (are_one_step by_limit step next) (joined_step step next) next f)) (small-later n next one)

@@ -8,7 +8,7 @@ use Rattle.audit_base.specs.Deals.{volume}
 use Rattle.audit_base.specs.Priority.{IsRanked}
 use Rattle.call_picture.specs.declared.pictures.CallPicture.{CallPicture}
 use Rattle.call_picture.specs.declared.pictures.SidePicture.{SidePicture}
-use Rattle.call_picture.specs.declared.steps.Step.{Step}
+use Rattle.call_picture.specs.declared.steps.SideStep.{SideStep}
 use Rattle.call_picture.specs.Steps.{AreSteps}
 use Rattle.call_picture.specs.Windows.{IsDrawn, quantity_of_steps}
 
@@ -19,7 +19,7 @@ pub record IsSidePicture (orders : List Order) (deals : List Deal) (side : Side)
   pub ranks : List ℕ
   pub ranked : IsRanked orders side ranks
   pub by_limit : picture.by_limit ≡ nat_lt 400 (length ranks)
-  pub all : List Step
+  pub all : List SideStep
   pub steps : AreSteps orders deals side picture.by_limit ranks all
   pub drawn : IsDrawn reached all picture.drawn
 

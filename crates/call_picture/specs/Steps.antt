@@ -7,7 +7,7 @@ use Rattle.audit_base.specs.declared.orders.Deal.{Deal}
 use Rattle.audit_base.specs.Deals.{number_at, traded}
 use Rattle.audit_base.specs.Orders.{limit_at, quantity_at}
 use Rattle.audit_base.specs.Priority.{better_limit}
-use Rattle.call_picture.specs.declared.steps.Step.{Step}
+use Rattle.call_picture.specs.declared.steps.SideStep.{SideStep}
 
 -- A group is some orders of a side, by their indices in the order list, best first.
 
@@ -20,7 +20,7 @@ limit_of_group orders group = limit_at orders (best_of_group group)
 
 -- the step of a group: the limit of the best of its orders, and their quantities and traded
 -- numbers added
-abbrev pub step_of_group : List Order → List Deal → List ℕ → Step
+abbrev pub step_of_group : List Order → List Deal → List ℕ → SideStep
 step_of_group orders deals group = record {
   best = best_of_group group;
   orders = length group;
@@ -50,7 +50,7 @@ pub record AreGroups (orders : List Order) (side : Side) (by_limit : Bool) (rank
 
 -- the steps are those of the groups into which the ranked orders are cut
 pub record AreSteps (orders : List Order) (deals : List Deal) (side : Side) (by_limit : Bool)
-    (ranks : List ℕ) (steps : List Step) : Type 0 where
+    (ranks : List ℕ) (steps : List SideStep) : Type 0 where
   pub groups : List (List ℕ)
   pub cut : AreGroups orders side by_limit ranks groups
   pub each : steps ≡ map (step_of_group orders deals) groups

@@ -1,14 +1,14 @@
 -- Which steps of a side are drawn: all, or the 400 nearest to the end of the volume.
 use Rattle.std.specs.Prelude.{◌≡◌, ◌<◌, ◌≤◌, ◌+◌, ◌-◌, ℕ, min, List, length, sum_by, take, drop}
-use Rattle.call_picture.specs.declared.steps.Step.{Step}
+use Rattle.call_picture.specs.declared.steps.SideStep.{SideStep}
 use Rattle.call_picture.specs.declared.windows.Drawn.{Drawn}
 
 -- what steps ask for or offer together
-abbrev pub quantity_of_steps : List Step → ℕ
+abbrev pub quantity_of_steps : List SideStep → ℕ
 quantity_of_steps steps = sum_by (λ step. step.quantity) steps
 
 -- the volume covers so many of the first steps whole, and not the next one
-pub record IsReach (volume : ℕ) (steps : List Step) (reach : ℕ) : Type 0 where
+pub record IsReach (volume : ℕ) (steps : List SideStep) (reach : ℕ) : Type 0 where
   pub inside : reach ≤ length steps
   pub covers : quantity_of_steps (take reach steps) ≤ volume
   pub ends : reach < length steps → volume < quantity_of_steps (take (reach + 1) steps)
@@ -19,7 +19,7 @@ abbrev pub first_drawn : ℕ → ℕ → ℕ
 first_drawn reach count = min (reach - 200) (count - 400)
 
 -- these of all steps are drawn: the 400 around the end of the volume
-pub record IsDrawn (volume : ℕ) (steps : List Step) (drawn : Drawn) : Type 0 where
+pub record IsDrawn (volume : ℕ) (steps : List SideStep) (drawn : Drawn) : Type 0 where
   pub reach : ℕ
   pub is_reach : IsReach volume steps reach
   pub better : drawn.better ≡ first_drawn reach (length steps)

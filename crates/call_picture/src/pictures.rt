@@ -71,7 +71,7 @@ pub fn call_picture(
     ensures picture { IfOk result (IsCallPicture orders.now deals.now) }
     ensures in_range { IfOk result IsPictureInRange }
 {
-    orders.in_range();
+    orders.numbers_are_in_range();
     deals_in_range(deals);
     let traded = totals_of(alloc, orders, deals)?;
     let ranks = ranked_sides(alloc, orders)?;

@@ -15,7 +15,7 @@ use std::alloc::Global;
 
 /// A step of a side: an order, or the orders of one limit.
 #[derive(Clone, Copy, Debug, PartialEq, Eq, Drop)]
-pub struct Step {
+pub struct SideStep {
     /// The index of its best order in the order list.
     pub best: usize,
     /// How many orders it has.
@@ -29,13 +29,13 @@ pub struct Step {
 }
 
 /// The step of one order.
-fn step_of_order(orders: &OrderList<'_>, traded: &[u128], index: usize) -> Step
+fn step_of_order(orders: &OrderList<'_>, traded: &[u128], index: usize) -> SideStep
     requires inside { index < length orders.now }
     requires count { length traded.now ≡ length orders.now }
     ensures { result ≡ step_of_order orders.now traded.now index }
 {
     let order = orders.at(index);
-    Step {
+    SideStep {
         best: index,
         orders: 1,
         limit: order.limit(),
@@ -45,7 +45,7 @@ fn step_of_order(orders: &OrderList<'_>, traded: &[u128], index: usize) -> Step
 }
 
 /// Adds a step after the others.
-fn push_step(steps: &mut Vec<Step>, step: Step) -> Result<(), NoMemory>
+fn push_step(steps: &mut Vec<SideStep>, step: SideStep) -> Result<(), NoMemory>
     ensures { OnOk result (steps.new.items ≡ steps.old.items ++ step ∷ []) }
 {
     steps.push(step)?;
@@ -55,11 +55,11 @@ fn push_step(steps: &mut Vec<Step>, step: Step) -> Result<(), NoMemory>
 /// The step that is made after the next order: the one so far with this order, where the two are
 /// drawn as one, or else that of the order. The one so far is then added to the finished ones.
 fn merge_step(
-    steps: &mut Vec<Step>,
+    steps: &mut Vec<SideStep>,
     by_limit: bool,
-    step: Step,
-    next: Step,
-) -> Result<Step, NoMemory>
+    step: SideStep,
+    next: SideStep,
+) -> Result<SideStep, NoMemory>
     requires orders { step.orders + next.orders < 2 ^ 64 }
     requires quantity { step.quantity + next.quantity < 2 ^ 128 }
     requires traded { step.traded + next.traded < 2 ^ 128 }
@@ -68,7 +68,7 @@ fn merge_step(
         ≡ finished_steps by_limit steps.old.items step next) }
 {
     if by_limit && step.limit == next.limit {
-        return Ok(Step {
+        return Ok(SideStep {
             orders: step.orders + next.orders,
             quantity: step.quantity + next.quantity,
             traded: step.traded + next.traded,
@@ -87,7 +87,7 @@ pub fn steps_of(
     traded: &[u128],
     ranks: &[usize],
     by_limit: bool,
-) -> Result<Vec<Step>, NoMemory>
+) -> Result<Vec<SideStep>, NoMemory>
     requires in_range { OrdersInRange orders.now }
     requires count { length traded.now ≡ length orders.now }
     requires small { AreTotalsSmall traded.now }

@@ -3,7 +3,7 @@ ghost use Rattle.std.specs.Prelude.{◌≡◌, ◌<◌, ◌^◌, IfOk, length, m
 ghost use Rattle.call_picture.specs.Windows as spec;
 ghost use Rattle.call_picture.specs.Windows.{IsReach, quantity_of_steps};
 
-use super::steps::Step;
+use super::steps::SideStep;
 use audit_base::faults::NoMemory;
 use std::alloc::Global;
 
@@ -12,7 +12,7 @@ pub const MOST_STEPS: usize = 400;
 
 /// How many of the first steps the volume covers whole: those together ask for no more than the
 /// volume, and with the next one for more.
-fn reach_of(steps: &[Step], volume: u128) -> usize
+fn reach_of(steps: &[SideStep], volume: u128) -> usize
     ensures reach { IsReach volume steps.now result }
 {
     let mut rest = volume;
@@ -37,7 +37,7 @@ fn first_drawn(reach: usize, count: usize) -> usize
 }
 
 /// What steps ask for or offer together.
-fn quantity_of_steps(steps: &[Step]) -> u128
+fn quantity_of_steps(steps: &[SideStep]) -> u128
     requires fits { quantity_of_steps steps.now < 2 ^ 128 }
     ensures { result ≡ quantity_of_steps steps.now }
 {
@@ -49,7 +49,7 @@ fn quantity_of_steps(steps: &[Step]) -> u128
 }
 
 /// The first 400 steps of these, or all.
-fn front_of(steps: &[Step]) -> &[Step]
+fn front_of(steps: &[SideStep]) -> &[SideStep]
     ensures front { result.now ≡ take 400 steps.now }
     ensures count { length result.now ≡ min 400 (length steps.now) }
 {
@@ -64,7 +64,7 @@ fn front_of(steps: &[Step]) -> &[Step]
 #[derive(Debug, Drop)]
 pub struct Drawn {
     /// In rank order, at most 400.
-    pub steps: Vec<Step>,
+    pub steps: Vec<SideStep>,
     /// What the better steps that are not drawn ask for or offer together.
     pub before: u128,
     /// How many better steps are not drawn.
@@ -75,7 +75,7 @@ pub struct Drawn {
 
 /// Of all steps of a side those that are drawn: all, or the 400 nearest to the end of the volume.
 /// Err only out of memory.
-pub fn drawn_of(alloc: Global, steps: &[Step], volume: u128) -> Result<Drawn, NoMemory>
+pub fn drawn_of(alloc: Global, steps: &[SideStep], volume: u128) -> Result<Drawn, NoMemory>
     ensures { IfOk result (spec.IsDrawn volume steps.now) }
 {
     let first = first_drawn(reach_of(steps, volume), steps.len());

@@ -15,9 +15,9 @@ use Rattle.std.specs.Prelude.{IfSome}
 use Rattle.case_run.specs.Causes.{IsHaltCause, StartsNoLog, ReadsGoodLogs, ReadsLogsFor}
 use Rattle.case_run.specs.Statuses.{ends_run}
 use Rattle.case_run.specs.Turns.{AnswersFromCasebook, AnswersCaseCommand, AsksKeeperFor, FilesVerdict, HasVerdictStatus, IsKeeperCause, IsLogHalt, ReadsFilingVerdict, ReadsForVerdict, EndsWithinOrHalts}
-use Rattle.case_run.specs.declared.answers.Answer.{Answer}
-use Rattle.case_run.specs.declared.commands.Command.{Command}
-use Rattle.case_run.specs.declared.commands.Command.TheVariants as command
+use Rattle.case_run.specs.declared.answers.CaseAnswer.{CaseAnswer}
+use Rattle.case_run.specs.declared.commands.CaseCommand.{CaseCommand}
+use Rattle.case_run.specs.declared.commands.CaseCommand.TheVariants as command
 use Rattle.case_run.specs.declared.commands.Filing.{Filing}
 use Rattle.case_run.specs.declared.halts.Halt.{Halt}
 use Rattle.case_run.specs.declared.halts.Halt.TheVariants as halt
@@ -25,7 +25,7 @@ use Rattle.case_run.specs.declared.statuses.CaseStatus.{CaseStatus}
 use Rattle.case_run.specs.declared.statuses.CaseStatus.TheVariants as status
 
 -- the logs of a command were read as a status says that ends no run
-reads_going : (r : Reading) (the_command : Command) (s : CaseStatus) → ends_run s ≡ false → ReadsGoodLogs r the_command → ReadsLogsFor r the_command s
+reads_going : (r : Reading) (the_command : CaseCommand) (s : CaseStatus) → ends_run s ≡ false → ReadsGoodLogs r the_command → ReadsLogsFor r the_command s
 reads_going r the_command status.Done goes good = good
 reads_going r the_command status.Refused goes good = good
 reads_going r the_command status.Malformed goes good = absurd (cc)
@@ -37,20 +37,20 @@ reads_going r the_command status.Memory goes good = absurd (cc)
 reads_going r the_command status.KeeperFault goes good = absurd (cc)
 
 module _ (r : Reading) (keeper_old keeper_new : KeeperState) where
-  keeper_cause : (the_command : Command) (why : Halt) → (why ≡ halt.KeeperFault → ReadsGoodLogs r the_command) → IsKeeperCause keeper_old keeper_new why → IsHaltCause r keeper_old keeper_new the_command why
+  keeper_cause : (the_command : CaseCommand) (why : Halt) → (why ≡ halt.KeeperFault → ReadsGoodLogs r the_command) → IsKeeperCause keeper_old keeper_new why → IsHaltCause r keeper_old keeper_new the_command why
   keeper_cause the_command (halt.ReadFault log) read is = absurd is
   keeper_cause the_command (halt.TooLong log) read is = absurd is
   keeper_cause the_command halt.KeeperFault read is = (read refl, is)
   keeper_cause the_command halt.Memory read is = tt
 
-  pub answers_list : StartsNoLog r → (filter : Filter) (result : Result Answer Halt) → AnswersFromCasebook (λ cases. list_turn cases filter) keeper_old keeper_new result → AnswersCaseCommand r keeper_old keeper_new (command.List filter) result
+  pub answers_list : StartsNoLog r → (filter : Filter) (result : Result CaseAnswer Halt) → AnswersFromCasebook (λ cases. list_turn cases filter) keeper_old keeper_new result → AnswersCaseCommand r keeper_old keeper_new (command.List filter) result
   answers_list alone filter (Ok answer) is = record {
     read = reads_going r (command.List filter) answer.status is.goes_on alone;
     known = λ cases tells has. record { turn = list_turn cases filter; is = refl; has = is.known cases has };
   }
   answers_list alone filter (Err why) is = record { cause = keeper_cause (command.List filter) why (λ e. alone) is.cause; stays = is.stays }
 
-  pub answers_show : StartsNoLog r → (label : List ℕ) (result : Result Answer Halt) → AnswersFromCasebook (λ cases. show_turn cases label) keeper_old keeper_new result → AnswersCaseCommand r keeper_old keeper_new (command.Show label) result
+  pub answers_show : StartsNoLog r → (label : List ℕ) (result : Result CaseAnswer Halt) → AnswersFromCasebook (λ cases. show_turn cases label) keeper_old keeper_new result → AnswersCaseCommand r keeper_old keeper_new (command.Show label) result
   answers_show alone label (Ok answer) is = record {
     read = reads_going r (command.Show label) answer.status is.goes_on alone;
     known = λ cases tells has. record { turn = show_turn cases label; is = refl; has = is.known cases has };
@@ -69,7 +69,7 @@ module _ (r : Reading) (keeper_old keeper_new : KeeperState) where
   asked_good wanted (verdict.Malformed log place) why read asks e = absurd (cc)
 
   -- a verdict that was filed
-  pub answers_file : (wanted : Filing) (v : Verdict) (result : Result Answer Halt) → ReadsFilingVerdict r wanted v → FilesVerdict keeper_old keeper_new wanted v result → AnswersCaseCommand r keeper_old keeper_new (command.File wanted) result
+  pub answers_file : (wanted : Filing) (v : Verdict) (result : Result CaseAnswer Halt) → ReadsFilingVerdict r wanted v → FilesVerdict keeper_old keeper_new wanted v result → AnswersCaseCommand r keeper_old keeper_new (command.File wanted) result
   answers_file wanted v (Ok answer) judges is = record {
     read = verdict_read wanted v answer.status is.status_is judges.read;
     known = λ cases tells has. record { turn = verdict_turn cases wanted v; is = (v, judges.on tells, refl); has = is.known cases has };

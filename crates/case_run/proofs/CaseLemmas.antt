@@ -14,7 +14,7 @@ use Rattle.case_run.specs.Runs.{AnswersWhereReady, EndsWithinOrTooLong, IsCaseRu
 use Rattle.case_run.specs.Traces.{Halted, KnownLogs, RunState}
 use Rattle.case_run.specs.Turns.{KeepsAll}
 use Rattle.case_run.specs.Writing.{WritesOrFails}
-use Rattle.case_run.specs.declared.commands.Command.{Command}
+use Rattle.case_run.specs.declared.commands.CaseCommand.{CaseCommand}
 use Rattle.case_run.specs.declared.halts.Halt.TheVariants as halt
 use Rattle.case_run.specs.declared.statuses.CaseStatus.{CaseStatus}
 use Rattle.case_run.specs.declared.statuses.CaseStatus.TheVariants as status
@@ -28,7 +28,7 @@ some_command words is = by_parts (slice_split is_then words) (length-slice_split
     no_length : (n : ℕ) → 0 ≡ n + 1 → ⊥
     no_length n e = omega arith
 
-    by_next : (c : Option Command) (rest : Option (List Command)) → with_next c rest ≡ Some [] → ⊥
+    by_next : (c : Option CaseCommand) (rest : Option (List CaseCommand)) → with_next c rest ≡ Some [] → ⊥
     by_next None rest e = cc
     by_next (Some c) None e = cc
     by_next (Some c) (Some more) e = cc
@@ -37,9 +37,9 @@ some_command words is = by_parts (slice_split is_then words) (length-slice_split
     by_parts [] long e = no_length (count_by is_then words) long
     by_parts (part ∷ parts) long e = by_next (command_of part) (all_or_none (map command_of parts)) e
 
-module _ {S : Type 0} (shelf : Shelf S) (asked : Option (List Command)) where
+module _ {S : Type 0} (shelf : Shelf S) (asked : Option (List CaseCommand)) where
   -- well-formed words
-  pub case_run : (commands : List Command) (old new : S) (sink_old sink_new : SinkState) (keeper_old keeper_new : KeeperState) (answer : CaseStatus) → asked ≡ Some commands
+  pub case_run : (commands : List CaseCommand) (old new : S) (sink_old sink_new : SinkState) (keeper_old keeper_new : KeeperState) (answer : CaseStatus) → asked ≡ Some commands
       → KeepsAll shelf old new sink_old sink_new keeper_old keeper_new → RunsCommands (known_logs shelf old) (run_state shelf old sink_old keeper_old) (run_state shelf new sink_new keeper_new) commands answer
       → EndsWithinOrTooLong (reading shelf old new) answer → IsCaseRun shelf asked old new sink_old sink_new keeper_old keeper_new answer
   case_run commands old new sink_old sink_new keeper_old keeper_new answer is keeps runs long =
@@ -48,8 +48,8 @@ module _ {S : Type 0} (shelf : Shelf S) (asked : Option (List Command)) where
       let to : RunState = run_state shelf new sink_new keeper_new in
       record {
         run = record {
-          headline = subst (λ (o : Option (List Command)). AnswersWhereReady known from to o answer) (sym is) (λ cases ready. ready_answers known from to refl commands cases answer ready runs);
-          runs = subst (λ (o : Option (List Command)). RunsAsked known from to o answer) (sym is) runs;
+          headline = subst (λ (o : Option (List CaseCommand)). AnswersWhereReady known from to o answer) (sym is) (λ cases ready. ready_answers known from to refl commands cases answer ready runs);
+          runs = subst (λ (o : Option (List CaseCommand)). RunsAsked known from to o answer) (sym is) runs;
           length = long;
           later = record { slots = keeps.later; sink = keeps.sink.later; keeper = keeps.keeper };
           sink = keeps.sink;
@@ -66,8 +66,8 @@ module _ {S : Type 0} (shelf : Shelf S) (asked : Option (List Command)) where
       let to : RunState = run_state shelf old sink_new keeper in
       record {
         run = record {
-          headline = subst (λ (o : Option (List Command)). AnswersWhereReady known from to o answer) (sym is) (λ quiet. told quiet writes);
-          runs = subst (λ (o : Option (List Command)). RunsAsked known from to o answer) (sym is) (record { writes = inl writes; slots = λ log. refl; keeper = refl });
+          headline = subst (λ (o : Option (List CaseCommand)). AnswersWhereReady known from to o answer) (sym is) (λ quiet. told quiet writes);
+          runs = subst (λ (o : Option (List CaseCommand)). RunsAsked known from to o answer) (sym is) (record { writes = inl writes; slots = λ log. refl; keeper = refl });
           length = λ begins. inl begins;
           later = record { slots = λ log. omega arith; sink = stays.later; keeper = omega arith };
           sink = stays;
@@ -99,11 +99,11 @@ module _ {S : Type 0} (shelf : Shelf S) (asked : Option (List Command)) where
       state : RunState
       state = run_state shelf old sink keeper
 
-      told : (o : Option (List Command)) → AnswersWhereReady known state state o status.Memory
+      told : (o : Option (List CaseCommand)) → AnswersWhereReady known state state o status.Memory
       told None = λ quiet. inr refl
       told (Some commands) = λ cases ready. inr refl
 
-      runs : (o : Option (List Command)) → (o ≡ Some [] → ⊥) → RunsAsked known state state o status.Memory
+      runs : (o : Option (List CaseCommand)) → (o ≡ Some [] → ⊥) → RunsAsked known state state o status.Memory
       runs None some = record { writes = inr (record { answer_is = refl; same = refl }); slots = λ log. refl; keeper = refl }
       runs (Some []) some = absurd (some refl)
       runs (Some (c ∷ commands)) some =

@@ -9,7 +9,7 @@ use Rattle.std.proofs.Math.Dec.{ltb}
 use Rattle.std.proofs.Math.Seq.{take-length}
 use Rattle.std.proofs.lemmas.List.Splits.{slice_split_first, slice_split-cons_no}
 use Rattle.case_run.specs.Commands.{all_or_none, command_of, commands_of, is_then, part_length, with_next}
-use Rattle.case_run.specs.declared.commands.Command.{Command}
+use Rattle.case_run.specs.declared.commands.CaseCommand.{CaseCommand}
 
 true_false : true ≡ false → ⊥
 true_false e = cc
@@ -49,17 +49,17 @@ last_commands words is = ap (λ parts. all_or_none (map command_of parts)) (spli
 -- The same in the words of the code.
 
 -- what was read, and what the rest asks for, is what all words ask for
-abbrev pub IsReadSoFar : {Z : Type 0} → List (String Z) → List Command → List (String Z) → Type 0
+abbrev pub IsReadSoFar : {Z : Type 0} → List (String Z) → List CaseCommand → List (String Z) → Type 0
 IsReadSoFar words read rest = commands_of (map string_bytes words) ≡ option_map (λ more. read ++ more) (commands_of (map string_bytes rest))
 
-none_next : (rest : Option (List Command)) → with_next {A = Command} None rest ≡ None
+none_next : (rest : Option (List CaseCommand)) → with_next {A = CaseCommand} None rest ≡ None
 none_next rest = refl
 
-some_next : (command : Command) (read : List Command) (rest : Option (List Command)) → option_map (λ more. read ++ more) (with_next (Some command) rest) ≡ option_map (λ more. (read ++ command ∷ []) ++ more) rest
+some_next : (command : CaseCommand) (read : List CaseCommand) (rest : Option (List CaseCommand)) → option_map (λ more. read ++ more) (with_next (Some command) rest) ≡ option_map (λ more. (read ++ command ∷ []) ++ more) rest
 some_next command read None = refl
 some_next command read (Some more) = ap Some (sym (append_assoc read (command ∷ []) more))
 
-module _ {Z : Type 0} (words : List (String Z)) (read : List Command) (rest : List (String Z)) (count : ℕ) (so_far : IsReadSoFar words read rest) (counted : count ≡ part_length (map string_bytes rest)) where
+module _ {Z : Type 0} (words : List (String Z)) (read : List CaseCommand) (rest : List (String Z)) (count : ℕ) (so_far : IsReadSoFar words read rest) (counted : count ≡ part_length (map string_bytes rest)) where
   long : length (map string_bytes rest) ≡ length rest
   long = length-map rest string_bytes
 
@@ -76,15 +76,15 @@ module _ {Z : Type 0} (words : List (String Z)) (read : List Command) (rest : Li
   last all = last_commands (map string_bytes rest) (sym counted ∙ all ∙ sym long)
 
   -- one command more
-  pub more_read : (command : Command) → count < length rest → command_of (map string_bytes (take count rest)) ≡ Some command → IsReadSoFar words (read ++ command ∷ []) (drop (count + 1) rest)
+  pub more_read : (command : CaseCommand) → count < length rest → command_of (map string_bytes (take count rest)) ≡ Some command → IsReadSoFar words (read ++ command ∷ []) (drop (count + 1) rest)
   more_read command less is =
-      so_far ∙ ap (option_map (λ more. read ++ more)) (front less ∙ ap (λ (c : Option Command). with_next c (commands_of (map string_bytes (drop (count + 1) rest)))) is)
+      so_far ∙ ap (option_map (λ more. read ++ more)) (front less ∙ ap (λ (c : Option CaseCommand). with_next c (commands_of (map string_bytes (drop (count + 1) rest)))) is)
       ∙ some_next command read (commands_of (map string_bytes (drop (count + 1) rest)))
 
   -- the last command
-  pub all_read : (command : Command) → count ≡ length rest → command_of (map string_bytes rest) ≡ Some command → commands_of (map string_bytes words) ≡ Some (read ++ command ∷ [])
+  pub all_read : (command : CaseCommand) → count ≡ length rest → command_of (map string_bytes rest) ≡ Some command → commands_of (map string_bytes words) ≡ Some (read ++ command ∷ [])
   all_read command all is =
-      so_far ∙ ap (option_map (λ more. read ++ more)) (last all ∙ ap (λ (c : Option Command). with_next c (Some [])) is)
+      so_far ∙ ap (option_map (λ more. read ++ more)) (last all ∙ ap (λ (c : Option CaseCommand). with_next c (Some [])) is)
 
   -- words that are no command
   pub none_read : count ≤ length rest → command_of (map string_bytes (take count rest)) ≡ None → commands_of (map string_bytes words) ≡ None
@@ -92,14 +92,14 @@ module _ {Z : Type 0} (words : List (String Z)) (read : List Command) (rest : Li
     where
       by_count : (b : Bool) → ltb count (length rest) ≡ b → commands_of (map string_bytes words) ≡ None
       by_count true less =
-          so_far ∙ ap (option_map (λ more. read ++ more)) (front (ltb-true count (length rest) less) ∙ ap (λ (c : Option Command). with_next c (commands_of (map string_bytes (drop (count + 1) rest)))) is)
+          so_far ∙ ap (option_map (λ more. read ++ more)) (front (ltb-true count (length rest) less) ∙ ap (λ (c : Option CaseCommand). with_next c (commands_of (map string_bytes (drop (count + 1) rest)))) is)
       by_count false not_less =
           let all : count ≡ length rest = omega (arith, within, ltb-false count (length rest) not_less) in
           let whole : take count rest ≡ rest = ap (λ n. take n rest) all ∙ take-length rest in
-          so_far ∙ ap (option_map (λ more. read ++ more)) (last all ∙ ap (λ (c : Option Command). with_next c (Some [])) (ap (λ ws. command_of (map string_bytes ws)) (sym whole) ∙ is))
+          so_far ∙ ap (option_map (λ more. read ++ more)) (last all ∙ ap (λ (c : Option CaseCommand). with_next c (Some [])) (ap (λ ws. command_of (map string_bytes ws)) (sym whole) ∙ is))
 
   -- the same of what was read with it
-  pub whole_read : (now : List Command) (command : Command) → count ≡ length rest → command_of (map string_bytes (take count rest)) ≡ Some command → now ≡ read ++ command ∷ []
+  pub whole_read : (now : List CaseCommand) (command : CaseCommand) → count ≡ length rest → command_of (map string_bytes (take count rest)) ≡ Some command → now ≡ read ++ command ∷ []
       → commands_of (map string_bytes words) ≡ Some now
   whole_read now command all is added =
       let whole : take count rest ≡ rest = ap (λ n. take n rest) all ∙ take-length rest in

@@ -13,8 +13,8 @@ use Rattle.log_verdict.specs.LogVerdicts.{records_of_order_log, trades_of_trade_
 use Rattle.case_keeper.specs.declared.case.Case.{Case}
 use Rattle.case_run.specs.Laws.{OnePlay}
 use Rattle.case_run.specs.Play.{AreTurns, IsTurn, IsVerdictOfFiling, PlayTurn, play_result, verdict_turn}
-use Rattle.case_run.specs.declared.commands.Command.{Command}
-use Rattle.case_run.specs.declared.commands.Command.TheVariants as command
+use Rattle.case_run.specs.declared.commands.CaseCommand.{CaseCommand}
+use Rattle.case_run.specs.declared.commands.CaseCommand.TheVariants as command
 use Rattle.case_run.specs.declared.commands.Filing.{Filing}
 use Rattle.case_run.specs.declared.statuses.CaseStatus.TheVariants as status
 
@@ -50,23 +50,23 @@ module _ (one_verdict : OneVerdict) (logs : Which → List ℕ → Option (List 
         (y.has_trades (subst (λ (o : List ℕ). IsOk (records_of_order_log wanted.form o)) (sym same_orders) ok)) (x.has_trades ok) in
         one_verdict _ _ _ a b x.is (by_other_trades x.orders x.trades y.trades b has_trades there)
 
-  one_turn : (cases : List Case) (c : Command) (a b : PlayTurn) → IsTurn logs cases c a → IsTurn logs cases c b → a ≡ b
+  one_turn : (cases : List Case) (c : CaseCommand) (a b : PlayTurn) → IsTurn logs cases c a → IsTurn logs cases c b → a ≡ b
   one_turn cases (command.File wanted) a b x y =
       x.2 ∙ ap (λ (v : Verdict). verdict_turn cases wanted v) (one_verdict_on wanted x.0 y.0 x.1 y.1) ∙ sym y.2
   one_turn cases (command.List filter) a b x y = x ∙ sym y
   one_turn cases (command.Show label) a b x y = x ∙ sym y
 
   -- what comes after a turn of Play
-  abbrev Behind : PlayTurn → List Command → List PlayTurn → Type 0
+  abbrev Behind : PlayTurn → List CaseCommand → List PlayTurn → Type 0
   Behind turn commands turns = ((turn.status ≡ status.Malformed) × (turns ≡ [])) ⊎ ((turn.status ≡ status.Malformed → ⊥) × AreTurns logs turn.cases commands turns)
 
-  one_behind : (turn : PlayTurn) (commands : List Command) (a b : List PlayTurn) → (AreTurns logs turn.cases commands a → AreTurns logs turn.cases commands b → a ≡ b) → Behind turn commands a → Behind turn commands b → a ≡ b
+  one_behind : (turn : PlayTurn) (commands : List CaseCommand) (a b : List PlayTurn) → (AreTurns logs turn.cases commands a → AreTurns logs turn.cases commands b → a ≡ b) → Behind turn commands a → Behind turn commands b → a ≡ b
   one_behind turn commands a b one (inl p) (inl q) = p.1 ∙ sym q.1
   one_behind turn commands a b one (inl p) (inr q) = absurd (q.0 p.0)
   one_behind turn commands a b one (inr p) (inl q) = absurd (p.0 q.0)
   one_behind turn commands a b one (inr p) (inr q) = one p.1 q.1
 
-  one_list : (cases : List Case) (commands : List Command) (a b : List PlayTurn) → AreTurns logs cases commands a → AreTurns logs cases commands b → a ≡ b
+  one_list : (cases : List Case) (commands : List CaseCommand) (a b : List PlayTurn) → AreTurns logs cases commands a → AreTurns logs cases commands b → a ≡ b
   one_list cases [] a b x y = x ∙ sym y
   one_list cases (c ∷ commands) [] b x y = absurd x
   one_list cases (c ∷ commands) (turn ∷ a) [] x y = absurd y

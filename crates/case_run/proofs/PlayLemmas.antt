@@ -18,8 +18,8 @@ use Rattle.case_run.specs.Play.{AreTurns, IsTurn, IsVerdictOfFiling, PlayTurn, c
 use Rattle.case_run.specs.Runs.{HasFilingLogs, HasLogWithin, HasPlayLogs, WhereGood}
 use Rattle.case_run.specs.Statuses.{ends_run}
 use Rattle.case_run.specs.Traces.{AreDone, KnownLogs, RunState, RunTurn, KnowsLogsAndCases, state_after, status_after, turn_commands, turn_texts}
-use Rattle.case_run.specs.declared.commands.Command.{Command}
-use Rattle.case_run.specs.declared.commands.Command.TheVariants as command
+use Rattle.case_run.specs.declared.commands.CaseCommand.{CaseCommand}
+use Rattle.case_run.specs.declared.commands.CaseCommand.TheVariants as command
 use Rattle.case_run.specs.declared.commands.Filing.{Filing}
 use Rattle.case_run.specs.declared.statuses.CaseStatus.{CaseStatus}
 use Rattle.case_run.specs.declared.statuses.CaseStatus.TheVariants as status
@@ -32,7 +32,7 @@ not_malformed s goes is = no_bool (sym goes ∙ ap ends_run is)
     no_bool e = cc
 
 -- The turns of commands leave this.
-pub record PlaysTo (logs : Which → List ℕ → Option (List ℕ)) (before : CaseStatus) (cases : List Case) (commands : List Command) (text : List ℕ) (answer : CaseStatus) (kept : Option (List Case)) : Type 0 where
+pub record PlaysTo (logs : Which → List ℕ → Option (List ℕ)) (before : CaseStatus) (cases : List Case) (commands : List CaseCommand) (text : List ℕ) (answer : CaseStatus) (kept : Option (List Case)) : Type 0 where
   pub turns : List PlayTurn
   pub are : AreTurns logs cases commands turns
   pub text_is : flat_map (λ (t : PlayTurn). t.text) turns ≡ text
@@ -42,7 +42,7 @@ pub record PlaysTo (logs : Which → List ℕ → Option (List ℕ)) (before : C
 module _ (known : KnownLogs) where
   -- the turns of a run are Play's, and Play goes on after them
   pub plays_on : (from : RunState) (turns : List RunTurn) (before : CaseStatus) (cases : List Case) → AreDone known from turns → KnowsLogsAndCases known from cases
-      → (rest : List Command) (text : List ℕ) (answer : CaseStatus) (kept : Option (List Case))
+      → (rest : List CaseCommand) (text : List ℕ) (answer : CaseStatus) (kept : Option (List Case))
       → ((there : List Case) → KnowsLogsAndCases known (state_after from turns) there → PlaysTo known.log_of (status_after before turns) there rest text answer kept)
       → PlaysTo known.log_of before cases (turn_commands turns ++ rest) (turn_texts turns ++ text) answer kept
   plays_on from [] before cases done knows rest text answer kept next = next cases knows
@@ -88,14 +88,14 @@ module _ (logs : Which → List ℕ → Option (List ℕ)) where
   sound_verdict : (cases : List Case) (wanted : Filing) (v : Verdict) → ((verdict_turn cases wanted v).status ≡ status.Malformed → ⊥) → (log : Which) (bad : BadPlace) → v ≡ verdict.Malformed log bad → ⊥
   sound_verdict cases wanted v unended log bad is = unended (ap (λ (x : Verdict). (verdict_turn cases wanted x).status) is)
 
-  held_after_turn : (cases : List Case) (c : Command) (turn : PlayTurn) (rest : List Command) → IsTurn logs cases c turn → (turn.status ≡ status.Malformed → ⊥) → HasPlayLogs logs (c ∷ rest) → HasPlayLogs logs rest
+  held_after_turn : (cases : List Case) (c : CaseCommand) (turn : PlayTurn) (rest : List CaseCommand) → IsTurn logs cases c turn → (turn.status ≡ status.Malformed → ⊥) → HasPlayLogs logs (c ∷ rest) → HasPlayLogs logs rest
   held_after_turn cases (command.File wanted) turn rest is unended held =
       held_next wanted (HasPlayLogs logs rest) is.0 is.1 (sound_verdict cases wanted is.0 (λ e. unended (ap (λ (t : PlayTurn). t.status) is.2 ∙ e))) held
   held_after_turn cases (command.List filter) turn rest is unended held = held
   held_after_turn cases (command.Show label) turn rest is unended held = held
 
 -- the shelf has the logs that the commands after some turns need
-pub held_after : (known : KnownLogs) (from : RunState) (turns : List RunTurn) (cases : List Case) (rest : List Command) → AreDone known from turns → KnowsLogsAndCases known from cases
+pub held_after : (known : KnownLogs) (from : RunState) (turns : List RunTurn) (cases : List Case) (rest : List CaseCommand) → AreDone known from turns → KnowsLogsAndCases known from cases
     → HasPlayLogs known.log_of (turn_commands turns ++ rest) → HasPlayLogs known.log_of rest
 held_after known from [] cases rest done knows held = held
 held_after known from (turn ∷ turns) cases rest done knows held =

@@ -15,8 +15,8 @@ use Rattle.case_run.specs.Causes.{IsFilingLogInTurn, IsHaltCause, OfFilingLog, f
 use Rattle.case_run.specs.Runs.{AnswersPlay, HasFilingLogs, HasLogWithin, HasPlayLogs, IsPlayStatus, IsReadyToPlay, RunsCommands, WhereGood}
 use Rattle.case_run.specs.Statuses.{ends_run}
 use Rattle.case_run.specs.Traces.{AllDone, AreDone, BadLog, EndCause, EndedBy, Ending, IsLastTurn, Halted, IsRunEnding, KnownLogs, RunState, RunTurn, WriteFailed, end_status, ending_state, ending_status, reading_between, state_after, status_after, turn_commands}
-use Rattle.case_run.specs.declared.commands.Command.{Command}
-use Rattle.case_run.specs.declared.commands.Command.TheVariants as command
+use Rattle.case_run.specs.declared.commands.CaseCommand.{CaseCommand}
+use Rattle.case_run.specs.declared.commands.CaseCommand.TheVariants as command
 use Rattle.case_run.specs.declared.commands.Filing.{Filing}
 use Rattle.case_run.specs.declared.halts.Halt.{Halt}
 use Rattle.case_run.specs.declared.halts.Halt.TheVariants as halt
@@ -73,7 +73,7 @@ pub record IsQuiet (r : Reading) : Type 0 where
   pub quiet : (log : Which) → ¬ RoseOrIsFull (r.before log).faults (r.after log).faults
 
 -- where all is there no cause but out of memory holds
-no_cause : (r : Reading) (old new : KeeperState) → IsQuiet r → ¬ RoseOrIsFull old.faults new.faults → (last : Command) (rest : List Command) (why : Halt)
+no_cause : (r : Reading) (old new : KeeperState) → IsQuiet r → ¬ RoseOrIsFull old.faults new.faults → (last : CaseCommand) (rest : List CaseCommand) (why : Halt)
     → HasPlayLogs r.log_of (last ∷ rest) → IsHaltCause r old new last why → why ≡ halt.Memory
 no_cause r old new is still (command.File wanted) rest (halt.ReadFault log) held cause =
     absurd (no_fault r is.few is.tells is.quiet wanted (HasPlayLogs r.log_of rest) held log cause)
@@ -106,7 +106,7 @@ play_status status.Memory goes = absurd (cc)
 play_status status.KeeperFault goes = absurd (cc)
 
 -- where all is there a run ends as Play does, or since memory ran out
-module _ (known : KnownLogs) (few : known.limit ≡ longest_log) (from : RunState) (commands : List Command) (cases : List Case) (turns : List RunTurn) where
+module _ (known : KnownLogs) (few : known.limit ≡ longest_log) (from : RunState) (commands : List CaseCommand) (cases : List Case) (turns : List RunTurn) where
   -- from where the turns left off no fault was counted
   module _ (to : RunState) (ready : IsReadyToPlay known from to commands cases) (done : AreDone known from turns) where
     quiet_end : IsQuiet (reading_between known (state_after from turns) to)
@@ -122,23 +122,23 @@ module _ (known : KnownLogs) (few : known.limit ≡ longest_log) (from : RunStat
     still_sink : ¬ RoseOrIsFull (state_after from turns).sink.faults to.sink.faults
     still_sink rose = ready.no_fault.sink (rose_earlier _ _ _ (later_turns known from turns done).sink rose)
 
-  play_or_memory : (turn : RunTurn) (rest : List Command) → commands ≡ turn_commands turns ++ turn.command ∷ rest → IsReadyToPlay known from turn.left commands cases → AreDone known from turns
+  play_or_memory : (turn : RunTurn) (rest : List CaseCommand) → commands ≡ turn_commands turns ++ turn.command ∷ rest → IsReadyToPlay known from turn.left commands cases → AreDone known from turns
       → (why : EndCause) → IsLastTurn known (state_after from turns) turn why → IsPlayStatus (end_status why) ⊎ (end_status why ≡ status.Memory)
   play_or_memory turn rest are ready done BadLog ends = inl (inr (inr refl))
   play_or_memory turn rest are ready done (Halted why) ends =
       inr (ap halt_status (no_cause (reading_between known (state_after from turns) turn.left) (state_after from turns).keeper turn.left.keeper
       (quiet_end turn.left ready done) (still_keeper turn.left ready done) turn.command rest why
-      (held_after known from turns cases (turn.command ∷ rest) done ready.knows (subst (λ (cs : List Command). HasPlayLogs known.log_of cs) are ready.has_logs)) ends.halted.cause))
+      (held_after known from turns cases (turn.command ∷ rest) done ready.knows (subst (λ (cs : List CaseCommand). HasPlayLogs known.log_of cs) are ready.has_logs)) ends.halted.cause))
   play_or_memory turn rest are ready done WriteFailed ends = absurd (still_sink turn.left ready done ends.cut.cause.rose)
 
-  ends_of_play : (ending : Ending) (to : RunState) (undone : List Command) → commands ≡ turn_commands turns ++ undone → AreDone known from turns → IsRunEnding known (state_after from turns) undone ending
+  ends_of_play : (ending : Ending) (to : RunState) (undone : List CaseCommand) → commands ≡ turn_commands turns ++ undone → AreDone known from turns → IsRunEnding known (state_after from turns) undone ending
       → to ≡ ending_state (state_after from turns) ending → IsReadyToPlay known from to commands cases
       → IsPlayStatus (ending_status (status_after status.Done turns) ending) ⊎ (ending_status (status_after status.Done turns) ending ≡ status.Memory)
   ends_of_play AllDone to undone are done ends at ready = inl (play_status (status_after status.Done turns) (going_status known from status.Done turns refl done))
   ends_of_play (EndedBy turn why) to undone are done ends at ready =
-      play_or_memory turn ends.0.0 (are ∙ ap (λ (cs : List Command). turn_commands turns ++ cs) ends.0.1) (subst (λ (s : RunState). IsReadyToPlay known from s commands cases) at ready) done why ends.1
+      play_or_memory turn ends.0.0 (are ∙ ap (λ (cs : List CaseCommand). turn_commands turns ++ cs) ends.0.1) (subst (λ (s : RunState). IsReadyToPlay known from s commands cases) at ready) done why ends.1
 
-pub ready_answers : (known : KnownLogs) (from to : RunState) → known.limit ≡ longest_log → (commands : List Command) (cases : List Case) (answer : CaseStatus) → IsReadyToPlay known from to commands cases
+pub ready_answers : (known : KnownLogs) (from to : RunState) → known.limit ≡ longest_log → (commands : List CaseCommand) (cases : List Case) (answer : CaseStatus) → IsReadyToPlay known from to commands cases
     → RunsCommands known from to commands answer → AnswersPlay known from to commands answer cases ⊎ (answer ≡ status.Memory)
 ready_answers known from to few commands cases answer ready runs =
     ⊎_elim

@@ -21,8 +21,8 @@ use Rattle.case_run.specs.Runs.{AnswersPlay, EndsWithinOrTooLong, FilesTrace, Is
 use Rattle.case_run.specs.Statuses.{ends_run}
 use Rattle.case_run.specs.Traces.{AllDone, AreDone, BadLog, EndCause, EndedBy, Ending, EndsMalformed, FilesCases, Halted, IsDoneFrom, IsLastTurn, IsLater, KnownLogs, KnowsLogsAndCases, RunState, RunTurn, WriteFailed, WritesTexts, end_status, state_after, status_after, turn_commands, turn_texts}
 use Rattle.case_run.specs.Turns.{IsGoing, KeepsAll, TakesTurn}
-use Rattle.case_run.specs.declared.commands.Command.{Command}
-use Rattle.case_run.specs.declared.commands.Command.TheVariants as command
+use Rattle.case_run.specs.declared.commands.CaseCommand.{CaseCommand}
+use Rattle.case_run.specs.declared.commands.CaseCommand.TheVariants as command
 use Rattle.case_run.specs.declared.halts.Halt.{Halt}
 use Rattle.case_run.specs.declared.halts.Halt.TheVariants as halt
 use Rattle.case_run.specs.declared.statuses.CaseStatus.{CaseStatus}
@@ -42,7 +42,7 @@ status_more before (first ∷ turns) turn = status_more first.status turns turn
 
 commands_more : (turns : List RunTurn) (turn : RunTurn) → turn_commands (turns ++ turn ∷ []) ≡ turn_commands turns ++ turn.command ∷ []
 commands_more [] turn = refl
-commands_more (first ∷ turns) turn = ap (λ (cs : List Command). first.command ∷ cs) (commands_more turns turn)
+commands_more (first ∷ turns) turn = ap (λ (cs : List CaseCommand). first.command ∷ cs) (commands_more turns turn)
 
 done_more : (known : KnownLogs) (from : RunState) (turns : List RunTurn) (turn : RunTurn) → AreDone known from turns → IsDoneFrom known (state_after from turns) turn → AreDone known from (turns ++ turn ∷ [])
 done_more known from [] turn done is = (is, tt)
@@ -84,7 +84,7 @@ prefix_behind a b c texts text first part = record {
 -- Play of a run over a shelf and a casebook of which it is known what they hold.
 
 -- what Play leaves is what the run answers, writes and files
-plays : (known : KnownLogs) (from to : RunState) (commands : List Command) (answer : CaseStatus) (cases : List Case) (text : List ℕ) → Appends from.sink.wrote to.sink.wrote text
+plays : (known : KnownLogs) (from to : RunState) (commands : List CaseCommand) (answer : CaseStatus) (cases : List Case) (text : List ℕ) → Appends from.sink.wrote to.sink.wrote text
     → PlaysTo known.log_of status.Done cases commands text answer to.keeper.cases → AnswersPlay known from to commands answer cases
 plays known from to commands answer cases text wrote is = record {
   played = play_result cases is.turns;
@@ -98,7 +98,7 @@ plays known from to commands answer cases text wrote is = record {
 nothing_more : (known : KnownLogs) (from : RunState) (turns : List RunTurn) (cases : List Case) → AreDone known from turns → KnowsLogsAndCases known from cases
     → PlaysTo known.log_of status.Done cases (turn_commands turns) (turn_texts turns) (status_after status.Done turns) (state_after from turns).keeper.cases
 nothing_more known from turns cases done knows =
-    subst (λ (cs : List Command). PlaysTo known.log_of status.Done cases cs (turn_texts turns) (status_after status.Done turns) (state_after from turns).keeper.cases) (append-nil (turn_commands turns))
+    subst (λ (cs : List CaseCommand). PlaysTo known.log_of status.Done cases cs (turn_texts turns) (status_after status.Done turns) (state_after from turns).keeper.cases) (append-nil (turn_commands turns))
     (subst (λ (t : List ℕ). PlaysTo known.log_of status.Done cases (turn_commands turns ++ []) t (status_after status.Done turns) (state_after from turns).keeper.cases) (append-nil (turn_texts turns))
     (plays_on known from turns status.Done cases done knows [] [] (status_after status.Done turns) (state_after from turns).keeper.cases
     (λ there knows_there. record { turns = []; are = refl; text_is = refl; status_is = refl; cases_are = knows_there.cases_are })))
@@ -123,7 +123,7 @@ turns_play known from turns cases done knows =
     plays known from (state_after from turns) (turn_commands turns) (status_after status.Done turns) cases (turn_texts turns) (texts_written known from turns done) (nothing_more known from turns cases done knows)
 
 -- a log that is not in its grammar ends Play, whatever commands come after
-bad_plays : (known : KnownLogs) (from : RunState) (turns : List RunTurn) (turn : RunTurn) (rest : List Command) (cases : List Case) → AreDone known from turns → EndsMalformed known (state_after from turns) turn
+bad_plays : (known : KnownLogs) (from : RunState) (turns : List RunTurn) (turn : RunTurn) (rest : List CaseCommand) (cases : List Case) → AreDone known from turns → EndsMalformed known (state_after from turns) turn
     → KnowsLogsAndCases known from cases → AnswersPlay known from turn.left (turn_commands turns ++ turn.command ∷ rest) status.Malformed cases
 bad_plays known from turns turn rest cases done ends knows =
     plays known from turn.left (turn_commands turns ++ turn.command ∷ rest) status.Malformed cases (turn_texts turns ++ turn.text)
@@ -140,7 +140,7 @@ bad_plays known from turns turn rest cases done ends knows =
     }))
 
 -- a turn of a log that is not in its grammar leaves the cases as they are
-malformed_stays : (logs : Which → List ℕ → Option (List ℕ)) (cases : List Case) (c : Command) (turn : PlayTurn) → IsTurn logs cases c turn → turn.status ≡ status.Malformed → turn.cases ≡ cases
+malformed_stays : (logs : Which → List ℕ → Option (List ℕ)) (cases : List Case) (c : CaseCommand) (turn : PlayTurn) → IsTurn logs cases c turn → turn.status ≡ status.Malformed → turn.cases ≡ cases
 malformed_stays logs cases (command.File wanted) turn is bad = ap (λ (t : PlayTurn). t.cases) is.2 ∙ by_verdict is.0 (sym (ap (λ (t : PlayTurn). t.status) is.2) ∙ bad)
   where
     by_filed : (filed : Filed) → filed_status filed ≡ status.Malformed → ⊥
@@ -169,7 +169,7 @@ runs_done known from turns done = record {
 }
 
 -- one of them ended it
-module _ (known : KnownLogs) (from : RunState) (turns : List RunTurn) (done : AreDone known from turns) (turn : RunTurn) (rest : List Command) where
+module _ (known : KnownLogs) (from : RunState) (turns : List RunTurn) (done : AreDone known from turns) (turn : RunTurn) (rest : List CaseCommand) where
   ending_wrote : (why : EndCause) → IsLastTurn known (state_after from turns) turn why → WritesTexts from.sink.wrote turn.left.sink.wrote (turn_texts turns) (EndedBy turn why)
   ending_wrote BadLog ends =
       Appends-trans from.sink.wrote (state_after from turns).sink.wrote turn.left.sink.wrote (turn_texts turns) turn.text (texts_written known from turns done) ends.written
@@ -223,7 +223,7 @@ halt_ends halt.KeeperFault = refl
 halt_ends halt.Memory = refl
 
 -- an answer that ends the run is that a log is not in its grammar
-malformed_of : (r : Reading) (c : Command) (s : CaseStatus) → ReadsLogsFor r c s → ends_run s ≡ true → s ≡ status.Malformed
+malformed_of : (r : Reading) (c : CaseCommand) (s : CaseStatus) → ReadsLogsFor r c s → ends_run s ≡ true → s ≡ status.Malformed
 malformed_of r c status.Done read ends = absurd (cc)
 malformed_of r c status.Refused read ends = absurd (cc)
 malformed_of r c status.Malformed read ends = refl
@@ -235,7 +235,7 @@ malformed_of r c status.Memory read ends = absurd read
 malformed_of r c status.KeeperFault read ends = absurd read
 
 -- The turn of a command that was done.
-pub record HasDone (known : KnownLogs) (from to : RunState) (the_command : Command) (answer : CaseStatus) : Type 0 where
+pub record HasDone (known : KnownLogs) (from to : RunState) (the_command : CaseCommand) (answer : CaseStatus) : Type 0 where
   pub turn : RunTurn
   pub command_is : turn.command ≡ the_command
   pub left_is : turn.left ≡ to
@@ -243,7 +243,7 @@ pub record HasDone (known : KnownLogs) (from to : RunState) (the_command : Comma
   pub done : IsDoneFrom known from turn
 
 -- The turn of a command that ended the run.
-pub record HasEnded (known : KnownLogs) (from to : RunState) (the_command : Command) (answer : CaseStatus) : Type 0 where
+pub record HasEnded (known : KnownLogs) (from to : RunState) (the_command : CaseCommand) (answer : CaseStatus) : Type 0 where
   pub turn : RunTurn
   pub why : EndCause
   pub command_is : turn.command ≡ the_command
@@ -251,7 +251,7 @@ pub record HasEnded (known : KnownLogs) (from to : RunState) (the_command : Comm
   pub status_is : end_status why ≡ answer
   pub ends : IsLastTurn known from turn why
 
-module _ (known : KnownLogs) (from to : RunState) (c : Command) (answer : CaseStatus) (takes : TakesTurn known from to c answer) where
+module _ (known : KnownLogs) (from to : RunState) (c : CaseCommand) (answer : CaseStatus) (takes : TakesTurn known from to c answer) where
   pub has_done : IsLater from to → ends_run answer ≡ false → HasDone known from to c answer
   has_done later goes = ⊎_elim
       (λ whole.
@@ -317,14 +317,14 @@ known_stays shelf a b tells logs =
     ap (λ (t : Bool). record (known_logs shelf b) { tells = t }) tells
     ∙ ap (λ (l : Which → List ℕ → Option (List ℕ)). record (known_logs shelf a) { log_of = l }) (fun_ext (λ log. fun_ext (λ name. logs log name)))
 
-module _ {S : Type 0} (shelf : Shelf S) (commands : List Command) (i : ℕ) (c : Command) (less : i < length commands) (there : c ≡ get_or commands i c) (a b d : S) (sink_a sink_b sink_d : SinkState) (keeper_a keeper_b keeper_d : KeeperState)
+module _ {S : Type 0} (shelf : Shelf S) (commands : List CaseCommand) (i : ℕ) (c : CaseCommand) (less : i < length commands) (there : c ≡ get_or commands i c) (a b d : S) (sink_a sink_b sink_d : SinkState) (keeper_a keeper_b keeper_d : KeeperState)
     (so_far answer : CaseStatus) (going : IsGoing shelf (take i commands) a b sink_a sink_b keeper_a keeper_b so_far) (keeps : KeepsAll shelf b d sink_b sink_d keeper_b keeper_d)
     (turn : TakesTurn (known_logs shelf b) (run_state shelf b sink_b keeper_b) (run_state shelf d sink_d keeper_d) c answer) where
   cut_here_in : commands ≡ take i commands ++ c ∷ drop (suc i) commands
-  cut_here_in = sym (take-append-drop i commands) ∙ ap (λ (r : List Command). take i commands ++ r) (drop-cons commands i c less ∙ ap (λ (x : Command). x ∷ drop (suc i) commands) (sym there))
+  cut_here_in = sym (take-append-drop i commands) ∙ ap (λ (r : List CaseCommand). take i commands ++ r) (drop-cons commands i c less ∙ ap (λ (x : CaseCommand). x ∷ drop (suc i) commands) (sym there))
 
   one_more_in : take (i + 1) commands ≡ take i commands ++ c ∷ []
-  one_more_in = take_more commands i c less ∙ ap (λ (x : Command). take i commands ++ x ∷ []) (sym there)
+  one_more_in = take_more commands i c less ∙ ap (λ (x : CaseCommand). take i commands ++ x ∷ []) (sym there)
 
   abbrev known : KnownLogs
   known = known_logs shelf a
@@ -350,8 +350,8 @@ module _ {S : Type 0} (shelf : Shelf S) (commands : List Command) (i : ℕ) (c :
   pub ends_in : ends_run answer ≡ true → RunsCommands known start end commands answer
   ends_in ends =
       let last = has_ended known (state_after start going.turns) end c answer turn_in ends in
-      subst (λ (cs : List Command). RunsCommands known start end cs answer)
-      (ap (λ (cs : List Command). cs ++ last.turn.command ∷ drop (suc i) commands) going.commands_are ∙ ap (λ (x : Command). take i commands ++ x ∷ drop (suc i) commands) last.command_is ∙ sym cut_here_in)
+      subst (λ (cs : List CaseCommand). RunsCommands known start end cs answer)
+      (ap (λ (cs : List CaseCommand). cs ++ last.turn.command ∷ drop (suc i) commands) going.commands_are ∙ ap (λ (x : CaseCommand). take i commands ++ x ∷ drop (suc i) commands) last.command_is ∙ sym cut_here_in)
       (subst (λ (s : CaseStatus). RunsCommands known start end (turn_commands going.turns ++ last.turn.command ∷ drop (suc i) commands) s) last.status_is
       (subst (λ (s : RunState). RunsCommands known start s (turn_commands going.turns ++ last.turn.command ∷ drop (suc i) commands) (end_status last.why)) last.left_is
       (runs_ended known start going.turns going.done last.turn (drop (suc i) commands) last.why last.ends)))
@@ -363,8 +363,8 @@ module _ {S : Type 0} (shelf : Shelf S) (commands : List Command) (i : ℕ) (c :
       record {
         turns = going.turns ++ next.turn ∷ [];
         done = done_more known start going.turns next.turn going.done next.done;
-        commands_are = commands_more going.turns next.turn ∙ ap (λ (cs : List Command). cs ++ next.turn.command ∷ []) going.commands_are
-            ∙ ap (λ (x : Command). take i commands ++ x ∷ []) next.command_is ∙ sym one_more_in;
+        commands_are = commands_more going.turns next.turn ∙ ap (λ (cs : List CaseCommand). cs ++ next.turn.command ∷ []) going.commands_are
+            ∙ ap (λ (x : CaseCommand). take i commands ++ x ∷ []) next.command_is ∙ sym one_more_in;
         now_is = state_more start going.turns next.turn ∙ next.left_is;
         status_is = status_more status.Done going.turns next.turn ∙ next.status_is;
         within = λ begins. length_goes (reading shelf b d) answer goes long (going.within begins);
@@ -376,12 +376,12 @@ module _ {S : Type 0} (shelf : Shelf S) (commands : List Command) (i : ℕ) (c :
   length_in long begins = long (going.within begins)
 
 -- all commands were done
-pub all_in : {S : Type 0} (shelf : Shelf S) (done commands : List Command) (a b : S) (sink_a sink_b : SinkState) (keeper_a keeper_b : KeeperState) (answer : CaseStatus) → done ≡ commands → IsGoing shelf done a b sink_a sink_b keeper_a keeper_b answer
+pub all_in : {S : Type 0} (shelf : Shelf S) (done commands : List CaseCommand) (a b : S) (sink_a sink_b : SinkState) (keeper_a keeper_b : KeeperState) (answer : CaseStatus) → done ≡ commands → IsGoing shelf done a b sink_a sink_b keeper_a keeper_b answer
     → RunsCommands (known_logs shelf a) (run_state shelf a sink_a keeper_a) (run_state shelf b sink_b keeper_b) commands answer
 all_in shelf done commands a b sink_a sink_b keeper_a keeper_b answer all going =
     let known : KnownLogs = known_logs shelf a in
     let start : RunState = run_state shelf a sink_a keeper_a in
-    subst (λ (cs : List Command). RunsCommands known start (run_state shelf b sink_b keeper_b) cs answer) (going.commands_are ∙ all)
+    subst (λ (cs : List CaseCommand). RunsCommands known start (run_state shelf b sink_b keeper_b) cs answer) (going.commands_are ∙ all)
     (subst (λ (s : CaseStatus). RunsCommands known start (run_state shelf b sink_b keeper_b) (turn_commands going.turns) s) going.status_is
     (subst (λ (s : RunState). RunsCommands known start s (turn_commands going.turns) (status_after status.Done going.turns)) going.now_is
     (runs_done known start going.turns going.done)))

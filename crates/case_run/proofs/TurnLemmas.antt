@@ -9,19 +9,19 @@ use Rattle.case_run.specs.Runs.{EndsWithinOrTooLong}
 use Rattle.case_run.specs.Traces.{KnownLogs, RunState, RunTurn, reading_between}
 use Rattle.case_run.specs.Turns.{EndsWithinOrHalts, IsAnswerToCommand, IsHaltOf, TakesTurn}
 use Rattle.case_run.specs.Writing.{WritesHaltLine, WritesOrFails}
-use Rattle.case_run.specs.declared.answers.Answer.{Answer}
-use Rattle.case_run.specs.declared.commands.Command.{Command}
+use Rattle.case_run.specs.declared.answers.CaseAnswer.{CaseAnswer}
+use Rattle.case_run.specs.declared.commands.CaseCommand.{CaseCommand}
 use Rattle.case_run.specs.declared.halts.Halt.{Halt}
 use Rattle.case_run.specs.declared.halts.Halt.TheVariants as halt
 use Rattle.case_run.specs.declared.statuses.CaseStatus.{CaseStatus}
 
-module _ (known : KnownLogs) (from to : RunState) (c : Command) where
+module _ (known : KnownLogs) (from to : RunState) (c : CaseCommand) where
   -- the turn of an answer
-  abbrev answered_turn : Answer → RunTurn
+  abbrev answered_turn : CaseAnswer → RunTurn
   answered_turn answer = record { command = c; status = answer.status; text = answer.text.items; left = to }
 
   -- an answer that was written, whole or in part
-  pub turn_of_answer : (answer : Answer) (result : CaseStatus) → IsAnswerToCommand (reading_between known from to) from.keeper to.keeper c answer → WritesOrFails from.sink to.sink answer.status answer.text.items result
+  pub turn_of_answer : (answer : CaseAnswer) (result : CaseStatus) → IsAnswerToCommand (reading_between known from to) from.keeper to.keeper c answer → WritesOrFails from.sink to.sink answer.status answer.text.items result
       → TakesTurn known from to c result
   turn_of_answer answer result is writes = record {
     turn = answered_turn answer;
@@ -64,11 +64,11 @@ module _ (known : KnownLogs) (from to : RunState) (c : Command) where
       halts halt.Memory result is (inl (record { answer_is = nothing.answer_is; wrote = rw nothing.same (Appends-nil from.sink.wrote) }))
 
 -- an answer leaves both slots within the longest log
-pub length_of_answer : (r : Reading) (answer : Answer) (result : CaseStatus) → EndsWithinOrHalts r (Ok answer) → EndsWithinOrTooLong r result
+pub length_of_answer : (r : Reading) (answer : CaseAnswer) (result : CaseStatus) → EndsWithinOrHalts r (Ok answer) → EndsWithinOrTooLong r result
 length_of_answer r answer result stays begins = ⊎_elim (λ e. absurd e) (λ ends. inl ends) (stays begins)
 
 -- a halt that leaves a slot outside the longest log is answered as one
-pub length_of_halt : (r : Reading) (sink_old sink_new : SinkState) (why : Halt) (result : CaseStatus) → EndsWithinOrHalts {T = Answer} r (Err why) → WritesHaltLine sink_old sink_new why result → EndsWithinOrTooLong r result
+pub length_of_halt : (r : Reading) (sink_old sink_new : SinkState) (why : Halt) (result : CaseStatus) → EndsWithinOrHalts {T = CaseAnswer} r (Err why) → WritesHaltLine sink_old sink_new why result → EndsWithinOrTooLong r result
 length_of_halt r sink_old sink_new (halt.ReadFault log) result stays writes begins = ⊎_elim (λ e. absurd e) (λ ends. inl ends) (stays begins)
 length_of_halt r sink_old sink_new (halt.TooLong log) result stays (inl all) begins = inr (inl all.answer_is)
 length_of_halt r sink_old sink_new (halt.TooLong log) result stays (inr front) begins = inr (inr front.answer_is)

@@ -27,7 +27,7 @@ use Rattle.record_verdict.specs.declared.questions.Question.{Question}
 use Rattle.record_verdict.specs.RecordVerdicts.{question, IsRecordVerdict, IsOutcomeByFinding}
 use Rattle.case_run.specs.Causes.{IsFilingLogInTurn, OfFilingLog, ReadsGoodLogs, filing_log_name}
 use Rattle.case_run.specs.Turns.{halt_of_stop, IsLogHalt, ReadsFilingVerdict, ReadsForVerdict, EndsWithinOrHalts}
-use Rattle.case_run.specs.declared.commands.Command.TheVariants as command
+use Rattle.case_run.specs.declared.commands.CaseCommand.TheVariants as command
 use Rattle.case_run.specs.declared.commands.Filing.{Filing}
 
 -- a verdict on records is no bad place

@@ -11,8 +11,8 @@ use Rattle.log_verdict.specs.Steps.{Reading, LogStep, IsReadFault, IsTooLong}
 use Rattle.case_keeper.specs.Keepers.{KeeperState}
 use Rattle.log_source.specs.Sources.{RoseOrIsFull}
 use Rattle.case_run.specs.Lines.{keeper_fault_line}
-use Rattle.case_run.specs.declared.commands.Command.{Command}
-use Rattle.case_run.specs.declared.commands.Command.TheVariants as command
+use Rattle.case_run.specs.declared.commands.CaseCommand.{CaseCommand}
+use Rattle.case_run.specs.declared.commands.CaseCommand.TheVariants as command
 use Rattle.case_run.specs.declared.commands.Filing.{Filing}
 use Rattle.case_run.specs.declared.halts.Halt.{Halt}
 use Rattle.case_run.specs.declared.halts.Halt.TheVariants as halt
@@ -35,7 +35,7 @@ StartsNoLog r = (log : Which) → r.after log ≡ r.before log
 
 -- the logs that the command names were read to their end, and are in their grammar; `list` and
 -- `show` name none, and start none
-abbrev pub ReadsGoodLogs : Reading → Command → Type 0
+abbrev pub ReadsGoodLogs : Reading → CaseCommand → Type 0
 ReadsGoodLogs r (command.File wanted) =
     IsReadAs r Orders wanted.orders (λ bytes. IsOk (records_of_order_log wanted.form bytes))
     × IsReadAs r Trades wanted.trades (λ bytes. IsOk (trades_of_trade_log wanted.form bytes))
@@ -56,14 +56,14 @@ pub record ReadsBadFilingLog (r : Reading) (wanted : Filing) (log : Which) : Typ
   pub bad : IsReadAs r log (filing_log_name wanted log) (IsBadLog log wanted.form)
 
 -- the same of one of the logs that the command names; `list` and `show` name none
-abbrev pub ReadsBadLog : Reading → Command → Type 0
+abbrev pub ReadsBadLog : Reading → CaseCommand → Type 0
 ReadsBadLog r (command.File wanted) = (log : Which) × ReadsBadFilingLog r wanted log
 ReadsBadLog r (command.List filter) = ⊥
 ReadsBadLog r (command.Show label) = ⊥
 
 -- what was read of the logs of a command that was answered with this status; no command is answered
 -- with a status other than 0, 1 and 3
-abbrev pub ReadsLogsFor : Reading → Command → CaseStatus → Type 0
+abbrev pub ReadsLogsFor : Reading → CaseCommand → CaseStatus → Type 0
 ReadsLogsFor r the_command status.Done = ReadsGoodLogs r the_command
 ReadsLogsFor r the_command status.Refused = ReadsGoodLogs r the_command
 ReadsLogsFor r the_command status.Malformed = ReadsBadLog r the_command
@@ -81,14 +81,14 @@ pub record OfFilingLog (is : Reading → LogStep → Type 0) (r : Reading) (want
   pub holds : is r (step_of r log (filing_log_name wanted log))
 
 -- the same of a log that the command names; `list` and `show` name none
-abbrev pub OfCommandLog : (Reading → LogStep → Type 0) → Reading → Command → Which → Type 0
+abbrev pub OfCommandLog : (Reading → LogStep → Type 0) → Reading → CaseCommand → Which → Type 0
 OfCommandLog is r (command.File wanted) log = OfFilingLog is r wanted log
 OfCommandLog is r (command.List filter) log = ⊥
 OfCommandLog is r (command.Show label) log = ⊥
 
 -- why a command is halted: a log that it names could not be read, or is too long; its logs were
 -- read and are in their grammar, and the keeper's faults rose or were full; or memory ran out
-abbrev pub IsHaltCause : Reading → KeeperState → KeeperState → Command → Halt → Type 0
+abbrev pub IsHaltCause : Reading → KeeperState → KeeperState → CaseCommand → Halt → Type 0
 IsHaltCause r old new the_command (halt.ReadFault log) = OfCommandLog IsReadFault r the_command log
 IsHaltCause r old new the_command (halt.TooLong log) = OfCommandLog IsTooLong r the_command log
 IsHaltCause r old new the_command halt.KeeperFault =

@@ -11,12 +11,12 @@ use Rattle.command_words.specs.Words.{when_some}
 use Rattle.case_keeper.specs.declared.case.Filter.{Filter}
 use Rattle.case_keeper.specs.declared.case.Mark.{Mark}
 use Rattle.case_keeper.specs.declared.case.Mark.TheVariants.{Accepted, Broken}
-use Rattle.case_run.specs.declared.commands.Command.{Command}
-use Rattle.case_run.specs.declared.commands.Command.TheVariants as command
+use Rattle.case_run.specs.declared.commands.CaseCommand.{CaseCommand}
+use Rattle.case_run.specs.declared.commands.CaseCommand.TheVariants as command
 
 -- `file LABEL RULE SYMBOL FORM ORDERS TRADES`; LABEL is a name that does not begin with `-`, as
 -- SYMBOL is
-abbrev pub file_command : List (List ℕ) → Option Command
+abbrev pub file_command : List (List ℕ) → Option CaseCommand
 file_command words =
     if length words == 7 && word_equals (nth_word words 0) (codes "file")
     && is_path (nth_word words 5) && is_path (nth_word words 6) then
@@ -88,18 +88,18 @@ list_filter (word ∷ words) =
     if word_equals word (codes "list") then filter_named words else None
 
 -- the command that these words ask for
-abbrev pub list_command : List (List ℕ) → Option Command
+abbrev pub list_command : List (List ℕ) → Option CaseCommand
 list_command words = option_map command.List (list_filter words)
 
 -- `show LABEL`
-abbrev pub show_command : List (List ℕ) → Option Command
+abbrev pub show_command : List (List ℕ) → Option CaseCommand
 show_command words =
     if length words == 2 && word_equals (nth_word words 0) (codes "show") then
     when_some (symbol_named (nth_word words 1)) (λ label. Some (command.Show label))
     else None
 
 -- the command that words ask for; nothing where they are not well-formed
-abbrev pub command_of : List (List ℕ) → Option Command
+abbrev pub command_of : List (List ℕ) → Option CaseCommand
 command_of words = first_answer (file_command words ∷ list_command words ∷ show_command words ∷ [])
 
 -- the separator of commands
@@ -121,5 +121,5 @@ all_or_none (a ∷ rest) = with_next a (all_or_none rest)
 
 -- the commands that words ask for: one or more with `then` between them; nothing where they are not
 -- well-formed
-abbrev pub commands_of : List (List ℕ) → Option (List Command)
+abbrev pub commands_of : List (List ℕ) → Option (List CaseCommand)
 commands_of words = all_or_none (map command_of (slice_split is_then words))

@@ -19,8 +19,8 @@ use Rattle.case_keeper.specs.declared.case.Offence.{Offence}
 use Rattle.case_keeper.specs.declared.casebook.Filed.{Filed}
 use Rattle.case_keeper.specs.declared.casebook.Filed.TheVariants.{Kept, Known}
 use Rattle.case_run.specs.Lines.{case_line, known_line, no_case_line}
-use Rattle.case_run.specs.declared.commands.Command.{Command}
-use Rattle.case_run.specs.declared.commands.Command.TheVariants as command
+use Rattle.case_run.specs.declared.commands.CaseCommand.{CaseCommand}
+use Rattle.case_run.specs.declared.commands.CaseCommand.TheVariants as command
 use Rattle.case_run.specs.declared.commands.Filing.{Filing}
 use Rattle.case_run.specs.declared.statuses.CaseStatus.{CaseStatus}
 use Rattle.case_run.specs.declared.statuses.CaseStatus.TheVariants as status
@@ -111,7 +111,7 @@ show_turn cases label = let found = kept_case cases label in
     record { cases = cases; text = shown_text label found; status = shown_status found }
 
 -- what one command leaves of these cases
-abbrev pub IsTurn : (Which → List ℕ → Option (List ℕ)) → List Case → Command → PlayTurn → Type 0
+abbrev pub IsTurn : (Which → List ℕ → Option (List ℕ)) → List Case → CaseCommand → PlayTurn → Type 0
 IsTurn logs cases (command.File wanted) turn = (the_verdict : Verdict)
     × IsVerdictOfFiling logs wanted the_verdict × (turn ≡ verdict_turn cases wanted the_verdict)
 IsTurn logs cases (command.List filter) turn = turn ≡ list_turn cases filter
@@ -129,7 +129,7 @@ last_status before (turn ∷ turns) = last_status turn.status turns
 
 -- the turns of commands in order, each on the cases that the one before left; the first that is
 -- answered with 3 is the last
-abbrev pub AreTurns : (Which → List ℕ → Option (List ℕ)) → List Case → List Command → List PlayTurn
+abbrev pub AreTurns : (Which → List ℕ → Option (List ℕ)) → List Case → List CaseCommand → List PlayTurn
     → Type 0
 AreTurns logs cases [] turns = turns ≡ []
 AreTurns logs cases (the_command ∷ commands) [] = ⊥
@@ -152,7 +152,7 @@ play_result cases turns = record {
 }
 
 -- Play(cases, commands) leaves this
-abbrev pub IsPlay : (Which → List ℕ → Option (List ℕ)) → List Case → List Command → PlayResult
+abbrev pub IsPlay : (Which → List ℕ → Option (List ℕ)) → List Case → List CaseCommand → PlayResult
     → Type 0
 IsPlay logs cases commands played = (turns : List PlayTurn)
     × AreTurns logs cases commands turns × (played ≡ play_result cases turns)

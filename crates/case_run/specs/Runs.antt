@@ -16,8 +16,8 @@ use Rattle.case_run.specs.Lines.{casebook_usage_line}
 use Rattle.case_run.specs.Play.{IsPlay, PlayResult}
 use Rattle.case_run.specs.Traces.{FilesCases, IsLater, IsTraceOf, KnownLogs, KnowsLogsAndCases, RunState, Trace, WritesTexts, final_state, final_status, reading_between, state_after, status_after, turn_commands, turn_texts}
 use Rattle.case_run.specs.Writing.{WritesNoLine, WritesOrFails}
-use Rattle.case_run.specs.declared.commands.Command.{Command}
-use Rattle.case_run.specs.declared.commands.Command.TheVariants as command
+use Rattle.case_run.specs.declared.commands.CaseCommand.{CaseCommand}
+use Rattle.case_run.specs.declared.commands.CaseCommand.TheVariants as command
 use Rattle.case_run.specs.declared.commands.Filing.{Filing}
 use Rattle.case_run.specs.declared.statuses.CaseStatus.{CaseStatus}
 use Rattle.case_run.specs.declared.statuses.CaseStatus.TheVariants as status
@@ -29,7 +29,7 @@ IsPlayStatus answer =
 
 -- The shelf has the logs that Play over the commands needs, the status is Play's, its text was
 -- written, and the casebook has its cases.
-pub record AnswersPlay (known : KnownLogs) (from to : RunState) (commands : List Command)
+pub record AnswersPlay (known : KnownLogs) (from to : RunState) (commands : List CaseCommand)
     (answer : CaseStatus) (cases : List Case) : Type 0 where
   pub played : PlayResult
   pub is : IsPlay known.log_of cases commands played
@@ -51,7 +51,7 @@ pub record FilesTrace (known : KnownLogs) (from to : RunState) (trace : Trace) (
 -- What a run of well-formed commands does. It has a trace, which gives the state in which it ends,
 -- its status, and what it writes. Where the logs and the cases are known, the trace gives what is
 -- filed too, and a run with status 0, 1 or 3 is Play's over all commands.
-pub record RunsCommands (known : KnownLogs) (from to : RunState) (commands : List Command)
+pub record RunsCommands (known : KnownLogs) (from to : RunState) (commands : List CaseCommand)
     (answer : CaseStatus) : Type 0 where
   pub trace : Trace
   pub is : IsTraceOf known from commands trace
@@ -73,7 +73,7 @@ pub record RunsNoCommand (known : KnownLogs) (from to : RunState) (answer : Case
   pub keeper : to.keeper ≡ from.keeper
 
 -- what a run does: the commands that its words ask for, or, where they are not well-formed, none
-abbrev pub RunsAsked : KnownLogs → RunState → RunState → Option (List Command) → CaseStatus → Type 0
+abbrev pub RunsAsked : KnownLogs → RunState → RunState → Option (List CaseCommand) → CaseStatus → Type 0
 RunsAsked known from to (Some commands) answer = RunsCommands known from to commands answer
 RunsAsked known from to None answer = RunsNoCommand known from to answer
 
@@ -97,7 +97,7 @@ HasFilingLogs logs wanted next = HasLogWithin (logs Orders wanted.orders)
 
 -- the shelf has the logs that Play over the commands needs: those up to the first one that is not
 -- in its grammar
-abbrev pub HasPlayLogs : (Which → List ℕ → Option (List ℕ)) → List Command → Type 0
+abbrev pub HasPlayLogs : (Which → List ℕ → Option (List ℕ)) → List CaseCommand → Type 0
 HasPlayLogs logs [] = Unit {0}
 HasPlayLogs logs (command.File wanted ∷ commands) =
     HasFilingLogs logs wanted (HasPlayLogs logs commands)
@@ -113,7 +113,7 @@ pub record HasNoFault (from to : RunState) : Type 0 where
 
 -- All that Play over the commands needs is there: the logs and the cases are known, the shelf has
 -- the logs, no fault was counted, and no count of faults is at its greatest value.
-pub record IsReadyToPlay (known : KnownLogs) (from to : RunState) (commands : List Command)
+pub record IsReadyToPlay (known : KnownLogs) (from to : RunState) (commands : List CaseCommand)
     (cases : List Case) : Type 0 where
   pub knows : KnowsLogsAndCases known from cases
   pub has_logs : HasPlayLogs known.log_of commands
@@ -122,7 +122,7 @@ pub record IsReadyToPlay (known : KnownLogs) (from to : RunState) (commands : Li
 -- the headline: where all is there, status, text and cases are Play's, unless memory ran out; for
 -- words that are not well-formed the status is 2, unless the sink failed, its count of faults is at
 -- its greatest value, or memory ran out
-abbrev pub AnswersWhereReady : KnownLogs → RunState → RunState → Option (List Command) → CaseStatus
+abbrev pub AnswersWhereReady : KnownLogs → RunState → RunState → Option (List CaseCommand) → CaseStatus
     → Type 0
 AnswersWhereReady known from to (Some commands) answer =
     (cases : List Case) → IsReadyToPlay known from to commands cases
@@ -138,7 +138,7 @@ EndsWithinOrTooLong r answer = BeginsWithin r
 
 -- What a run says from its first state to its last: the headline; what it did; too long a log is
 -- answered as such; no count of faults fell; and the sink is of the same kind as before.
-pub record RunsBetween (known : KnownLogs) (from to : RunState) (asked : Option (List Command))
+pub record RunsBetween (known : KnownLogs) (from to : RunState) (asked : Option (List CaseCommand))
     (answer : CaseStatus) : Type 0 where
   pub headline : AnswersWhereReady known from to asked answer
   pub runs : RunsAsked known from to asked answer
@@ -157,7 +157,7 @@ run_state shelf s sink keeper =
     record { slots = shelf.slot s; sink = sink; keeper = keeper }
 
 -- What a run of commands says over a shelf, which has afterwards what it had.
-pub record IsCaseRun {S : Type 0} (shelf : Shelf S) (asked : Option (List Command)) (old new : S)
+pub record IsCaseRun {S : Type 0} (shelf : Shelf S) (asked : Option (List CaseCommand)) (old new : S)
     (sink_old sink_new : SinkState) (keeper_old keeper_new : KeeperState)
     (answer : CaseStatus) : Type 0 where
   pub run : RunsBetween (known_logs shelf old) (run_state shelf old sink_old keeper_old)

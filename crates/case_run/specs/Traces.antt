@@ -12,7 +12,7 @@ use Rattle.log_source.specs.Sources.{Slot}
 use Rattle.case_run.specs.Causes.{IsHaltCause, ReadsLogsFor, halt_line, halt_status}
 use Rattle.case_run.specs.Play.{IsTurn}
 use Rattle.case_run.specs.Statuses.{ends_run}
-use Rattle.case_run.specs.declared.commands.Command.{Command}
+use Rattle.case_run.specs.declared.commands.CaseCommand.{CaseCommand}
 use Rattle.case_run.specs.declared.halts.Halt.{Halt}
 use Rattle.case_run.specs.declared.statuses.CaseStatus.{CaseStatus}
 use Rattle.case_run.specs.declared.statuses.CaseStatus.TheVariants as status
@@ -58,7 +58,7 @@ pub record KnowsLogsAndCases (known : KnownLogs) (at : RunState) (cases : List C
 -- The turn of a command: its answer, which is a status and a text, and the state in which it left
 -- the run.
 pub record RunTurn : Type 0 where
-  pub command : Command
+  pub command : CaseCommand
   pub status : CaseStatus
   pub text : List ℕ
   pub left : RunState
@@ -127,7 +127,7 @@ status_after before [] = before
 status_after before (turn ∷ turns) = status_after turn.status turns
 
 -- the commands of turns
-abbrev pub turn_commands : List RunTurn → List Command
+abbrev pub turn_commands : List RunTurn → List CaseCommand
 turn_commands turns = map (λ turn. turn.command) turns
 
 -- the texts of turns, one after the other
@@ -186,16 +186,16 @@ pub record Trace : Type 0 where
 
 -- an ending of a run that was in this state, with these commands left to do: all were done, or the
 -- first of them ended the run
-abbrev pub IsRunEnding : KnownLogs → RunState → List Command → Ending → Type 0
+abbrev pub IsRunEnding : KnownLogs → RunState → List CaseCommand → Ending → Type 0
 IsRunEnding known from commands AllDone = commands ≡ []
 IsRunEnding known from commands (EndedBy turn why) =
-    ((rest : List Command) × (commands ≡ turn.command ∷ rest)) × IsLastTurn known from turn why
+    ((rest : List CaseCommand) × (commands ≡ turn.command ∷ rest)) × IsLastTurn known from turn why
 
 -- The run did these commands from this state: those of the turns, one after another, and then it
 -- ended.
-pub record IsTraceOf (known : KnownLogs) (from : RunState) (commands : List Command)
+pub record IsTraceOf (known : KnownLogs) (from : RunState) (commands : List CaseCommand)
     (trace : Trace) : Type 0 where
-  pub undone : List Command
+  pub undone : List CaseCommand
   pub commands_are : commands ≡ turn_commands trace.turns ++ undone
   pub done : AreDone known from trace.turns
   pub ends : IsRunEnding known (state_after from trace.turns) undone trace.ending

@@ -20,9 +20,9 @@ use Rattle.case_run.specs.Runs.{known_logs, run_state}
 use Rattle.case_run.specs.Statuses.{ends_run}
 use Rattle.case_run.specs.Traces.{AreDone, IsAnsweredOrHalted, KnownLogs, RunState, RunTurn, state_after, status_after, turn_commands}
 use Rattle.case_run.specs.Writing.{WritesOrFails}
-use Rattle.case_run.specs.declared.answers.Answer.{Answer}
-use Rattle.case_run.specs.declared.commands.Command.{Command}
-use Rattle.case_run.specs.declared.commands.Command.TheVariants as command
+use Rattle.case_run.specs.declared.answers.CaseAnswer.{CaseAnswer}
+use Rattle.case_run.specs.declared.commands.CaseCommand.{CaseCommand}
+use Rattle.case_run.specs.declared.commands.CaseCommand.TheVariants as command
 use Rattle.case_run.specs.declared.commands.Filing.{Filing}
 use Rattle.case_run.specs.declared.halts.Halt.{Halt}
 use Rattle.case_run.specs.declared.halts.Halt.TheVariants as halt
@@ -77,7 +77,7 @@ GivesFilingVerdictOrHalt r wanted result =
     MatchResult result (ReadsFilingVerdict r wanted) (IsLogHalt r wanted)
 
 -- The answer has the status and the text of this turn, and the casebook has its cases.
-pub record AnswersAsTurn (turn : PlayTurn) (keeper : KeeperState) (answer : Answer) : Type 0 where
+pub record AnswersAsTurn (turn : PlayTurn) (keeper : KeeperState) (answer : CaseAnswer) : Type 0 where
   pub status_is : turn.status ≡ answer.status
   pub text_is : turn.text ≡ answer.text.items
   pub cases_are : keeper.cases ≡ Some turn.cases
@@ -92,7 +92,7 @@ IsKeeperCause old new halt.Memory = Unit {0}
 -- The answer has the status and the text of a turn, and the casebook has its cases, where these are
 -- known.
 pub record AnswersTurnOf (turn_of : List Case → PlayTurn) (old new : KeeperState)
-    (answer : Answer) : Type 0 where
+    (answer : CaseAnswer) : Type 0 where
   pub known : (cases : List Case) → old.cases ≡ Some cases
       → AnswersAsTurn (turn_of cases) new answer
   pub goes_on : ends_run answer.status ≡ false
@@ -104,7 +104,7 @@ pub record IsKeeperHalt (old new : KeeperState) (why : Halt) : Type 0 where
 
 -- the answer is that of a turn, or the keeper did not do what it was asked
 abbrev pub AnswersFromCasebook : (List Case → PlayTurn) → KeeperState → KeeperState
-    → Result Answer Halt → Type 0
+    → Result CaseAnswer Halt → Type 0
 AnswersFromCasebook turn_of old new result =
     MatchResult result (AnswersTurnOf turn_of old new) (IsKeeperHalt old new)
 
@@ -116,7 +116,7 @@ HasVerdictStatus (verdict.Malformed log bad) answer = answer ≡ status.Malforme
 
 -- The answer is that of filing a verdict.
 pub record AnswersVerdictTurn (wanted : Filing) (the_verdict : Verdict) (old new : KeeperState)
-    (answer : Answer) : Type 0 where
+    (answer : CaseAnswer) : Type 0 where
   pub known : (cases : List Case) → old.cases ≡ Some cases
       → AnswersAsTurn (verdict_turn cases wanted the_verdict) new answer
   pub status_is : HasVerdictStatus the_verdict answer.status
@@ -128,7 +128,7 @@ AsksKeeperFor (verdict.Rejected finding) why = Unit {0}
 AsksKeeperFor (verdict.Malformed log bad) why = why ≡ halt.Memory
 
 -- the verdict was filed or its log refused, or the command was halted
-abbrev pub FilesVerdict : KeeperState → KeeperState → Filing → Verdict → Result Answer Halt
+abbrev pub FilesVerdict : KeeperState → KeeperState → Filing → Verdict → Result CaseAnswer Halt
     → Type 0
 FilesVerdict old new wanted the_verdict result =
     MatchResult result (AnswersVerdictTurn wanted the_verdict old new)
@@ -136,7 +136,7 @@ FilesVerdict old new wanted the_verdict result =
 
 -- The answer is that of a turn of the command.
 pub record AnswersSomeTurn (logs : Which → List ℕ → Option (List ℕ)) (cases : List Case)
-    (the_command : Command) (keeper : KeeperState) (answer : Answer) : Type 0 where
+    (the_command : CaseCommand) (keeper : KeeperState) (answer : CaseAnswer) : Type 0 where
   pub turn : PlayTurn
   pub is : IsTurn logs cases the_command turn
   pub has : AnswersAsTurn turn keeper answer
@@ -144,20 +144,20 @@ pub record AnswersSomeTurn (logs : Which → List ℕ → Option (List ℕ)) (ca
 -- The command was answered: its logs were read as its status says, and where the logs and the cases
 -- are known, the answer is that of its turn.
 pub record IsAnswerToCommand (r : Reading) (keeper_old keeper_new : KeeperState)
-    (the_command : Command)
-    (answer : Answer) : Type 0 where
+    (the_command : CaseCommand)
+    (answer : CaseAnswer) : Type 0 where
   pub read : ReadsLogsFor r the_command answer.status
   pub known : (cases : List Case) → r.tells ≡ true → keeper_old.cases ≡ Some cases
       → AnswersSomeTurn r.log_of cases the_command keeper_new answer
 
 -- The command was halted for a cause, and no case was changed.
-pub record IsHaltOf (r : Reading) (keeper_old keeper_new : KeeperState) (the_command : Command)
+pub record IsHaltOf (r : Reading) (keeper_old keeper_new : KeeperState) (the_command : CaseCommand)
     (why : Halt) : Type 0 where
   pub cause : IsHaltCause r keeper_old keeper_new the_command why
   pub stays : keeper_new.cases ≡ keeper_old.cases
 
 -- the command was answered, or halted
-abbrev pub AnswersCaseCommand : Reading → KeeperState → KeeperState → Command → Result Answer Halt
+abbrev pub AnswersCaseCommand : Reading → KeeperState → KeeperState → CaseCommand → Result CaseAnswer Halt
     → Type 0
 AnswersCaseCommand r keeper_old keeper_new the_command result =
     MatchResult result (IsAnswerToCommand r keeper_old keeper_new the_command)
@@ -173,7 +173,7 @@ pub record KeepsAll {S : Type 0} (shelf : Shelf S) (old new : S) (sink_old sink_
   pub keeper : keeper_old.faults ≤ keeper_new.faults
 
 -- One command was answered or halted, and its text was written with its status, or the sink failed.
-pub record TakesTurn (known : KnownLogs) (from to : RunState) (the_command : Command)
+pub record TakesTurn (known : KnownLogs) (from to : RunState) (the_command : CaseCommand)
     (answer : CaseStatus) : Type 0 where
   pub turn : RunTurn
   pub command_is : turn.command ≡ the_command
@@ -182,7 +182,7 @@ pub record TakesTurn (known : KnownLogs) (from to : RunState) (the_command : Com
   pub writes : WritesOrFails from.sink turn.left.sink turn.status turn.text answer
 
 -- The commands so far were done, and both slots stay within the limit.
-pub record IsGoing {S : Type 0} (shelf : Shelf S) (commands : List Command) (old now : S)
+pub record IsGoing {S : Type 0} (shelf : Shelf S) (commands : List CaseCommand) (old now : S)
     (sink_old sink_now : SinkState) (keeper_old keeper_now : KeeperState)
     (answer : CaseStatus) : Type 0 where
   pub turns : List RunTurn

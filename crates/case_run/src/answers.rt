@@ -10,7 +10,7 @@ ghost use Rattle.case_run.specs.Runs.{EndsWithinOrTooLong, known_logs, run_state
 ghost use Rattle.case_run.specs.Turns.{AnswersCaseCommand, AnswersFromCasebook, EndsWithinOrHalts};
 ghost use Rattle.case_run.specs.Turns.{FilesVerdict, KeepsAll, TakesTurn};
 
-use super::commands::{Command, Filing};
+use super::commands::{CaseCommand, Filing};
 use super::halts::Halt;
 use super::lines::{append_case_line, append_known_line, append_no_case_line};
 use super::statuses::CaseStatus;
@@ -32,7 +32,7 @@ use std::alloc::Global;
 
 /// What a command answers and writes.
 #[derive(Drop)]
-pub(crate) struct Answer {
+pub(crate) struct CaseAnswer {
     pub(crate) status: CaseStatus,
     pub(crate) text: Vec<u8>,
 }
@@ -115,18 +115,22 @@ fn shown_status(found: &Option<Case>) -> CaseStatus
 }
 
 /// Files a case. Its line is made before the book is changed.
-fn file_case<B: Keeper>(alloc: Global, case: &Case, book: &mut Casebook<B>) -> Result<Answer, Halt>
+fn file_case<B: Keeper>(
+    alloc: Global,
+    case: &Case,
+    book: &mut Casebook<B>,
+) -> Result<CaseAnswer, Halt>
     ensures files { AnswersFromCasebook (λ cases. spec.filed_turn cases case.now)
         (B.state book.old) (B.state book.new) result }
     ensures later { (B.state book.old).faults ≤ (B.state book.new).faults }
 {
     let line = case_text(alloc, case)?;
     match book.file(case)? {
-        Filed::Kept => Ok(Answer {
+        Filed::Kept => Ok(CaseAnswer {
             status: CaseStatus::Done,
             text: line,
         }),
-        Filed::Known(known) => Ok(Answer {
+        Filed::Known(known) => Ok(CaseAnswer {
             status: CaseStatus::Refused,
             text: known_text(alloc, &known)?,
         }),
@@ -140,7 +144,7 @@ fn file_verdict<B: Keeper>(
     filing: &Filing,
     verdict: &Verdict,
     book: &mut Casebook<B>,
-) -> Result<Answer, Halt>
+) -> Result<CaseAnswer, Halt>
     ensures files { FilesVerdict (B.state book.old) (B.state book.new)
         filing.now verdict.now result }
     ensures later { (B.state book.old).faults ≤ (B.state book.new).faults }
@@ -150,7 +154,7 @@ fn file_verdict<B: Keeper>(
         Verdict::Rejected(finding) => {
             file_case(alloc, &filing.case(Some(offence_of(finding))), book)
         }
-        Verdict::Malformed { log, bad } => Ok(Answer {
+        Verdict::Malformed { log, bad } => Ok(CaseAnswer {
             status: CaseStatus::Malformed,
             text: malformed_text(alloc, *log, bad)?,
         }),
@@ -171,12 +175,12 @@ fn file<F: Shelf, B: Keeper>(
     filing: &Filing,
     shelf: &mut F,
     book: &mut Casebook<B>,
-) -> Result<Answer, Halt>
+) -> Result<CaseAnswer, Halt>
     ensures logs { KeepsShelfLogs F.Shelf shelf.old shelf.new }
     ensures later { FaultsNeverFall (reading F.Shelf shelf.old shelf.new) }
     ensures book { (B.state book.old).faults ≤ (B.state book.new).faults }
     ensures answers { AnswersCaseCommand (reading F.Shelf shelf.old shelf.new)
-        (B.state book.old) (B.state book.new) (Command.File filing.now) result }
+        (B.state book.old) (B.state book.new) (CaseCommand.File filing.now) result }
     ensures within { EndsWithinOrHalts (reading F.Shelf shelf.old shelf.new) result }
 {
     // A match and no `?`, as in `verdict_on`.
@@ -187,26 +191,30 @@ fn file<F: Shelf, B: Keeper>(
 }
 
 /// Lists the cases that pass a filter.
-fn list<B: Keeper>(alloc: Global, filter: &Filter, book: &mut Casebook<B>) -> Result<Answer, Halt>
+fn list<B: Keeper>(
+    alloc: Global,
+    filter: &Filter,
+    book: &mut Casebook<B>,
+) -> Result<CaseAnswer, Halt>
     ensures lists { AnswersFromCasebook (λ cases. spec.list_turn cases filter.now)
         (B.state book.old) (B.state book.new) result }
     ensures later { (B.state book.old).faults ≤ (B.state book.new).faults }
 {
     let cases = book.list(filter)?;
-    Ok(Answer {
+    Ok(CaseAnswer {
         status: CaseStatus::Done,
         text: list_text(alloc, cases.as_slice())?,
     })
 }
 
 /// Shows the case of a label.
-fn show<B: Keeper>(alloc: Global, label: &Name, book: &mut Casebook<B>) -> Result<Answer, Halt>
+fn show<B: Keeper>(alloc: Global, label: &Name, book: &mut Casebook<B>) -> Result<CaseAnswer, Halt>
     ensures shows { AnswersFromCasebook (λ cases. spec.show_turn cases label.now)
         (B.state book.old) (B.state book.new) result }
     ensures later { (B.state book.old).faults ≤ (B.state book.new).faults }
 {
     let found = book.show(label)?;
-    Ok(Answer {
+    Ok(CaseAnswer {
         status: shown_status(&found),
         text: shown_text(alloc, label, &found)?,
     })
@@ -216,10 +224,10 @@ fn show<B: Keeper>(alloc: Global, label: &Name, book: &mut Casebook<B>) -> Resul
 fn answer_to<F: Shelf, B: Keeper>(
     alloc: Global,
     seed: HashSeed,
-    command: &Command,
+    command: &CaseCommand,
     shelf: &mut F,
     book: &mut Casebook<B>,
-) -> Result<Answer, Halt>
+) -> Result<CaseAnswer, Halt>
     ensures logs { KeepsShelfLogs F.Shelf shelf.old shelf.new }
     ensures later { FaultsNeverFall (reading F.Shelf shelf.old shelf.new) }
     ensures book { (B.state book.old).faults ≤ (B.state book.new).faults }
@@ -228,9 +236,9 @@ fn answer_to<F: Shelf, B: Keeper>(
     ensures within { EndsWithinOrHalts (reading F.Shelf shelf.old shelf.new) result }
 {
     match command {
-        Command::File(filing) => file(alloc, seed, filing, shelf, book),
-        Command::List(filter) => list(alloc, filter, book),
-        Command::Show(label) => show(alloc, label, book),
+        CaseCommand::File(filing) => file(alloc, seed, filing, shelf, book),
+        CaseCommand::List(filter) => list(alloc, filter, book),
+        CaseCommand::Show(label) => show(alloc, label, book),
     }
 }
 
@@ -238,7 +246,7 @@ fn answer_to<F: Shelf, B: Keeper>(
 pub(crate) fn take_turn<F: Shelf, K: Sink, B: Keeper>(
     alloc: Global,
     seed: HashSeed,
-    command: &Command,
+    command: &CaseCommand,
     shelf: &mut F,
     out: &mut K,
     book: &mut Casebook<B>,

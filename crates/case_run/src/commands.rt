@@ -18,7 +18,7 @@ pub struct Filing {
 
 /// A command of a casebook.
 #[derive(Drop)]
-pub enum Command {
+pub enum CaseCommand {
     /// To audit two logs and file the verdict.
     File(Filing),
     /// To list the cases that pass the filter.

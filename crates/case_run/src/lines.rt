@@ -5,7 +5,7 @@ ghost use Rattle.case_run.specs.Lines as text;
 
 use audit_base::faults::NoMemory;
 use audit_base::names::Name;
-use audit_report::line_parts::{Part, append_line};
+use audit_report::line_parts::{LinePart, append_line};
 use audit_report::words::log_word;
 use case_keeper::case::{Case, Offence};
 use std::alloc::Global;
@@ -35,7 +35,7 @@ pub fn append_known_line(alloc: Global, out: &mut Vec<u8>) -> Result<(), NoMemor
 pub fn append_no_case_line(alloc: Global, label: &Name, out: &mut Vec<u8>) -> Result<(), NoMemory>
     ensures { OnOk result (out.new.items ≡ out.old.items ++ text.no_case_line label.now) }
 {
-    append_line(alloc, b"nocase", &[Part::Word(label.bytes())], out)
+    append_line(alloc, b"nocase", &[LinePart::Word(label.bytes())], out)
 }
 
 /// `case,LABEL,RULE,SYMBOL,accepted` or `case,LABEL,RULE,SYMBOL,PROPERTY,LOG,PLACE`.
@@ -53,10 +53,10 @@ fn append_accepted(alloc: Global, case: &Case, out: &mut Vec<u8>) -> Result<(), 
     ensures { OnOk result (out.new.items ≡ out.old.items ++ text.case_line_with case.now None) }
 {
     let parts = [
-        Part::Word(case.label.bytes()),
-        Part::Word(case.rule.word()),
-        Part::Word(case.symbol.bytes()),
-        Part::Word(b"accepted"),
+        LinePart::Word(case.label.bytes()),
+        LinePart::Word(case.rule.word()),
+        LinePart::Word(case.symbol.bytes()),
+        LinePart::Word(b"accepted"),
     ];
     append_line(alloc, b"case", &parts, out)
 }
@@ -72,12 +72,12 @@ fn append_broken(
         OnOk result (out.new.items ≡ out.old.items ++ line) }
 {
     let parts = [
-        Part::Word(case.label.bytes()),
-        Part::Word(case.rule.word()),
-        Part::Word(case.symbol.bytes()),
-        Part::Word(offence.property.word()),
-        Part::Word(log_word(offence.log)),
-        Part::Number(u128::from(offence.place)),
+        LinePart::Word(case.label.bytes()),
+        LinePart::Word(case.rule.word()),
+        LinePart::Word(case.symbol.bytes()),
+        LinePart::Word(offence.property.word()),
+        LinePart::Word(log_word(offence.log)),
+        LinePart::Number(u128::from(offence.place)),
     ];
     append_line(alloc, b"case", &parts, out)
 }

@@ -13,7 +13,7 @@ ghost use Rattle.case_run.specs.Runs.{known_logs, run_state};
 ghost use Rattle.case_run.specs.Turns.{KeepsAll};
 
 use super::answers::take_turn;
-use super::commands::Command;
+use super::commands::CaseCommand;
 use super::laws::one_play;
 use super::lines::usage_text;
 use super::statuses::CaseStatus;
@@ -31,7 +31,7 @@ use std::alloc::Global;
 fn run_commands<F: Shelf, K: Sink, B: Keeper>(
     alloc: Global,
     seed: HashSeed,
-    commands: &[Command],
+    commands: &[CaseCommand],
     shelf: &mut F,
     out: &mut K,
     book: &mut Casebook<B>,

@@ -3,7 +3,7 @@ ghost use Rattle.std.specs.Prelude.{◌≡◌, ◌+◌, ◌<◌, ◌≤◌, None
 ghost use Rattle.std.specs.String.{string_bytes};
 ghost use Rattle.case_run.specs.Commands as spec;
 
-use super::commands::{Command, Filing};
+use super::commands::{CaseCommand, Filing};
 use audit_base::faults::NoMemory;
 use audit_base::findings::Property;
 use case_keeper::case::{Filter, Mark};
@@ -140,7 +140,7 @@ fn list_filter(words: &[String]) -> Option<Filter>
 }
 
 /// `file LABEL RULE SYMBOL FORM ORDERS TRADES`.
-fn file_command(alloc: Global, words: &[String]) -> Result<Option<Command>, NoMemory>
+fn file_command(alloc: Global, words: &[String]) -> Result<Option<CaseCommand>, NoMemory>
     ensures { IfOk result (λ made. made ≡ spec.file_command (map string_bytes words.now)) }
 {
     if words.len() != 7 || !is_word(word_at(words, 0), b"file") {
@@ -161,7 +161,7 @@ fn file_command(alloc: Global, words: &[String]) -> Result<Option<Command>, NoMe
     let Some(form) = form_named(word_at(words, 4)) else {
         return Ok(None);
     };
-    Ok(Some(Command::File(Filing {
+    Ok(Some(CaseCommand::File(Filing {
         label,
         rule,
         symbol,
@@ -172,20 +172,20 @@ fn file_command(alloc: Global, words: &[String]) -> Result<Option<Command>, NoMe
 }
 
 /// `show LABEL`.
-fn show_command(words: &[String]) -> Option<Command>
+fn show_command(words: &[String]) -> Option<CaseCommand>
     ensures { result ≡ spec.show_command (map string_bytes words.now) }
 {
     if words.len() != 2 || !is_word(word_at(words, 0), b"show") {
         return None;
     }
     let label = symbol_named(word_at(words, 1))?;
-    Some(Command::Show(label))
+    Some(CaseCommand::Show(label))
 }
 
 /// The command that the words ask for: `file LABEL RULE SYMBOL FORM ORDERS TRADES`, `list`, `list
 /// SYMBOL`, `list SYMBOL RESULT`, or `show LABEL`. RESULT is `accepted` or the word of a property.
 /// `Usage` comes only where they are not well-formed.
-fn read_command(alloc: Global, words: &[String]) -> Result<Command, WordsFault>
+fn read_command(alloc: Global, words: &[String]) -> Result<CaseCommand, WordsFault>
     ensures command { IfOk result
         (λ command. spec.command_of (map string_bytes words.now) ≡ Some command) }
     ensures usage { IsErrOf result WordsFault.Usage
@@ -195,7 +195,7 @@ fn read_command(alloc: Global, words: &[String]) -> Result<Command, WordsFault>
         return Ok(command);
     }
     if let Some(filter) = list_filter(words) {
-        return Ok(Command::List(filter));
+        return Ok(CaseCommand::List(filter));
     }
     match show_command(words) {
         Some(command) => Ok(command),
@@ -237,7 +237,7 @@ fn words_after(words: &[String], index: usize) -> &[String]
 
 /// The commands that the words ask for: one or more, with the word `then` between them. `Usage`
 /// comes exactly where they are not well-formed, out of memory aside.
-pub(crate) fn read_commands(alloc: Global, words: &[String]) -> Result<Vec<Command>, WordsFault>
+pub(crate) fn read_commands(alloc: Global, words: &[String]) -> Result<Vec<CaseCommand>, WordsFault>
     ensures commands { IfOk result
         (λ commands. spec.commands_of (map string_bytes words.now) ≡ Some commands.items) }
     ensures usage { IsErrOf result WordsFault.Usage

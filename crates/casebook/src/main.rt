@@ -19,7 +19,7 @@ mod opener_tests;
 #[cfg(test)]
 mod stopped_tests;
 
-use case_files::program::run_casebook;
+use casebook_program::program::run_casebook;
 use std::process::ExitCode;
 
 /// Ends with the number of the status.

@@ -1,9 +1,9 @@
 //! Runs over databases in files: what is under a path, what stays of it without the log, and
 //! paths under which nothing can be, or is to be.
 use super::case_tests::{Row, shelf_of, split_words};
-use case_files::closing::run_and_close;
-use case_files::file_opener::FileOpener;
 use case_run::statuses::CaseStatus;
+use casebook_program::closing::run_and_close;
+use casebook_program::file_opener::FileOpener;
 use log_source::memory_sink::MemorySink;
 use seeded_hash::seed::HashSeed;
 use std::fs;

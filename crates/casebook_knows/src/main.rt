@@ -3,7 +3,7 @@
 //! has one.
 #![tactic(auto)]
 
-use case_files::program::run_casebook;
+use casebook_program::program::run_casebook;
 use std::process::ExitCode;
 
 /// Ends with the number of the status.

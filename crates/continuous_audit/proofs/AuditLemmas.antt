@@ -19,7 +19,7 @@ use Rattle.continuous_audit.specs.declared.books.BooksSoFar.{BooksSoFar}
 use Rattle.continuous_audit.specs.declared.incoming_deals.IncomingDeal.{IncomingDeal}
 use Rattle.continuous_audit.specs.declared.endings.OrderEnd.{OrderEnd}
 use Rattle.continuous_audit.specs.declared.market.Market.{Market}
-use Rattle.continuous_audit.specs.declared.state.State.{State}
+use Rattle.continuous_audit.specs.declared.state.TradingState.{TradingState}
 use Rattle.continuous_audit.specs.Markets.{IsMarket}
 use Rattle.continuous_audit.specs.Books.{AreEmptyBooks, AreBooksBefore, next_order_place}
 use Rattle.continuous_audit.specs.IncomingDeals.{AreIncomingDeals}
@@ -74,7 +74,7 @@ module _ (m : Market) (is : IsMarket m) where
   abbrev deals : List Deal
   deals = m.deals.now
 
-  pub ready-first : (state : State) → IsFirstState (length orders) state → IsReadyAt m 0 (next_order_place orders 0) state
+  pub ready-first : (state : TradingState) → IsFirstState (length orders) state → IsReadyAt m 0 (next_order_place orders 0) state
   ready-first state bare = record {
     calm = calm-first orders deals (place_at orders 0) is.deal_list.named (first-place orders is.order_list deals);
     known = record {
@@ -137,7 +137,7 @@ module _ (m : Market) (is : IsMarket m) where
       and-always true = refl
       and-always false = refl
 
-  module _ (state : State) (ready : IsReadyAt m (length orders) (next_order_place orders (length orders)) state) where
+  module _ (state : TradingState) (ready : IsReadyAt m (length orders) (next_order_place orders (length orders)) state) where
     abbrev q : ℕ
     q = next_order_place orders (length orders)
 

@@ -3,7 +3,7 @@ use Rattle.std.specs.Prelude.{◌≡◌, ◌≤◌, ℕ, suc, None, replicate}
 use Rattle.audit_base.specs.Orders.{place_at}
 use Rattle.continuous_audit.specs.declared.market.Market.{Market}
 use Rattle.continuous_audit.specs.declared.numbers.DealingState.{DealingState}
-use Rattle.continuous_audit.specs.declared.state.State.{State}
+use Rattle.continuous_audit.specs.declared.state.TradingState.{TradingState}
 use Rattle.continuous_audit.specs.Books.{AreEmptyBooks, AreBooksAfterDeals, AreBooksBefore, next_order_place}
 use Rattle.continuous_audit.specs.Chains.{HaveChainsEnded}
 use Rattle.continuous_audit.specs.Endings.{AreEndingsDropped}
@@ -39,14 +39,14 @@ pub record HasDealt (m : Market) (order : ℕ) (numbers : DealingState) : Type 0
       numbers.running.traded.items
 
 -- before an order arrives, as of a place
-pub record IsReadyAt (m : Market) (order place : ℕ) (state : State) : Type 0 where
+pub record IsReadyAt (m : Market) (order place : ℕ) (state : TradingState) : Type 0 where
   pub calm : ConformsAndIsUncrossed m.orders.now m.deals.now place
   pub known : AreNumbers m order place state.numbers
   pub books : AreBooksBefore m.orders.now m.deals.now place state.books_so_far.books
   pub dropped : AreEndingsDropped m.endings.now state.books_so_far.start place
 
 -- after the deals of an order, which show no finding
-pub record IsAfterDeals (m : Market) (order : ℕ) (state : State) : Type 0 where
+pub record IsAfterDeals (m : Market) (order : ℕ) (state : TradingState) : Type 0 where
   pub dealt : HasDealt m order state.numbers
   pub ranked : priority_at m.orders.now m.deals.now order ≡ None
   pub holds : AreBooksAfterDeals m.orders.now m.deals.now order state.books_so_far.books
@@ -54,10 +54,10 @@ pub record IsAfterDeals (m : Market) (order : ℕ) (state : State) : Type 0 wher
       (place_at m.orders.now order)
 
 -- before an order arrives, at its own place; and after the order before it
-abbrev pub IsReadyFor : Market → ℕ → State → Type 0
+abbrev pub IsReadyFor : Market → ℕ → TradingState → Type 0
 IsReadyFor m order state = IsReadyAt m order (place_at m.orders.now order) state
 
-abbrev pub IsReadyNext : Market → ℕ → State → Type 0
+abbrev pub IsReadyNext : Market → ℕ → TradingState → Type 0
 IsReadyNext m order state = IsReadyAt m order (next_order_place m.orders.now order) state
 
 -- before the first of this many orders
@@ -67,6 +67,6 @@ pub record AreNumbersAtStart (count : ℕ) (numbers : DealingState) : Type 0 whe
   pub added : numbers.running.added ≡ 0
 
 -- before the first of this many orders: no order has numbers yet, and the books are empty
-pub record IsFirstState (count : ℕ) (state : State) : Type 0 where
+pub record IsFirstState (count : ℕ) (state : TradingState) : Type 0 where
   pub numbers : AreNumbersAtStart count state.numbers
   pub books_so_far : AreEmptyBooks state.books_so_far

@@ -7,7 +7,7 @@ ghost use Rattle.continuous_audit.specs.Audits.{IsContinuousOutcome};
 use super::endings::sort_endings;
 use super::incoming_deals::sort_incoming_deals;
 use super::market::Market;
-use super::state::State;
+use super::state::TradingState;
 use audit_base::faults::NoMemory;
 use audit_base::orders::Deal;
 use audit_base::ranges::deals_in_range;
@@ -52,7 +52,7 @@ pub fn audit_continuous(
         incoming_deals: &incoming_deals,
         endings: &endings,
     };
-    let mut state = State::new(alloc, orders.len())?;
+    let mut state = TradingState::new(alloc, orders.len())?;
     if let Some(finding) = state.first_offence(&market)? {
         return Ok(Outcome::Broken(finding));
     }

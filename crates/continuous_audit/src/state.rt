@@ -17,18 +17,18 @@ use std::alloc::Global;
 
 /// What is known before an order arrives: the numbers of the earlier ones, and what of them rests.
 #[derive(Drop)]
-pub struct State {
+pub struct TradingState {
     pub numbers: DealingState,
     pub books_so_far: BooksSoFar,
 }
 
-impl State {
+impl TradingState {
     /// The state before the first of this many orders.
-    pub fn new(alloc: Global, count: usize) -> Result<State, NoMemory>
+    pub fn new(alloc: Global, count: usize) -> Result<TradingState, NoMemory>
         ensures { IfOk result (IsFirstState count) }
     {
         let numbers = DealingState::new(alloc, count)?;
-        Ok(State {
+        Ok(TradingState {
             numbers,
             books_so_far: BooksSoFar::new(alloc),
         })

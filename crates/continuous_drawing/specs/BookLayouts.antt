@@ -4,7 +4,7 @@ use Rattle.std.specs.List.{enumerate_from, fold}
 use Rattle.audit_base.specs.declared.orders.Order.{Order}
 use Rattle.continuous_picture.specs.declared.pictures.BookBefore.{BookBefore}
 use Rattle.order_book.specs.declared.books.Resting.{Resting}
-use Rattle.page_layout.specs.Axes.{point_of}
+use Rattle.page_plots.specs.Axes.{point_of}
 use Rattle.continuous_drawing.specs.declared.book_layouts.BookLayout.{BookLayout}
 use Rattle.continuous_drawing.specs.declared.book_layouts.PlacedLine.{PlacedLine}
 

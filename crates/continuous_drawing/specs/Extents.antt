@@ -3,7 +3,7 @@ use Rattle.std.specs.Prelude.{ℕ, max, min, List, Option, None, Some}
 use Rattle.std.specs.List.{fold}
 use Rattle.audit_base.specs.declared.orders.Order.{Order}
 use Rattle.audit_base.specs.Orders.{place_at}
-use Rattle.continuous_picture.specs.declared.columns.Column.{Column}
+use Rattle.continuous_picture.specs.declared.columns.PlaceColumn.{PlaceColumn}
 use Rattle.continuous_picture.specs.declared.ranges.LimitRange.{LimitRange}
 use Rattle.page_plots.specs.declared.plots.Plot.{Plot}
 use Rattle.page_plots.specs.Plots.{plot_between}
@@ -19,24 +19,24 @@ lowest_with number (Some range) = min number range.low
 
 -- the greatest, and the least, of a number and the prices of a column: of its best bids, of its
 -- best asks and of its trades
-abbrev pub highest_of : ℕ → Column → ℕ
+abbrev pub highest_of : ℕ → PlaceColumn → ℕ
 highest_of number column =
     highest_with (highest_with (highest_with number column.bids) column.asks) column.trades
 
-abbrev pub lowest_of : ℕ → Column → ℕ
+abbrev pub lowest_of : ℕ → PlaceColumn → ℕ
 lowest_of number column =
     lowest_with (lowest_with (lowest_with number column.bids) column.asks) column.trades
 
 -- the greatest price that is drawn; 0 where there is none
-abbrev pub highest_drawn : List Column → ℕ
+abbrev pub highest_drawn : List PlaceColumn → ℕ
 highest_drawn columns = fold highest_of 0 columns
 
 -- the least of a number and the prices of columns
-abbrev pub lowest_below : ℕ → List Column → ℕ
+abbrev pub lowest_below : ℕ → List PlaceColumn → ℕ
 lowest_below number columns = fold lowest_of number columns
 
 -- the plot of the places from that of the first order to before `end`, and of all prices that are
 -- drawn
-abbrev pub plot_of : List Order → ℕ → List Column → Plot
+abbrev pub plot_of : List Order → ℕ → List PlaceColumn → Plot
 plot_of orders end columns = plot_between (place_at orders 0) end
     (lowest_below (highest_drawn columns) columns) (highest_drawn columns)

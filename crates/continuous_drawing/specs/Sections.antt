@@ -5,21 +5,21 @@ use Rattle.audit_base.specs.declared.findings.Finding.{Finding}
 use Rattle.audit_base.specs.declared.orders.Deal.{Deal}
 use Rattle.audit_base.specs.declared.orders.Order.{Order}
 use Rattle.audit_base.specs.declared.terms.Side.TheVariants.{Buy, Sell}
-use Rattle.continuous_picture.specs.declared.columns.Column.{Column}
+use Rattle.continuous_picture.specs.declared.columns.PlaceColumn.{PlaceColumn}
 use Rattle.continuous_picture.specs.declared.pictures.BookBefore.{BookBefore}
 use Rattle.continuous_picture.specs.declared.pictures.ContinuousPicture.{ContinuousPicture}
 use Rattle.continuous_picture.specs.Pictures.{IsContinuousPicture}
 use Rattle.page_markup.specs.declared.words.Tag.TheVariants as tag
-use Rattle.page_plots.specs.declared.axes.Axes.{Axes}
+use Rattle.page_plots.specs.declared.plot_axes.Axes.{Axes}
 use Rattle.page_plots.specs.declared.plots.Plot.{Plot}
-use Rattle.page_plots.specs.Axes.{axes_shapes}
+use Rattle.page_plots.specs.PlotAxes.{axes_shapes}
 use Rattle.page_plots.specs.Plots.{AreAxesOf}
 use Rattle.page_parts.specs.Elements.{text_element}
 use Rattle.page_plots.specs.Figures.{figure_section}
 use Rattle.page_plots.specs.Papers.{plot_paper}
 use Rattle.continuous_drawing.specs.declared.book_layouts.BookLayout.{BookLayout}
-use Rattle.continuous_drawing.specs.declared.offending.Offence.{Offence}
-use Rattle.continuous_drawing.specs.declared.sections.Marked.{Marked}
+use Rattle.continuous_drawing.specs.declared.offending.OffendingPlace.{OffendingPlace}
+use Rattle.continuous_drawing.specs.declared.sections.MarkedTrading.{MarkedTrading}
 use Rattle.continuous_drawing.specs.BookLayouts.{IsBookLayoutOf}
 use Rattle.continuous_drawing.specs.Books.{book_paper, line_shapes}
 use Rattle.continuous_drawing.specs.Captions.{book_words, legend, picture_words}
@@ -31,7 +31,7 @@ use Rattle.continuous_drawing.specs.Trades.{trades_shapes}
 
 -- what is marked in the picture: of a finding its property, at the record that caused it, and its
 -- orders; of an accepted log nothing
-abbrev pub marked_by : Option Finding → ℕ → Marked
+abbrev pub marked_by : Option Finding → ℕ → MarkedTrading
 marked_by None place = record { offence = None; first = None; second = None }
 marked_by (Some finding) place = record {
   offence = Some (record { place = place; property = finding.property });
@@ -45,12 +45,12 @@ worded_figure heading paper shapes words =
     figure_section heading heading paper shapes (text_element tag.Paragraph words)
 
 -- the best limits of both sides, and the trades
-abbrev pub number_shapes : Plot → List Order → List Deal → List Column → List ℕ
+abbrev pub number_shapes : Plot → List Order → List Deal → List PlaceColumn → List ℕ
 number_shapes plot orders deals columns =
     flat_map (quote_shapes plot) columns ++ trades_shapes plot orders deals columns
 
 -- the axes, the best limits, the trades, the offending place, and the legend
-abbrev pub picture_shapes : Plot → Axes → List Order → List Deal → List Column → Option Offence
+abbrev pub picture_shapes : Plot → Axes → List Order → List Deal → List PlaceColumn → Option OffendingPlace
     → List ℕ
 picture_shapes plot axes orders deals columns offence =
     axes_shapes axes (codes "record") ++ number_shapes plot orders deals columns
@@ -62,52 +62,52 @@ picture_section axes shapes =
     worded_figure (codes "Best bid and best ask by record") (plot_paper axes) shapes picture_words
 
 -- the marks of the orders of the evidence
-abbrev pub book_marks : List Order → Marked → BookLayout → List ℕ
+abbrev pub book_marks : List Order → MarkedTrading → BookLayout → List ℕ
 book_marks orders marked layout =
     shown_mark orders layout (codes "1") marked.first
     ++ shown_mark orders layout (codes "2") marked.second
 
 -- the lines of both sides of a book, and the marks
-abbrev pub book_shapes : List Order → Marked → BookLayout → List ℕ
+abbrev pub book_shapes : List Order → MarkedTrading → BookLayout → List ℕ
 book_shapes orders marked layout =
     flat_map (line_shapes orders Buy) layout.bids.items
     ++ flat_map (line_shapes orders Sell) layout.asks.items ++ book_marks orders marked layout
 
 -- the section that has them
-abbrev pub book_section : List Order → Marked → BookLayout → List ℕ
+abbrev pub book_section : List Order → MarkedTrading → BookLayout → List ℕ
 book_section orders marked layout = worded_figure (codes "The book right before the record")
     (book_paper layout) (book_shapes orders marked layout) book_words
 
 -- the section of a book behind what is made: its lines lie where their numbers say
-pub record IsWithDrawnBook (orders : List Order) (marked : Marked) (book : BookBefore)
+pub record IsWithDrawnBook (orders : List Order) (marked : MarkedTrading) (book : BookBefore)
     (made more : List ℕ) : Type 0 where
   pub layout : BookLayout
   pub laid_out : IsBookLayoutOf orders book layout
   pub written : more ≡ made ++ book_section orders marked layout
 
 -- the same, where there is a book
-abbrev pub IsWithBook : List Order → Marked → Option BookBefore → List ℕ → List ℕ → Type 0
+abbrev pub IsWithBook : List Order → MarkedTrading → Option BookBefore → List ℕ → List ℕ → Type 0
 IsWithBook orders marked None made more = more ≡ made
 IsWithBook orders marked (Some book) made more = IsWithDrawnBook orders marked book made more
 
 -- the section of the best limits in a plot: the columns, the trades and the offending place lie
 -- where their numbers lie in it, and its axes are marked
 pub record IsPlottedPicture (plot : Plot) (orders : List Order) (deals : List Deal)
-    (columns : List Column) (offence : Option Offence) (text : List ℕ) : Type 0 where
+    (columns : List PlaceColumn) (offence : Option OffendingPlace) (text : List ℕ) : Type 0 where
   pub axes : Axes
   pub axes_are : AreAxesOf plot axes
   pub written : text
       ≡ picture_section axes (picture_shapes plot axes orders deals columns offence)
 
 -- the same in the plot of these places and prices
-abbrev pub IsDrawnPicture : List Order → List Deal → ℕ → List Column → Option Offence → List ℕ
+abbrev pub IsDrawnPicture : List Order → List Deal → ℕ → List PlaceColumn → Option OffendingPlace → List ℕ
     → Type 0
 IsDrawnPicture orders deals end columns offence text =
     IsPlottedPicture (plot_of orders end columns) orders deals columns offence text
 
 -- the sections with these numbers: the best limits, and behind them the book, where there is one
 pub record AreDrawnSections (orders : List Order) (deals : List Deal) (end : ℕ)
-    (numbers : ContinuousPicture) (marked : Marked) (text : List ℕ) : Type 0 where
+    (numbers : ContinuousPicture) (marked : MarkedTrading) (text : List ℕ) : Type 0 where
   pub picture : List ℕ
   pub drawn : IsDrawnPicture orders deals end numbers.columns.items marked.offence picture
   pub with_book : IsWithBook orders marked numbers.book picture text
@@ -115,7 +115,7 @@ pub record AreDrawnSections (orders : List Order) (deals : List Deal) (end : ℕ
 -- the sections that have the picture of these orders and deals: its numbers are the best limits at
 -- each place, the prices of the trades, and the book right before the offending place
 pub record AreContinuousSections (orders : List Order) (deals : List Deal) (end : ℕ)
-    (marked : Marked) (text : List ℕ) : Type 0 where
+    (marked : MarkedTrading) (text : List ℕ) : Type 0 where
   pub numbers : ContinuousPicture
   pub numbers_are : IsContinuousPicture orders deals end (offending_place marked.offence) numbers
   pub drawn : AreDrawnSections orders deals end numbers marked text

@@ -6,7 +6,7 @@ use Rattle.audit_base.specs.declared.orders.Deal.{Deal}
 use Rattle.audit_base.specs.declared.orders.Order.{Order}
 use Rattle.audit_base.specs.Continuous.{cause}
 use Rattle.audit_base.specs.Numbers.{price_text}
-use Rattle.continuous_picture.specs.declared.columns.Column.{Column}
+use Rattle.continuous_picture.specs.declared.columns.PlaceColumn.{PlaceColumn}
 use Rattle.continuous_drawing.specs.Columns.{trade_range}
 use Rattle.page_plots.specs.declared.plots.Plot.{Plot}
 use Rattle.page_plots.specs.declared.shapes.Point.{Point}
@@ -28,7 +28,7 @@ trade_shapes plot orders d =
     group (trade_title d) (circle (codes "trade") (centre_of plot orders d) 3)
 
 -- a mark for each trade; where there are more than 1,000, the prices of each column
-abbrev pub trades_shapes : Plot → List Order → List Deal → List Column → List ℕ
+abbrev pub trades_shapes : Plot → List Order → List Deal → List PlaceColumn → List ℕ
 trades_shapes plot orders deals columns = if nat_lt 1000 (length deals)
     then flat_map (trade_range plot) columns
     else flat_map (trade_shapes plot orders) deals

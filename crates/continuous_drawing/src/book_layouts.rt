@@ -7,7 +7,7 @@ use audit_base::faults::NoMemory;
 use continuous_picture::pictures::BookBefore;
 use order_book::books::Resting;
 use order_list::lists::OrderList;
-use page_layout::axes::Axis;
+use page_plots::axes::Axis;
 use std::alloc::Global;
 
 /// A line of a book with its place: its top, how far its bar reaches, and how far what is left.

@@ -7,9 +7,9 @@ ghost use Rattle.page_plots.specs.Plots.{IsPlot};
 use audit_base::faults::NoMemory;
 use audit_base::terms::Side;
 use audit_base::texts::write_number;
-use audit_report::line_parts::{Part, append_joined};
+use audit_report::line_parts::{LinePart, append_joined};
 use audit_report::words::side_word;
-use continuous_picture::columns::Column;
+use continuous_picture::columns::PlaceColumn;
 use continuous_picture::ranges::LimitRange;
 use page_markup::markup::Markup;
 use page_plots::plots::Plot;
@@ -20,7 +20,7 @@ use std::alloc::Global;
 fn range_title(
     alloc: Global,
     word: &[u8],
-    column: &Column,
+    column: &PlaceColumn,
     range: &LimitRange,
 ) -> Result<Vec<u8>, NoMemory>
     ensures { IfOk result (λ text. text.items ≡ spec.range_title word.now column.now range.now) }
@@ -28,10 +28,10 @@ fn range_title(
     let mut first = Vec::new(alloc);
     write_number(alloc, u128::from(column.first), &mut first)?;
     let parts = [
-        Part::Number(u128::from(column.next)),
-        Part::Word(word),
-        Part::Price(range.low),
-        Part::Price(range.high),
+        LinePart::Number(u128::from(column.next)),
+        LinePart::Word(word),
+        LinePart::Price(range.low),
+        LinePart::Price(range.high),
     ];
     let mut text = Vec::new(alloc);
     append_joined(alloc, &first, &parts, &mut text)?;
@@ -39,7 +39,7 @@ fn range_title(
 }
 
 /// The upper left corner of a range of a column: at the first place, and at the greatest price.
-fn corner_of(plot: Plot, column: &Column, range: &LimitRange) -> Point
+fn corner_of(plot: Plot, column: &PlaceColumn, range: &LimitRange) -> Point
     requires { IsPlot plot }
     ensures { result ≡ spec.corner_of plot column.now range.now }
 {
@@ -49,7 +49,7 @@ fn corner_of(plot: Plot, column: &Column, range: &LimitRange) -> Point
 }
 
 /// How wide a column is: up to the next one, and never so narrow that it is not seen.
-fn width_of(plot: Plot, column: &Column) -> u32
+fn width_of(plot: Plot, column: &PlaceColumn) -> u32
     requires { IsPlot plot }
     ensures { result ≡ spec.width_of plot column.now }
 {
@@ -74,7 +74,7 @@ fn with_bar(
     made: Markup,
     plot: Plot,
     class: &[u8],
-    column: &Column,
+    column: &PlaceColumn,
     range: &LimitRange,
 ) -> Result<Markup, NoMemory>
     requires { IsPlot plot }
@@ -93,7 +93,7 @@ fn with_range(
     plot: Plot,
     class: &[u8],
     word: &[u8],
-    column: &Column,
+    column: &PlaceColumn,
     range: &LimitRange,
 ) -> Result<Markup, NoMemory>
     requires { IsPlot plot }
@@ -112,7 +112,7 @@ fn with_range_if_there(
     plot: Plot,
     class: &[u8],
     word: &[u8],
-    column: &Column,
+    column: &PlaceColumn,
     range: &Option<LimitRange>,
 ) -> Result<Markup, NoMemory>
     requires { IsPlot plot }
@@ -126,7 +126,12 @@ fn with_range_if_there(
 }
 
 /// With the best bids of a column behind it.
-fn with_bids(alloc: Global, made: Markup, plot: Plot, column: &Column) -> Result<Markup, NoMemory>
+fn with_bids(
+    alloc: Global,
+    made: Markup,
+    plot: Plot,
+    column: &PlaceColumn,
+) -> Result<Markup, NoMemory>
     requires { IsPlot plot }
     ensures { IfOk result (λ more. more ≡ made ++ spec.bid_range plot column.now) }
 {
@@ -136,7 +141,12 @@ fn with_bids(alloc: Global, made: Markup, plot: Plot, column: &Column) -> Result
 }
 
 /// With the best asks of a column behind it.
-fn with_asks(alloc: Global, made: Markup, plot: Plot, column: &Column) -> Result<Markup, NoMemory>
+fn with_asks(
+    alloc: Global,
+    made: Markup,
+    plot: Plot,
+    column: &PlaceColumn,
+) -> Result<Markup, NoMemory>
     requires { IsPlot plot }
     ensures { IfOk result (λ more. more ≡ made ++ spec.ask_range plot column.now) }
 {
@@ -146,7 +156,12 @@ fn with_asks(alloc: Global, made: Markup, plot: Plot, column: &Column) -> Result
 }
 
 /// With the best limits of a column behind it.
-fn with_quotes(alloc: Global, made: Markup, plot: Plot, column: &Column) -> Result<Markup, NoMemory>
+fn with_quotes(
+    alloc: Global,
+    made: Markup,
+    plot: Plot,
+    column: &PlaceColumn,
+) -> Result<Markup, NoMemory>
     requires { IsPlot plot }
     ensures { IfOk result (λ more. more ≡ made ++ spec.quote_shapes plot column.now) }
 {
@@ -159,7 +174,7 @@ pub fn with_all_quotes(
     alloc: Global,
     made: Markup,
     plot: Plot,
-    columns: &[Column],
+    columns: &[PlaceColumn],
 ) -> Result<Markup, NoMemory>
     requires { IsPlot plot }
     ensures { IfOk result (λ more. more ≡ made ++ flat_map (spec.quote_shapes plot) columns.now) }
@@ -176,7 +191,7 @@ fn with_trade_range(
     alloc: Global,
     made: Markup,
     plot: Plot,
-    column: &Column,
+    column: &PlaceColumn,
 ) -> Result<Markup, NoMemory>
     requires { IsPlot plot }
     ensures { IfOk result (λ more. more ≡ made ++ spec.trade_range plot column.now) }
@@ -190,7 +205,7 @@ pub fn with_trade_ranges(
     alloc: Global,
     made: Markup,
     plot: Plot,
-    columns: &[Column],
+    columns: &[PlaceColumn],
 ) -> Result<Markup, NoMemory>
     requires { IsPlot plot }
     ensures { IfOk result (λ more. more ≡ made ++ flat_map (spec.trade_range plot) columns.now) }

@@ -4,7 +4,7 @@ ghost use Rattle.audit_base.specs.Orders.{place_at};
 ghost use Rattle.continuous_drawing.specs.Extents as spec;
 ghost use Rattle.page_plots.specs.Plots.{IsPlot};
 
-use continuous_picture::columns::Column;
+use continuous_picture::columns::PlaceColumn;
 use continuous_picture::ranges::LimitRange;
 use order_list::lists::OrderList;
 use page_plots::plots::Plot;
@@ -30,7 +30,7 @@ fn lowest_with(number: u64, range: Option<LimitRange>) -> u64
 }
 
 /// The greatest of a number and the prices of a column.
-fn highest_of(number: u64, column: &Column) -> u64
+fn highest_of(number: u64, column: &PlaceColumn) -> u64
     ensures { result ≡ spec.highest_of number column.now }
 {
     let with_bids = highest_with(number, column.bids);
@@ -39,7 +39,7 @@ fn highest_of(number: u64, column: &Column) -> u64
 }
 
 /// The least of a number and the prices of a column.
-fn lowest_of(number: u64, column: &Column) -> u64
+fn lowest_of(number: u64, column: &PlaceColumn) -> u64
     ensures { result ≡ spec.lowest_of number column.now }
 {
     let with_bids = lowest_with(number, column.bids);
@@ -48,7 +48,7 @@ fn lowest_of(number: u64, column: &Column) -> u64
 }
 
 /// The greatest price that is drawn; 0 where there is none.
-fn highest_drawn(columns: &[Column]) -> u64
+fn highest_drawn(columns: &[PlaceColumn]) -> u64
     ensures { result ≡ spec.highest_drawn columns.now }
 {
     let mut highest = 0;
@@ -59,7 +59,7 @@ fn highest_drawn(columns: &[Column]) -> u64
 }
 
 /// The least of a number and the prices of columns.
-fn lowest_below(number: u64, columns: &[Column]) -> u64
+fn lowest_below(number: u64, columns: &[PlaceColumn]) -> u64
     ensures { result ≡ spec.lowest_below number columns.now }
 {
     let mut lowest = number;
@@ -82,7 +82,7 @@ fn first_place(orders: &OrderList<'_>) -> u64
 
 /// The plot of the places from that of the first order to before `end`, and of the prices of these
 /// columns.
-pub fn plot_of(orders: &OrderList<'_>, end: u64, columns: &[Column]) -> Plot
+pub fn plot_of(orders: &OrderList<'_>, end: u64, columns: &[PlaceColumn]) -> Plot
     ensures same { result ≡ spec.plot_of orders.now end columns.now }
     ensures plot { IsPlot result }
 {

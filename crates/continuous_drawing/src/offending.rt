@@ -7,20 +7,20 @@ use audit_base::faults::NoMemory;
 use audit_base::findings::Property;
 use audit_base::texts::write_number;
 use page_markup::markup::Markup;
-use page_plots::axes::{BOTTOM, TOP};
+use page_plots::plot_axes::{BOTTOM, TOP};
 use page_plots::plots::Plot;
 use page_plots::shapes::{Anchor, Point, with_label, with_line};
 use std::alloc::Global;
 
 /// The place of the record at which a property is broken.
 #[derive(Clone, Copy, Debug, PartialEq, Eq)]
-pub struct Offence {
+pub struct OffendingPlace {
     pub place: u64,
     pub property: Property,
 }
 
 /// The place of an offence, if there is one.
-pub(crate) fn offending_place(offence: Option<Offence>) -> Option<u64>
+pub(crate) fn offending_place(offence: Option<OffendingPlace>) -> Option<u64>
     ensures { result ≡ spec.offending_place offence }
 {
     match offence {
@@ -30,7 +30,7 @@ pub(crate) fn offending_place(offence: Option<Offence>) -> Option<u64>
 }
 
 /// The words over the line.
-fn words_of(alloc: Global, offence: Offence) -> Result<Vec<u8>, NoMemory>
+fn words_of(alloc: Global, offence: OffendingPlace) -> Result<Vec<u8>, NoMemory>
     ensures { IfOk result (λ text. text.items ≡ spec.words_of offence) }
 {
     let mut text = Vec::from_slice(alloc, b"record ")?;
@@ -56,7 +56,12 @@ fn with_upright(alloc: Global, made: Markup, x: u32) -> Result<Markup, NoMemory>
 }
 
 /// With the words over an upright line behind it.
-fn with_words(alloc: Global, made: Markup, x: u32, offence: Offence) -> Result<Markup, NoMemory>
+fn with_words(
+    alloc: Global,
+    made: Markup,
+    x: u32,
+    offence: OffendingPlace,
+) -> Result<Markup, NoMemory>
     ensures { IfOk result (λ more. more ≡ made ++ spec.upright_words x offence) }
 {
     let text = words_of(alloc, offence)?;
@@ -69,7 +74,7 @@ fn with_line_and_words(
     alloc: Global,
     made: Markup,
     x: u32,
-    offence: Offence,
+    offence: OffendingPlace,
 ) -> Result<Markup, NoMemory>
     ensures { IfOk result (λ more. more ≡ made ++ spec.line_and_words x offence) }
 {
@@ -90,7 +95,7 @@ fn with_offence(
     alloc: Global,
     made: Markup,
     plot: Plot,
-    offence: Offence,
+    offence: OffendingPlace,
 ) -> Result<Markup, NoMemory>
     requires { IsPlot plot }
     ensures { IfOk result (λ more. more ≡ made ++ spec.offence_shapes plot offence) }
@@ -104,7 +109,7 @@ pub fn with_offending(
     alloc: Global,
     made: Markup,
     plot: Plot,
-    offence: Option<Offence>,
+    offence: Option<OffendingPlace>,
 ) -> Result<Markup, NoMemory>
     requires { IsPlot plot }
     ensures { IfOk result (λ more. more ≡ made ++ spec.offending_shapes plot offence) }

@@ -11,49 +11,49 @@ use crate::captions::{book_words, picture_words, with_legend};
 use crate::columns::with_all_quotes;
 use crate::extents::plot_of;
 use crate::marks::with_shown_mark;
-use crate::offending::{Offence, offending_place, with_offending};
+use crate::offending::{OffendingPlace, offending_place, with_offending};
 use crate::trades::with_trades;
 use audit_base::faults::NoMemory;
 use audit_base::findings::{Finding, Shown};
 use audit_base::orders::Deal;
 use audit_base::terms::Side;
-use continuous_picture::columns::Column;
+use continuous_picture::columns::PlaceColumn;
 use continuous_picture::pictures::{BookBefore, ContinuousPicture, continuous_picture};
 use order_list::lists::OrderList;
 use page_markup::markup::Markup;
 use page_markup::words::Tag;
 use page_parts::elements::with_text_element;
-use page_plots::axes::{Axes, with_axes};
 use page_plots::figures::with_figure;
 use page_plots::papers::plot_paper;
+use page_plots::plot_axes::{Axes, with_axes};
 use page_plots::plots::Plot;
 use std::alloc::Global;
 
 /// What is marked in the picture of continuous trading.
 #[derive(Clone, Copy, Debug)]
-pub struct Marked {
+pub struct MarkedTrading {
     /// The offending place, where there is one: the book right before it is drawn.
-    pub offence: Option<Offence>,
+    pub offence: Option<OffendingPlace>,
     /// What the finding shows first and second: where it is an order of this book, it is marked.
     pub first: Option<Shown>,
     pub second: Option<Shown>,
 }
 
-impl Marked {
+impl MarkedTrading {
     /// What a finding marks, whose cause is the record at a place.
-    pub fn by(finding: &Option<Finding>, place: u64) -> Marked
+    pub fn by(finding: &Option<Finding>, place: u64) -> MarkedTrading
         ensures { result ≡ spec.marked_by finding.now place }
     {
         match finding {
-            Some(finding) => Marked {
-                offence: Some(Offence {
+            Some(finding) => MarkedTrading {
+                offence: Some(OffendingPlace {
                     place,
                     property: finding.property,
                 }),
                 first: finding.first,
                 second: finding.second,
             },
-            None => Marked {
+            None => MarkedTrading {
                 offence: None,
                 first: None,
                 second: None,
@@ -85,7 +85,7 @@ fn with_numbers(
     plot: Plot,
     orders: &OrderList<'_>,
     deals: &[Deal],
-    columns: &[Column],
+    columns: &[PlaceColumn],
 ) -> Result<Markup, NoMemory>
     requires plot { IsPlot plot }
     requires deal_list { IsDealList orders.now deals.now }
@@ -103,8 +103,8 @@ fn picture_shapes(
     axes: &Axes,
     orders: &OrderList<'_>,
     deals: &[Deal],
-    columns: &[Column],
-    offence: Option<Offence>,
+    columns: &[PlaceColumn],
+    offence: Option<OffendingPlace>,
 ) -> Result<Markup, NoMemory>
     requires plot { IsPlot plot }
     requires deal_list { IsDealList orders.now deals.now }
@@ -132,7 +132,7 @@ fn with_marks(
     alloc: Global,
     made: Markup,
     orders: &OrderList<'_>,
-    marked: &Marked,
+    marked: &MarkedTrading,
     layout: &BookLayout,
 ) -> Result<Markup, NoMemory>
     ensures { IfOk result
@@ -146,7 +146,7 @@ fn with_marks(
 fn book_shapes(
     alloc: Global,
     orders: &OrderList<'_>,
-    marked: &Marked,
+    marked: &MarkedTrading,
     layout: &BookLayout,
 ) -> Result<Markup, NoMemory>
     ensures { IfOk result (λ made. made ≡ spec.book_shapes orders.now marked.now layout.now) }
@@ -161,7 +161,7 @@ fn with_book_section(
     alloc: Global,
     made: Markup,
     orders: &OrderList<'_>,
-    marked: &Marked,
+    marked: &MarkedTrading,
     layout: &BookLayout,
 ) -> Result<Markup, NoMemory>
     ensures { IfOk result
@@ -178,7 +178,7 @@ fn with_drawn_book(
     alloc: Global,
     made: Markup,
     orders: &OrderList<'_>,
-    marked: &Marked,
+    marked: &MarkedTrading,
     book: &BookBefore,
 ) -> Result<Markup, NoMemory>
     ensures { IfOk result (spec.IsWithDrawnBook orders.now marked.now book.now made) }
@@ -193,7 +193,7 @@ fn with_book_if_there(
     alloc: Global,
     made: Markup,
     orders: &OrderList<'_>,
-    marked: &Marked,
+    marked: &MarkedTrading,
     book: &Option<BookBefore>,
 ) -> Result<Markup, NoMemory>
     ensures { IfOk result (spec.IsWithBook orders.now marked.now book.now made) }
@@ -210,8 +210,8 @@ fn plotted_picture(
     plot: Plot,
     orders: &OrderList<'_>,
     deals: &[Deal],
-    columns: &[Column],
-    offence: Option<Offence>,
+    columns: &[PlaceColumn],
+    offence: Option<OffendingPlace>,
 ) -> Result<Markup, NoMemory>
     requires plot { IsPlot plot }
     requires deal_list { IsDealList orders.now deals.now }
@@ -230,8 +230,8 @@ fn drawn_picture(
     orders: &OrderList<'_>,
     deals: &[Deal],
     end: u64,
-    columns: &[Column],
-    offence: Option<Offence>,
+    columns: &[PlaceColumn],
+    offence: Option<OffendingPlace>,
 ) -> Result<Markup, NoMemory>
     requires { IsDealList orders.now deals.now }
     ensures { IfOk result
@@ -249,7 +249,7 @@ fn drawn_sections(
     deals: &[Deal],
     end: u64,
     numbers: &ContinuousPicture,
-    marked: &Marked,
+    marked: &MarkedTrading,
 ) -> Result<Markup, NoMemory>
     requires { IsDealList orders.now deals.now }
     ensures { IfOk result
@@ -268,7 +268,7 @@ pub fn continuous_sections(
     orders: &OrderList<'_>,
     deals: &[Deal],
     end: u64,
-    marked: &Marked,
+    marked: &MarkedTrading,
 ) -> Result<Markup, NoMemory>
     requires order_list { IsOrderList orders.now }
     requires deal_list { IsDealList orders.now deals.now }

@@ -10,8 +10,8 @@ use crate::columns::with_trade_ranges;
 use audit_base::faults::NoMemory;
 use audit_base::orders::Deal;
 use audit_base::texts::write_number;
-use audit_report::line_parts::{Part, append_joined};
-use continuous_picture::columns::Column;
+use audit_report::line_parts::{LinePart, append_joined};
+use continuous_picture::columns::PlaceColumn;
 use order_list::lists::OrderList;
 use page_markup::markup::Markup;
 use page_plots::plots::Plot;
@@ -28,8 +28,8 @@ fn trade_title(alloc: Global, deal: &Deal) -> Result<Vec<u8>, NoMemory>
     let mut place = Vec::new(alloc);
     write_number(alloc, u128::from(deal.place), &mut place)?;
     let parts = [
-        Part::Number(u128::from(deal.quantity.value())),
-        Part::Price(deal.price),
+        LinePart::Number(u128::from(deal.quantity.value())),
+        LinePart::Price(deal.price),
     ];
     let mut text = Vec::new(alloc);
     append_joined(alloc, &place, &parts, &mut text)?;
@@ -102,7 +102,7 @@ pub fn with_trades(
     plot: Plot,
     orders: &OrderList<'_>,
     deals: &[Deal],
-    columns: &[Column],
+    columns: &[PlaceColumn],
 ) -> Result<Markup, NoMemory>
     requires plot { IsPlot plot }
     requires deal_list { IsDealList orders.now deals.now }

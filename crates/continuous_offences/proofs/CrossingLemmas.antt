@@ -21,7 +21,7 @@ use Rattle.continuous_audit.proofs.FlawLemmas.{upto-n}
 use Rattle.offence_list.specs.ContinuousLists.{crossing_finding, order_of_record_meets}
 use Rattle.continuous_offences.specs.Books.{waits, waits_on}
 use Rattle.continuous_offences.specs.Crossing.{best_of_side}
-use Rattle.order_arrivals.specs.Resting.{stands_with}
+use Rattle.order_arrivals.specs.Resting.{has_left_with}
 
 module _ (orders : List Order) (list : IsOrderList orders) (deals : List Deal) (n : ℕ) (n_inside : n < length orders) where
   abbrev p : ℕ
@@ -37,7 +37,7 @@ module _ (orders : List Order) (list : IsOrderList orders) (deals : List Deal) (
   test side = waits_on orders deals side n (suc p) (suc p)
 
   abbrev pub stands : Bool
-  stands = stands_with (order_at orders n) (suc p) (size_of_order orders deals n) (past (suc p) n)
+  stands = has_left_with (order_at orders n) (suc p) (size_of_order orders deals n) (past (suc p) n)
 
   -- an active order is that of the record, or an earlier one that rests
   rest-parts : (x : ℕ) → rests_before_in_ledger orders past (suc p) x ≡ true → (place_at orders x < suc p) × (waits orders deals (suc p) (suc p) x ≡ true)

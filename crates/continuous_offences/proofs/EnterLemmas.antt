@@ -14,7 +14,7 @@ use Rattle.audit_base.proofs.ContinuousOffenceLemmas.{traded-more}
 use Rattle.audit_base.proofs.SumLemmas.{Contains-behind, Contains-cases, Contains-front}
 use Rattle.order_book.specs.Books.{BookSide, with_order}
 use Rattle.order_book.specs.declared.books.Resting.{Resting}
-use Rattle.continuous_offences.specs.declared.books.Books.{Books}
+use Rattle.continuous_offences.specs.declared.books.RestingBooks.{RestingBooks}
 use Rattle.continuous_offences.specs.Books.{AreBooksOf, HasOrder, IsBookOf, IsInBook, waits}
 
 -- Lists with one order more.
@@ -82,7 +82,7 @@ module _ (orders : List Order) (deals : List Deal) where
     each = λ x lt of t. absurd (omega arith);
   })
 
-  pub books-none : (place next : ℕ) (b : Books) → b.bids ≡ record { side = Buy; resting = [] } → b.asks ≡ record { side = Sell; resting = [] } → AreBooksOf orders deals 0 place next b
+  pub books-none : (place next : ℕ) (b : RestingBooks) → b.bids ≡ record { side = Buy; resting = [] } → b.asks ≡ record { side = Sell; resting = [] } → AreBooksOf orders deals 0 place next b
   books-none place next b bids asks = record {
     bid_side = ap (λ (s : BookSide). s.side) bids;
     ask_side = ap (λ (s : BookSide). s.side) asks;
@@ -96,7 +96,7 @@ module _ (orders : List Order) (deals : List Deal) where
     each = λ x lt of t. is.each x lt of (waits-earlier place place' next next' x le le' t);
   }
 
-  pub books-later : (count place place' next next' : ℕ) (b : Books) → place ≤ place' → next ≤ next' → AreBooksOf orders deals count place next b → AreBooksOf orders deals count place' next' b
+  pub books-later : (count place place' next next' : ℕ) (b : RestingBooks) → place ≤ place' → next ≤ next' → AreBooksOf orders deals count place next b → AreBooksOf orders deals count place' next' b
   books-later count place place' next next' b le le' are = record {
     bid_side = are.bid_side;
     ask_side = are.ask_side;
@@ -132,7 +132,7 @@ module _ (orders : List Order) (deals : List Deal) where
     other-side : Buy ≢ Sell
     other-side e = cc
 
-    pub books-skipped : (b : Books) → waits orders deals place next n ≡ false → AreBooksOf orders deals n place next b → AreBooksOf orders deals (suc n) place next b
+    pub books-skipped : (b : RestingBooks) → waits orders deals place next n ≡ false → AreBooksOf orders deals n place next b → AreBooksOf orders deals (suc n) place next b
     books-skipped b off are = record {
       bid_side = are.bid_side;
       ask_side = are.ask_side;
@@ -140,7 +140,7 @@ module _ (orders : List Order) (deals : List Deal) where
       asks = skipped Sell b.asks.resting (λ e t. both_ways _ off t) are.asks;
     }
 
-    pub books-bid : (b c : Books) (r : Resting) → r.index ≡ n → r.limit ≡ limit_at orders n → side_at orders n ≡ Buy → c.bids ≡ record b.bids { resting = with_order b.bids.side r b.bids.resting } → c.asks ≡ b.asks → AreBooksOf orders deals n place next b → AreBooksOf orders deals (suc n) place next c
+    pub books-bid : (b c : RestingBooks) (r : Resting) → r.index ≡ n → r.limit ≡ limit_at orders n → side_at orders n ≡ Buy → c.bids ≡ record b.bids { resting = with_order b.bids.side r b.bids.resting } → c.asks ≡ b.asks → AreBooksOf orders deals n place next b → AreBooksOf orders deals (suc n) place next c
     books-bid b c r i l of bids asks are = record {
       bid_side = ap (λ (s : BookSide). s.side) bids ∙ are.bid_side;
       ask_side = ap (λ (s : BookSide). s.side) asks ∙ are.ask_side;
@@ -148,7 +148,7 @@ module _ (orders : List Order) (deals : List Deal) where
       asks = subst (IsBookOf orders deals Sell (suc n) place next) (sym (ap (λ (s : BookSide). s.resting) asks)) (skipped Sell b.asks.resting (λ e t. other-side (sym of ∙ e)) are.asks);
     }
 
-    pub books-ask : (b c : Books) (r : Resting) → r.index ≡ n → r.limit ≡ limit_at orders n → side_at orders n ≡ Sell → c.asks ≡ record b.asks { resting = with_order b.asks.side r b.asks.resting } → c.bids ≡ b.bids → AreBooksOf orders deals n place next b → AreBooksOf orders deals (suc n) place next c
+    pub books-ask : (b c : RestingBooks) (r : Resting) → r.index ≡ n → r.limit ≡ limit_at orders n → side_at orders n ≡ Sell → c.asks ≡ record b.asks { resting = with_order b.asks.side r b.asks.resting } → c.bids ≡ b.bids → AreBooksOf orders deals n place next b → AreBooksOf orders deals (suc n) place next c
     books-ask b c r i l of asks bids are = record {
       bid_side = ap (λ (s : BookSide). s.side) bids ∙ are.bid_side;
       ask_side = ap (λ (s : BookSide). s.side) asks ∙ are.ask_side;

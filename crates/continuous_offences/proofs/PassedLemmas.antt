@@ -18,8 +18,8 @@ use Rattle.continuous_audit.specs.declared.incoming_deals.IncomingDeal.{Incoming
 use Rattle.continuous_audit.specs.Scans.{deal_index_at, incoming_deal_past_end, incoming_order_at}
 use Rattle.continuous_audit.proofs.IncomingLemmas.{incoming-cause}
 use Rattle.continuous_audit.proofs.RecordLemmas.{ends}
-use Rattle.offence_list.specs.declared.offences.Offence.{Offence}
-use Rattle.offence_list.specs.declared.offences.Offence.TheVariants.{Priority}
+use Rattle.offence_list.specs.declared.offences.ListedOffence.{ListedOffence}
+use Rattle.offence_list.specs.declared.offences.ListedOffence.TheVariants.{Priority}
 use Rattle.offence_list.specs.ListedOffences.{finding_of_offence}
 use Rattle.continuous_offences.specs.declared.dealt.Dealt.{Dealt}
 use Rattle.continuous_offences.specs.Books.{waits_on}
@@ -34,7 +34,7 @@ map-only : {A B : Type 0} (f : A → B) (b : Bool) (x : A) → option_map f (onl
 map-only f true x = refl
 map-only f false x = refl
 
-only-inside : (orders : List Order) (b : Bool) (x o : Offence) → IsOffenceInside orders x → only_if b x ≡ Some o → IsOffenceInside orders o
+only-inside : (orders : List Order) (b : Bool) (x o : ListedOffence) → IsOffenceInside orders x → only_if b x ≡ Some o → IsOffenceInside orders o
 only-inside orders true x o h e = let same : x ≡ o = cc in subst (IsOffenceInside orders) same h
 only-inside orders false x o h e = absurd (cc)
 
@@ -112,7 +112,7 @@ module _ (d : Dealt) (is : IsDealt d) (start end : ℕ) (span : AreDealsOf d sta
     rest-inside : (deal : Deal) → NamesOrders orders deal → resting_order orders deal < length orders
     rest-inside deal named = cond_both (nat_lt (place_at orders deal.bid) (place_at orders deal.ask)) deal.bid deal.ask (λ x. x < length orders) (λ t. named.bid_inside) (λ t. named.ask_inside)
 
-    passed-inside : (deal : Deal) → NamesOrders orders deal → (o : Offence) → passed_over d best deal ≡ Some o → IsOffenceInside orders o
+    passed-inside : (deal : Deal) → NamesOrders orders deal → (o : ListedOffence) → passed_over d best deal ≡ Some o → IsOffenceInside orders o
     passed-inside deal named o e =
         let r = resting_order orders deal in
         only-inside orders (better (order_at orders best) (order_at orders r)) (Priority deal.place (side_at orders r) (shown_after d best) (shown_after d r)) o (best-inside, rest-inside deal named) e
@@ -124,7 +124,7 @@ module _ (d : Dealt) (is : IsDealt d) (start end : ℕ) (span : AreDealsOf d sta
       same = found-least orders is.market.order_list deals is.market.deal_list incoming_deals is.market.incoming_deals d.order is.order finding away start span.split end f span.within stop None clean;
     }
 
-    pub passed-at : (at : ℕ) → start ≤ at → at < end → AreClean finding incoming_deals start at → (deal : Deal) → deal ≡ get_or deals (deal_index_at incoming_deals at) deal → (o : Offence) → passed_over d best deal ≡ Some o
+    pub passed-at : (at : ℕ) → start ≤ at → at < end → AreClean finding incoming_deals start at → (deal : Deal) → deal ≡ get_or deals (deal_index_at incoming_deals at) deal → (o : ListedOffence) → passed_over d best deal ≡ Some o
         → IsOffenceOf orders (Some o) (least_answer finding (length deals))
     passed-at at from lt clean deal read o e =
         let deal_is : deal ≡ deal_at deals (deal_index_at incoming_deals at) = read ∙ get_or-default deals (deal_index_at incoming_deals at) deal deal_past_end (inside-here at lt) in

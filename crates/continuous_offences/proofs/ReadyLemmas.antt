@@ -9,14 +9,14 @@ use Rattle.continuous_audit.specs.declared.incoming_deals.IncomingDeal.{Incoming
 use Rattle.continuous_audit.specs.Records.{AreTradedBefore}
 use Rattle.continuous_audit.specs.Scans.{IsSplitAt}
 use Rattle.continuous_audit.proofs.NumberLemmas.{traded-now}
-use Rattle.continuous_offences.specs.declared.books.Books.{Books}
+use Rattle.continuous_offences.specs.declared.books.RestingBooks.{RestingBooks}
 use Rattle.continuous_offences.specs.declared.dealt.Dealt.{Dealt}
-use Rattle.order_arrivals.specs.declared.market.Market.{Market}
-use Rattle.continuous_offences.specs.declared.state.State.{State}
+use Rattle.order_arrivals.specs.declared.dealt_orders.DealtOrders.{DealtOrders}
+use Rattle.continuous_offences.specs.declared.state.ListingState.{ListingState}
 use Rattle.order_arrivals.specs.Arrivals.{AreArrivals}
 use Rattle.continuous_offences.specs.Books.{AreBooksOf}
 use Rattle.continuous_offences.specs.Dealt.{IsDealt, deals_of, orders_of, place_of}
-use Rattle.order_arrivals.specs.Markets.{HaveTraded, IsMarket}
+use Rattle.order_arrivals.specs.DealtOrders.{HaveTraded, IsMarket}
 use Rattle.continuous_offences.specs.States.{IsReady}
 use Rattle.continuous_offences.proofs.EnterLemmas.{books-later}
 
@@ -30,7 +30,7 @@ split-rises incoming_deals n start end within split later = elim (cases_lt end s
       absurd (omega arith)
 ]
 
-module _ (orders : List Order) (list : IsOrderList orders) (deals : List Deal) (n : ℕ) (n_inside : n < length orders) (b : Books) where
+module _ (orders : List Order) (list : IsOrderList orders) (deals : List Deal) (n : ℕ) (n_inside : n < length orders) (b : RestingBooks) where
   abbrev p : ℕ
   p = place_at orders n
 
@@ -43,7 +43,7 @@ module _ (orders : List Order) (list : IsOrderList orders) (deals : List Deal) (
   books-next are place above = let le = above n (omega arith) in books-later orders deals (suc n) (suc p) place (suc p) place b (omega arith) (omega arith) are
 
 -- the same, in the words of the code
-pub ready-further : (m : Market) (s : State) (n : ℕ) → IsReady m (suc n) s → IsReady m (n + 1) s
+pub ready-further : (m : DealtOrders) (s : ListingState) (n : ℕ) → IsReady m (suc n) s → IsReady m (n + 1) s
 ready-further m s n is = subst (λ (k : ℕ). IsReady m k s) (sym (add-one n)) is
 
 -- what is known after the deals of an order

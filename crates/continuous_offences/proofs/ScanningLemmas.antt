@@ -24,8 +24,8 @@ use Rattle.continuous_audit.specs.Scans.{AreRunningTotals, deal_index_at, incomi
 use Rattle.continuous_audit.proofs.IncomingLemmas.{incoming-cause, running-upto}
 use Rattle.continuous_audit.proofs.RecordLemmas.{ends}
 use Rattle.continuous_audit.proofs.ScanLemmas.{running-read}
-use Rattle.offence_list.specs.declared.offences.Offence.{Offence}
-use Rattle.offence_list.specs.declared.offences.Offence.TheVariants.{Inactive, Limit, Quantity}
+use Rattle.offence_list.specs.declared.offences.ListedOffence.{ListedOffence}
+use Rattle.offence_list.specs.declared.offences.ListedOffence.TheVariants.{Inactive, Limit, Quantity}
 use Rattle.offence_list.specs.ListedOffences.{finding_of_offence}
 use Rattle.order_arrivals.specs.declared.arrivals.Arrivals.{Arrivals}
 use Rattle.order_arrivals.specs.Arrivals.{AreArrivals, flag_at}
@@ -35,10 +35,10 @@ use Rattle.order_arrivals.proofs.ArrivalLemmas.{rests-is}
 use Rattle.continuous_offences.proofs.FoundLemmas.{found-more}
 
 -- the first of what is wrong with a deal, and its finding
-abbrev first_broken : ℕ → TradedOrder → TradedOrder → TradedOrder → TradedOrder → Bool → Bool → Bool → Bool → Bool → Option Offence
+abbrev first_broken : ℕ → TradedOrder → TradedOrder → TradedOrder → TradedOrder → Bool → Bool → Bool → Bool → Bool → Option ListedOffence
 first_broken place rest come bid ask r e w b a = first_answer (only_if (not r) (Inactive place rest) ∷ only_if (not e) (Inactive place come) ∷ only_if (not w) (Limit place bid ask) ∷ only_if b (Quantity place Buy bid) ∷ only_if a (Quantity place Sell ask) ∷ [])
 
-first-made : (f : Offence → Finding) (place : ℕ) (rest come bid ask : TradedOrder) (r e w b a : Bool)
+first-made : (f : ListedOffence → Finding) (place : ℕ) (rest come bid ask : TradedOrder) (r e w b a : Bool)
     → first_answer (first_answer (only_if (not r) (f (Inactive place rest)) ∷ only_if (not e) (f (Inactive place come)) ∷ []) ∷ only_if (not w) (f (Limit place bid ask)) ∷ only_if b (f (Quantity place Buy bid)) ∷ only_if a (f (Quantity place Sell ask)) ∷ [])
     ≡ option_map f (first_broken place rest come bid ask r e w b a)
 first-made f place rest come bid ask false e w b a = refl
@@ -148,7 +148,7 @@ pub map-or : {A B : Type 0} (f : A → B) (a b : Option A) → option_map f (opt
 map-or f None b = refl
 map-or f (Some x) b = refl
 
-pub or-inside : (orders : List Order) (a b : Option Offence) → IfSome a (IsOffenceInside orders) → IfSome b (IsOffenceInside orders) → IfSome (option_or a b) (IsOffenceInside orders)
+pub or-inside : (orders : List Order) (a b : Option ListedOffence) → IfSome a (IsOffenceInside orders) → IfSome b (IsOffenceInside orders) → IfSome (option_or a b) (IsOffenceInside orders)
 or-inside orders None b x y = y
 or-inside orders (Some o) b x y = x
 
@@ -199,7 +199,7 @@ module _ (orders : List Order) (list : IsOrderList orders) (deals : List Deal) (
       )
 
   -- the first offence so far, and this deal's
-  pub first-read : (start : ℕ) → start ≤ at → (first later : Option Offence) (bt at' : ℕ) → bt ≡ get_or xs d.bid 0 + q → at' ≡ get_or xs d.ask 0 + q → later ≡ option_or first (deal_offence d (facts_with orders a before n d bt at'))
+  pub first-read : (start : ℕ) → start ≤ at → (first later : Option ListedOffence) (bt at' : ℕ) → bt ≡ get_or xs d.bid 0 + q → at' ≡ get_or xs d.ask 0 + q → later ≡ option_or first (deal_offence d (facts_with orders a before n d bt at'))
       → IsFirstFound (conservation_finding orders deals (place_at orders n)) incoming_deals n start at (option_map (finding_of_offence orders) first) → IfSome first (IsOffenceInside orders)
       → IsFirstFound (conservation_finding orders deals (place_at orders n)) incoming_deals n start (at + 1) (option_map (finding_of_offence orders) later) × IfSome later (IsOffenceInside orders)
   first-read start from first later bt at' bt_is at_is later_is found inside =
@@ -207,7 +207,7 @@ module _ (orders : List Order) (list : IsOrderList orders) (deals : List Deal) (
       let mine = deal_offence d (facts_with orders a before n d bt at') in (
         subst (IsFirstFound (conservation_finding orders deals (place_at orders n)) incoming_deals n start (at + 1)) (sym (ap (option_map (finding_of_offence orders)) later_is ∙ map-or (finding_of_offence orders) first mine))
             (found-more (conservation_finding orders deals (place_at orders n)) incoming_deals n start at from of (option_map (finding_of_offence orders) first) (option_map (finding_of_offence orders) mine) found read.0),
-        subst (λ (o : Option Offence). IfSome o (IsOffenceInside orders)) (sym later_is) (or-inside orders first mine inside read.1),
+        subst (λ (o : Option ListedOffence). IfSome o (IsOffenceInside orders)) (sym later_is) (or-inside orders first mine inside read.1),
       )
 
 -- a deal of another cause has no finding here

@@ -20,7 +20,7 @@ use Rattle.call_offences.specs.DealOffences.{IsOrderOnSide}
 use Rattle.call_offences.specs.Inside.{AreOffencesInside, IsOffenceInside}
 use Rattle.offence_list.specs.Answers.{with_answer}
 use Rattle.offence_list.specs.ContinuousLists.{crossing_finding, offence_at_place}
-use Rattle.offence_list.specs.declared.offences.Offence.{Offence}
+use Rattle.offence_list.specs.declared.offences.ListedOffence.{ListedOffence}
 use Rattle.offence_list.specs.ListedOffences.{finding_of_offence}
 use Rattle.order_book.specs.Books.{BookSide, IsAheadInBook, best_resting}
 use Rattle.order_book.specs.declared.books.Resting.{Resting}
@@ -92,11 +92,11 @@ module _ (d : Dealt) (is : IsDealt d) where
       let spread = spread_of Buy p (shown_after d best) (shown_after d o) in
       let made : crossing_of d same (Some o) ≡ only_if meets spread = λ i. only_if (limits_meet (is_bid i) (limit_at orders d.order) (limit_at orders o)) (spread_of (is_bid i) p (shown_after d best) (shown_after d o)) in
       elim (cases_Bool meets) [
-        | inl on ↦ subst (λ (x : Option Offence). IsOffenceOf orders x (crossing_finding orders deals p)) (sym (made ∙ cond-true meets (Some spread) None on)) (record {
+        | inl on ↦ subst (λ (x : Option ListedOffence). IsOffenceOf orders x (crossing_finding orders deals p)) (sym (made ∙ cond-true meets (Some spread) None on)) (record {
           inside = spread-inside Buy p best o (own-inside same same_is) (best-is orders (waits_on orders deals Sell d.order (suc p) (suc p)) o e).inside;
           same = sym (bid-meets orders is.market.order_list deals d.order is.order t is_bid o e on same (same_is ∙ own));
         })
-        | inr off ↦ subst (λ (x : Option Offence). IsOffenceOf orders x (crossing_finding orders deals p)) (sym (made ∙ cond-false meets (Some spread) None off)) (record {
+        | inr off ↦ subst (λ (x : Option ListedOffence). IsOffenceOf orders x (crossing_finding orders deals p)) (sym (made ∙ cond-false meets (Some spread) None off)) (record {
           inside = tt;
           same = sym (bid-apart orders is.market.order_list deals d.order is.order t is_bid o e off);
         })
@@ -116,11 +116,11 @@ module _ (d : Dealt) (is : IsDealt d) where
       let spread = spread_of Sell p (shown_after d best) (shown_after d o) in
       let made : crossing_of d same (Some o) ≡ only_if meets spread = λ i. only_if (limits_meet (is_ask i) (limit_at orders d.order) (limit_at orders o)) (spread_of (is_ask i) p (shown_after d best) (shown_after d o)) in
       elim (cases_Bool meets) [
-        | inl on ↦ subst (λ (x : Option Offence). IsOffenceOf orders x (crossing_finding orders deals p)) (sym (made ∙ cond-true meets (Some spread) None on)) (record {
+        | inl on ↦ subst (λ (x : Option ListedOffence). IsOffenceOf orders x (crossing_finding orders deals p)) (sym (made ∙ cond-true meets (Some spread) None on)) (record {
           inside = spread-inside Sell p best o (own-inside same same_is) (best-is orders (waits_on orders deals Buy d.order (suc p) (suc p)) o e).inside;
           same = sym (ask-meets orders is.market.order_list deals d.order is.order t is_ask o e on same (same_is ∙ own));
         })
-        | inr off ↦ subst (λ (x : Option Offence). IsOffenceOf orders x (crossing_finding orders deals p)) (sym (made ∙ cond-false meets (Some spread) None off)) (record {
+        | inr off ↦ subst (λ (x : Option ListedOffence). IsOffenceOf orders x (crossing_finding orders deals p)) (sym (made ∙ cond-false meets (Some spread) None off)) (record {
           inside = tt;
           same = sym (ask-apart orders is.market.order_list deals d.order is.order t is_ask o e off);
         })
@@ -140,20 +140,20 @@ or-none : {A : Type 0} (a : Option A) → option_or a None ≡ a
 or-none None = refl
 or-none (Some x) = refl
 
-pub first-of : (orders : List Order) (a b : Option Offence) (x y : Option Finding) → IsOffenceOf orders a x → IsOffenceOf orders b y → IsOffenceOf orders (option_or a b) (option_or x y)
+pub first-of : (orders : List Order) (a b : Option ListedOffence) (x y : Option Finding) → IsOffenceOf orders a x → IsOffenceOf orders b y → IsOffenceOf orders (option_or a b) (option_or x y)
 first-of orders a b x y one two = record {
   inside = or-inside orders a b one.inside two.inside;
   same = map-or (finding_of_offence orders) a b ∙ (λ i. option_or (one.same i) (two.same i));
 }
 
-pub place-of : (orders : List Order) (deals : List Deal) (p : ℕ) (a b c : Option Offence) → IsOffenceOf orders a (least_answer (conservation_finding orders deals p) (length deals)) → IsOffenceOf orders b (least_answer (resting_priority_finding orders deals p) (length deals)) → IsOffenceOf orders c (crossing_finding orders deals p)
+pub place-of : (orders : List Order) (deals : List Deal) (p : ℕ) (a b c : Option ListedOffence) → IsOffenceOf orders a (least_answer (conservation_finding orders deals p) (length deals)) → IsOffenceOf orders b (least_answer (resting_priority_finding orders deals p) (length deals)) → IsOffenceOf orders c (crossing_finding orders deals p)
     → IsOffenceOf orders (option_or a (option_or b c)) (offence_at_place orders deals p)
 place-of orders deals p a b c one two three =
     subst (λ (x : Option Finding). IsOffenceOf orders (option_or a (option_or b c)) (option_or (least_answer (conservation_finding orders deals p) (length deals)) (option_or (least_answer (resting_priority_finding orders deals p) (length deals)) x))) (sym (or-none (crossing_finding orders deals p)))
     (first-of orders a (option_or b c) _ _ one (first-of orders b c _ _ two three))
 
 -- The list with one offence more, where there is one.
-pub inside-further : (orders : List Order) (found later : List Offence) (o : Option Offence) → AreOffencesInside orders found → IfSome o (IsOffenceInside orders) → later ≡ with_answer found o → AreOffencesInside orders later
+pub inside-further : (orders : List Order) (found later : List ListedOffence) (o : Option ListedOffence) → AreOffencesInside orders found → IfSome o (IsOffenceInside orders) → later ≡ with_answer found o → AreOffencesInside orders later
 inside-further orders found later None all one is = rw is all
 inside-further orders found later (Some x) all one is =
     rw is (All-append (IsOffenceInside orders) found (x ∷ []) all (All-cons (IsOffenceInside orders) x [] one (λ k d lt. absurd (omega arith))))

@@ -7,7 +7,7 @@ use Rattle.audit_base.specs.declared.terms.Side.TheVariants.{Buy, Sell}
 use Rattle.audit_base.specs.Continuous.{size_of_order, traded_before}
 use Rattle.audit_base.specs.Orders.{limit_at, order_at, same_side, side_at}
 use Rattle.order_book.specs.declared.books.Resting.{Resting}
-use Rattle.continuous_offences.specs.declared.books.Books.{Books}
+use Rattle.continuous_offences.specs.declared.books.RestingBooks.{RestingBooks}
 use Rattle.continuous_offences.specs.declared.dealt.Dealt.{Dealt}
 use Rattle.continuous_offences.specs.Dealt.{deals_of, orders_of, place_of}
 use Rattle.order_arrivals.specs.Resting.{rests_with}
@@ -46,7 +46,7 @@ pub record IsBookOf (orders : List Order) (deals : List Deal) (side : Side) (cou
       → IsTrue (waits orders deals place next order) → HasOrder xs order
 
 -- the same of both books
-pub record AreBooksOf (orders : List Order) (deals : List Deal) (count place next : ℕ) (b : Books)
+pub record AreBooksOf (orders : List Order) (deals : List Deal) (count place next : ℕ) (b : RestingBooks)
     : Type 0 where
   pub bid_side : b.bids.side ≡ Buy
   pub ask_side : b.asks.side ≡ Sell

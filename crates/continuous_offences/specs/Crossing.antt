@@ -8,8 +8,8 @@ use Rattle.audit_base.specs.Expected.{limits_meet}
 use Rattle.audit_base.specs.Least.{only_if}
 use Rattle.audit_base.specs.Orders.{limit_at, order_at}
 use Rattle.audit_base.specs.Priority.{better}
-use Rattle.offence_list.specs.declared.offences.Offence.{Offence}
-use Rattle.offence_list.specs.declared.offences.Offence.TheVariants.{Spread}
+use Rattle.offence_list.specs.declared.offences.ListedOffence.{ListedOffence}
+use Rattle.offence_list.specs.declared.offences.ListedOffence.TheVariants.{Spread}
 use Rattle.continuous_offences.specs.declared.dealt.Dealt.{Dealt}
 use Rattle.continuous_offences.specs.Dealt.{orders_of, place_of, shown_after}
 use Rattle.continuous_offences.specs.Passing.{own_side}
@@ -21,12 +21,12 @@ best_of_side orders order (Some best) =
     if better (order_at orders best) (order_at orders order) then best else order
 
 -- an order of this side and one of the other meet at a place
-abbrev pub spread_of : Side → ℕ → TradedOrder → TradedOrder → Offence
+abbrev pub spread_of : Side → ℕ → TradedOrder → TradedOrder → ListedOffence
 spread_of Buy place own other = Spread place own other
 spread_of Sell place own other = Spread place other own
 
 -- the offence of an active order, by the best orders that rest
-abbrev pub crossing_of : Dealt → Option ℕ → Option ℕ → Option Offence
+abbrev pub crossing_of : Dealt → Option ℕ → Option ℕ → Option ListedOffence
 crossing_of d own None = None
 crossing_of d own (Some other) = only_if
     (limits_meet (own_side d) (limit_at (orders_of d) d.order) (limit_at (orders_of d) other))

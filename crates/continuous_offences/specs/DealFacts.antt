@@ -10,17 +10,17 @@ use Rattle.audit_base.specs.Deals.{is_price_within, number_at}
 use Rattle.audit_base.specs.Least.{first_answer, only_if}
 use Rattle.audit_base.specs.Orders.{order_at, place_at}
 use Rattle.call_offences.specs.Inside.{IsOffenceInside}
-use Rattle.offence_list.specs.declared.offences.Offence.{Offence}
-use Rattle.offence_list.specs.declared.offences.Offence.TheVariants.{Inactive, Limit, Quantity}
+use Rattle.offence_list.specs.declared.offences.ListedOffence.{ListedOffence}
+use Rattle.offence_list.specs.declared.offences.ListedOffence.TheVariants.{Inactive, Limit, Quantity}
 use Rattle.offence_list.specs.ListedOffences.{finding_of_offence}
 use Rattle.order_arrivals.specs.declared.arrivals.Arrivals.{Arrivals}
-use Rattle.continuous_offences.specs.declared.deal_offence.Account.{Account}
+use Rattle.continuous_offences.specs.declared.deal_offence.ListedAccount.{ListedAccount}
 use Rattle.continuous_offences.specs.declared.deal_offence.DealFacts.{DealFacts}
 use Rattle.order_arrivals.specs.Arrivals.{flag_at}
 use Rattle.order_arrivals.specs.Resting.{rests_with}
 
 -- an order trades more than its Size
-abbrev pub is_over_size : Account → Bool
+abbrev pub is_over_size : ListedAccount → Bool
 is_over_size account = nat_lt account.size account.traded
 
 -- the earlier order as an offence shows it, and the later one
@@ -32,7 +32,7 @@ incoming_shown facts = if facts.bid_rested then facts.ask.shown else facts.bid.s
 
 -- the first of what is wrong with a deal: 7 of the resting order, or else of the incoming one; 8;
 -- 10 of the bid; and 11 of the ask
-abbrev pub deal_offence : Deal → DealFacts → Option Offence
+abbrev pub deal_offence : Deal → DealFacts → Option ListedOffence
 deal_offence d facts = first_answer
     (only_if (not facts.rests) (Inactive d.place (resting_shown facts))
     ∷ only_if (not facts.entered) (Inactive d.place (incoming_shown facts))
@@ -46,7 +46,7 @@ shown_with a order traded =
     record { index = order; traded = traded + number_at a.chain_traded.items order }
 
 -- what is known of an order that has traded this much
-abbrev pub account_with : Arrivals → ℕ → ℕ → Account
+abbrev pub account_with : Arrivals → ℕ → ℕ → ListedAccount
 account_with a order traded = record {
   shown = shown_with a order traded;
   traded = traded;
@@ -69,7 +69,7 @@ facts_with orders a before order d bid_traded ask_traded = record {
 
 -- the offence is this finding, and its orders are in the list; there is none where there is
 -- no finding
-pub record IsOffenceOf (orders : List Order) (offence : Option Offence) (finding : Option Finding)
+pub record IsOffenceOf (orders : List Order) (offence : Option ListedOffence) (finding : Option Finding)
     : Type 0 where
   pub inside : IfSome offence (IsOffenceInside orders)
   pub same : option_map (finding_of_offence orders) offence ≡ finding

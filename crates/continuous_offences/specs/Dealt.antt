@@ -8,7 +8,7 @@ use Rattle.audit_base.specs.declared.orders.Order.{Order}
 use Rattle.continuous_audit.specs.Records.{AreTradedBefore}
 use Rattle.continuous_offences.specs.declared.dealt.Dealt.{Dealt}
 use Rattle.order_arrivals.specs.Arrivals.{AreArrivals}
-use Rattle.order_arrivals.specs.Markets.{IsMarket}
+use Rattle.order_arrivals.specs.DealtOrders.{IsMarket}
 
 -- the orders and the deals, and the place of the order
 abbrev pub orders_of : Dealt → List Order

@@ -7,14 +7,14 @@ use Rattle.audit_base.specs.Least.{only_if}
 use Rattle.audit_base.specs.Orders.{order_at, other_side, side_at}
 use Rattle.audit_base.specs.Priority.{best_order, better}
 use Rattle.continuous_audit.specs.Scans.{IsSplitAt}
-use Rattle.offence_list.specs.declared.offences.Offence.{Offence}
-use Rattle.offence_list.specs.declared.offences.Offence.TheVariants.{Priority}
+use Rattle.offence_list.specs.declared.offences.ListedOffence.{ListedOffence}
+use Rattle.offence_list.specs.declared.offences.ListedOffence.TheVariants.{Priority}
 use Rattle.continuous_offences.specs.declared.dealt.Dealt.{Dealt}
 use Rattle.continuous_offences.specs.Books.{waits_on}
 use Rattle.continuous_offences.specs.Dealt.{deals_of, orders_of, place_of, shown_after}
 
 -- the offence of a deal whose resting order the order at `best` outranks
-abbrev pub passed_over : Dealt → ℕ → Deal → Option Offence
+abbrev pub passed_over : Dealt → ℕ → Deal → Option ListedOffence
 passed_over d best deal = let resting = resting_order (orders_of d) deal in
     only_if (better (order_at (orders_of d) best) (order_at (orders_of d) resting))
     (Priority deal.place (side_at (orders_of d) resting) (shown_after d best)

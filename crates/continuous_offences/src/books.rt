@@ -17,7 +17,7 @@ use std::alloc::Global;
 
 /// The books of both sides.
 #[derive(Drop)]
-pub(crate) struct Books {
+pub(crate) struct RestingBooks {
     bids: Book,
     asks: Book,
 }
@@ -42,13 +42,13 @@ fn first_resting(dealt: &Dealt<'_, '_, '_>, place: u64, book: &mut Book) -> Opti
     None
 }
 
-impl Books {
+impl RestingBooks {
     /// Empty books.
-    pub(crate) fn new(alloc: Global) -> Books
+    pub(crate) fn new(alloc: Global) -> RestingBooks
         ensures bids { result.bids ≡ record { side = Buy; resting = [] } }
         ensures asks { result.asks ≡ record { side = Sell; resting = [] } }
     {
-        Books {
+        RestingBooks {
             bids: Book::new(alloc, Side::Buy),
             asks: Book::new(alloc, Side::Sell),
         }

@@ -11,7 +11,7 @@ use super::dealt::Dealt;
 use audit_base::flaws::TradedOrder;
 use audit_base::numbers::Price;
 use audit_base::terms::Side;
-use offence_list::offences::Offence;
+use offence_list::offences::ListedOffence;
 use order_list::lists::OrderList;
 use rank_order::comparing::better;
 
@@ -45,16 +45,16 @@ fn best_of_side(orders: &OrderList<'_>, order: usize, resting: Option<usize>) ->
 }
 
 /// An order of this side and one of the other meet at a place.
-fn spread_of(side: Side, place: u32, own: TradedOrder, other: TradedOrder) -> Offence
+fn spread_of(side: Side, place: u32, own: TradedOrder, other: TradedOrder) -> ListedOffence
     ensures { result ≡ spread_of side place own other }
 {
     match side {
-        Side::Buy => Offence::Spread {
+        Side::Buy => ListedOffence::Spread {
             place,
             bid: own,
             ask: other,
         },
-        Side::Sell => Offence::Spread {
+        Side::Sell => ListedOffence::Spread {
             place,
             bid: other,
             ask: own,
@@ -63,7 +63,7 @@ fn spread_of(side: Side, place: u32, own: TradedOrder, other: TradedOrder) -> Of
 }
 
 /// The offence where the order at hand meets the best of the other side.
-fn met(dealt: &Dealt<'_, '_, '_>, same: Option<usize>, other: usize) -> Option<Offence>
+fn met(dealt: &Dealt<'_, '_, '_>, same: Option<usize>, other: usize) -> Option<ListedOffence>
     requires dealt { IsDealt dealt.now }
     requires own { IfSome same (IsOrderOnSide (orders_of dealt.now) (own_side dealt.now)) }
     requires other { other < length (orders_of dealt.now) }
@@ -90,7 +90,7 @@ pub(crate) fn crossing_offence(
     dealt: &Dealt<'_, '_, '_>,
     same: Option<usize>,
     other: Option<usize>,
-) -> Option<Offence>
+) -> Option<ListedOffence>
     requires dealt { IsDealt dealt.now }
     requires own { IfSome same (IsOrderOnSide (orders_of dealt.now) (own_side dealt.now)) }
     requires other { IfSome other (IsOrderOnSide (orders_of dealt.now) (side_against dealt.now)) }

@@ -5,20 +5,20 @@ ghost use Rattle.audit_base.specs.Orders.{order_at};
 ghost use Rattle.continuous_offences.specs.Books.{waits};
 ghost use Rattle.continuous_offences.specs.Dealt.{IsDealt, deals_of, orders_of, place_of, shown_after};
 ghost use Rattle.continuous_offences.specs.Passing.{own_side};
-ghost use Rattle.order_arrivals.specs.Resting.{stands_with};
+ghost use Rattle.order_arrivals.specs.Resting.{has_left_with};
 
 use super::scanning::shown;
 use audit_base::flaws::TradedOrder;
 use audit_base::terms::Side;
 use matching_core::totals::left_of;
 use order_arrivals::arrivals::Arrivals;
-use order_arrivals::market::Market;
-use order_arrivals::resting::{rests, stands};
+use order_arrivals::dealt_orders::DealtOrders;
+use order_arrivals::resting::{has_left_before, rests};
 
 /// What is known after the deals of the order at `order`.
 #[derive(Clone, Copy)]
 pub(crate) struct Dealt<'m, 'a, 't> {
-    pub(crate) market: &'m Market<'m>,
+    pub(crate) market: &'m DealtOrders<'m>,
     pub(crate) arrivals: &'a Arrivals,
     /// What each order has traded.
     pub(crate) traded: &'t [u128],
@@ -64,15 +64,15 @@ impl Dealt<'_, '_, '_> {
     }
 
     /// Whether no record before a place ends an order, and something is left of it.
-    pub(crate) fn stands(&self, order: usize, place: u64) -> bool
+    pub(crate) fn has_left_before(&self, order: usize, place: u64) -> bool
         requires dealt { IsDealt self.now }
         requires order { order < length (orders_of self.now) }
-        ensures { result ≡ stands_with (order_at (orders_of self.now) order) place
+        ensures { result ≡ has_left_with (order_at (orders_of self.now) order) place
             (size_of_order (orders_of self.now) (deals_of self.now) order)
             (traded_before (orders_of self.now) (deals_of self.now) (suc (place_of self.now)) order) }
     {
         let (size, traded) = (self.arrivals.sizes[order], self.traded[order]);
-        stands(&self.market.orders.at(order), place, size, traded)
+        has_left_before(&self.market.orders.at(order), place, size, traded)
     }
 
     /// Whether it is also one that may rest.

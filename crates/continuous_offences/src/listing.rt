@@ -6,14 +6,14 @@ ghost use Rattle.call_offences.specs.Inside.{AreOffencesInside};
 ghost use Rattle.offence_list.specs.ContinuousLists as list;
 ghost use Rattle.offence_list.specs.ListedOffences.{findings_of_offences};
 
-use super::state::State;
+use super::state::ListingState;
 use audit_base::faults::NoMemory;
 use audit_base::orders::Deal;
 use continuous_audit::incoming_deals::sort_incoming_deals;
 use offence_list::answers::push_answer;
-use offence_list::offences::Offence;
+use offence_list::offences::ListedOffence;
 use order_arrivals::arrivals::arrivals_of;
-use order_arrivals::market::Market;
+use order_arrivals::dealt_orders::DealtOrders;
 use order_list::lists::OrderList;
 use std::alloc::Global;
 
@@ -26,7 +26,7 @@ pub fn continuous_offences(
     alloc: Global,
     orders: &OrderList<'_>,
     deals: &[Deal],
-) -> Result<Vec<Offence>, NoMemory>
+) -> Result<Vec<ListedOffence>, NoMemory>
     requires order_list { IsOrderList orders.now }
     requires deal_list { IsDealList orders.now deals.now }
     ensures list { IfOk result (λ found. findings_of_offences orders.now found.items
@@ -34,13 +34,13 @@ pub fn continuous_offences(
     ensures inside { IfOk result (λ found. AreOffencesInside orders.now found.items) }
 {
     let incoming_deals = sort_incoming_deals(alloc, orders, deals)?;
-    let market = Market {
+    let market = DealtOrders {
         orders,
         deals,
         incoming_deals: &incoming_deals,
     };
     let arrivals = arrivals_of(alloc, &market)?;
-    let mut state = State::new(alloc, &market)?;
+    let mut state = ListingState::new(alloc, &market)?;
     let mut found = Vec::new(alloc);
     for order in 0..orders.len() {
         let offence = state.next_offence(&market, &arrivals, order)?;

@@ -11,11 +11,11 @@ ghost use Rattle.continuous_offences.specs.Passing.{AreDealsOf, best_waiting, pa
 use super::dealt::Dealt;
 use audit_base::orders::Deal;
 use continuous_audit::incoming_deals::resting_of;
-use offence_list::offences::Offence;
+use offence_list::offences::ListedOffence;
 use rank_order::comparing::better;
 
 /// The offence of a deal whose resting order the order at `best` outranks.
-fn passed_over(dealt: &Dealt<'_, '_, '_>, best: usize, deal: &Deal) -> Option<Offence>
+fn passed_over(dealt: &Dealt<'_, '_, '_>, best: usize, deal: &Deal) -> Option<ListedOffence>
     requires dealt { IsDealt dealt.now }
     requires best { best < length (orders_of dealt.now) }
     requires named { NamesOrders (orders_of dealt.now) deal.now }
@@ -31,7 +31,7 @@ fn passed_over(dealt: &Dealt<'_, '_, '_>, best: usize, deal: &Deal) -> Option<Of
         let side = held.side();
         let ahead = dealt.shown(best);
         let own = dealt.shown(resting);
-        Some(Offence::Priority {
+        Some(ListedOffence::Priority {
             place,
             side,
             ahead,
@@ -49,7 +49,7 @@ pub(crate) fn first_passed_over(
     best: usize,
     start: usize,
     end: usize,
-) -> Option<Offence>
+) -> Option<ListedOffence>
     requires dealt { IsDealt dealt.now }
     requires deals { AreDealsOf dealt.now start end }
     requires best { best_waiting dealt.now (side_against dealt.now) (place_of dealt.now)

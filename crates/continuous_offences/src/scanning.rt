@@ -6,18 +6,18 @@ ghost use Rattle.audit_base.specs.Orders.{place_at};
 ghost use Rattle.continuous_audit.specs.Records.{AreTradedBefore, conservation_at};
 ghost use Rattle.order_arrivals.specs.Arrivals.{AreArrivals};
 ghost use Rattle.continuous_offences.specs.DealFacts.{IsOffenceOf, account_with, facts_with, shown_with};
-ghost use Rattle.order_arrivals.specs.Markets.{HaveTraded, IsMarket};
+ghost use Rattle.order_arrivals.specs.DealtOrders.{HaveTraded, IsMarket};
 
-use super::deal_offence::{Account, DealFacts, deal_offence};
+use super::deal_offence::{DealFacts, ListedAccount, deal_offence};
 use audit_base::flaws::TradedOrder;
 use audit_base::orders::Deal;
 use continuous_audit::incoming_deals::resting_of;
 use matching_core::checking::add_deal;
-use offence_list::offences::Offence;
+use offence_list::offences::ListedOffence;
 use order_arrivals::arrivals::Arrivals;
-use order_arrivals::market::Market;
+use order_arrivals::dealt_orders::DealtOrders;
 use order_arrivals::resting::rests;
-use order_arrivals::running::Totals;
+use order_arrivals::totals::RunningTotals;
 use order_list::listed::is_within;
 use order_list::lists::OrderList;
 
@@ -34,13 +34,13 @@ pub(crate) fn shown(arrivals: &Arrivals, order: usize, traded: u128) -> TradedOr
 }
 
 /// What is known of an order that has traded this much.
-fn account(arrivals: &Arrivals, order: usize, traded: u128) -> Account
+fn account(arrivals: &Arrivals, order: usize, traded: u128) -> ListedAccount
     requires order { order < length arrivals.now.chain_traded.items }
     requires size { order < length arrivals.now.sizes.items }
     requires fits { traded + number_at arrivals.now.chain_traded.items order < 2 ^ 128 }
     ensures { result ≡ account_with arrivals.now order traded }
 {
-    Account {
+    ListedAccount {
         shown: shown(arrivals, order, traded),
         traded,
         size: arrivals.sizes[order],
@@ -87,12 +87,12 @@ fn deal_facts(
 /// The first offence that one of the deals of the order at `order` has by itself. Adds all of these
 /// deals to what the orders have traded; `before` is what they have traded before its place.
 pub(crate) fn first_deal_offence(
-    market: &Market<'_>,
+    market: &DealtOrders<'_>,
     arrivals: &Arrivals,
     before: &[u128],
     order: usize,
-    running: &mut Totals,
-) -> Option<Offence>
+    running: &mut RunningTotals,
+) -> Option<ListedOffence>
     requires market { IsMarket market.now }
     requires order { order < length market.now.orders.now }
     requires arrivals { AreArrivals market.now.orders.now market.now.deals.now
@@ -123,7 +123,10 @@ pub(crate) fn first_deal_offence(
 }
 
 /// The first of two offences that is there.
-pub(crate) fn first_of(first: Option<Offence>, second: Option<Offence>) -> Option<Offence>
+pub(crate) fn first_of(
+    first: Option<ListedOffence>,
+    second: Option<ListedOffence>,
+) -> Option<ListedOffence>
     ensures { result ≡ option_or first second }
 {
     match first {

@@ -7,29 +7,29 @@ ghost use Rattle.order_arrivals.specs.Arrivals.{AreArrivals};
 ghost use Rattle.continuous_offences.specs.DealFacts.{IsOffenceOf};
 ghost use Rattle.continuous_offences.specs.Books.{AreBooksOf};
 ghost use Rattle.continuous_offences.specs.Dealt.{IsDealt, deals_of, orders_of, place_of};
-ghost use Rattle.order_arrivals.specs.Markets.{IsMarket};
+ghost use Rattle.order_arrivals.specs.DealtOrders.{IsMarket};
 ghost use Rattle.continuous_offences.specs.Passing.{AreDealsOf};
 ghost use Rattle.continuous_offences.specs.States.{IsReady};
 
-use super::books::Books;
+use super::books::RestingBooks;
 use super::crossing::crossing_offence;
 use super::dealt::Dealt;
 use super::passing::first_passed_over;
 use super::scanning::{first_deal_offence, first_of};
 use audit_base::faults::NoMemory;
-use offence_list::offences::Offence;
+use offence_list::offences::ListedOffence;
 use order_arrivals::arrivals::Arrivals;
-use order_arrivals::market::Market;
-use order_arrivals::running::Totals;
+use order_arrivals::dealt_orders::DealtOrders;
+use order_arrivals::totals::RunningTotals;
 use std::alloc::Global;
 
 /// What the orders have traded, and which of them may rest.
 #[derive(Drop)]
-pub(crate) struct State {
+pub(crate) struct ListingState {
     /// What each order has traded before the place of an order, and after its deals.
-    before: Totals,
-    after: Totals,
-    books: Books,
+    before: RunningTotals,
+    after: RunningTotals,
+    books: RestingBooks,
 }
 
 /// The offence of the first deal of the order that passes over the best order that waits.
@@ -37,8 +37,8 @@ fn passed_over(
     dealt: &Dealt<'_, '_, '_>,
     start: usize,
     end: usize,
-    books: &mut Books,
-) -> Option<Offence>
+    books: &mut RestingBooks,
+) -> Option<ListedOffence>
     requires dealt { IsDealt dealt.now }
     requires deals { AreDealsOf dealt.now start end }
     requires books { AreBooksOf (orders_of dealt.now) (deals_of dealt.now) dealt.now.order
@@ -57,7 +57,7 @@ fn passed_over(
 }
 
 /// The offence of the order's record, if the order meets one that rests.
-fn crossed(dealt: &Dealt<'_, '_, '_>, books: &mut Books) -> Option<Offence>
+fn crossed(dealt: &Dealt<'_, '_, '_>, books: &mut RestingBooks) -> Option<ListedOffence>
     requires dealt { IsDealt dealt.now }
     requires books { AreBooksOf (orders_of dealt.now) (deals_of dealt.now) dealt.now.order
         (suc (place_of dealt.now)) (suc (place_of dealt.now)) books.old }
@@ -68,7 +68,7 @@ fn crossed(dealt: &Dealt<'_, '_, '_>, books: &mut Books) -> Option<Offence>
 {
     let own = dealt.side();
     let next = dealt.place() + 1;
-    if dealt.stands(dealt.order, next) {
+    if dealt.has_left_before(dealt.order, next) {
         let other = books.best(own.other(), dealt, next);
         let same = books.best(own, dealt, next);
         crossing_offence(dealt, same, other)
@@ -78,7 +78,7 @@ fn crossed(dealt: &Dealt<'_, '_, '_>, books: &mut Books) -> Option<Offence>
 }
 
 /// Adds the order to the book of its side, if it rests after its own record.
-fn enter(dealt: &Dealt<'_, '_, '_>, books: &mut Books) -> Result<(), NoMemory>
+fn enter(dealt: &Dealt<'_, '_, '_>, books: &mut RestingBooks) -> Result<(), NoMemory>
     requires dealt { IsDealt dealt.now }
     requires books { AreBooksOf (orders_of dealt.now) (deals_of dealt.now) dealt.now.order
         (suc (place_of dealt.now)) (suc (place_of dealt.now)) books.old }
@@ -94,27 +94,27 @@ fn enter(dealt: &Dealt<'_, '_, '_>, books: &mut Books) -> Result<(), NoMemory>
     }
 }
 
-impl State {
+impl ListingState {
     /// Before the first of this many orders.
-    pub(crate) fn new(alloc: Global, market: &Market<'_>) -> Result<State, NoMemory>
+    pub(crate) fn new(alloc: Global, market: &DealtOrders<'_>) -> Result<ListingState, NoMemory>
         requires { IsMarket market.now }
         ensures { IfOk result (IsReady market.now 0) }
     {
         let count = market.orders.len();
-        Ok(State {
-            before: Totals::new(alloc, count)?,
-            after: Totals::new(alloc, count)?,
-            books: Books::new(alloc),
+        Ok(ListingState {
+            before: RunningTotals::new(alloc, count)?,
+            after: RunningTotals::new(alloc, count)?,
+            books: RestingBooks::new(alloc),
         })
     }
 
     /// The offence at the place of an order, and what is kept for the next one.
     pub(crate) fn next_offence(
         &mut self,
-        market: &Market<'_>,
+        market: &DealtOrders<'_>,
         arrivals: &Arrivals,
         order: usize,
-    ) -> Result<Option<Offence>, NoMemory>
+    ) -> Result<Option<ListedOffence>, NoMemory>
         requires market { IsMarket market.now }
         requires order { order < length market.now.orders.now }
         requires arrivals { AreArrivals market.now.orders.now market.now.deals.now

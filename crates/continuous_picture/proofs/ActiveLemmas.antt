@@ -7,7 +7,7 @@ use Rattle.audit_base.specs.declared.orders.Deal.{Deal}
 use Rattle.audit_base.specs.Continuous.{active_after, active_after_in_ledger, entered_in_ledger, left_before_in_ledger, rests_before_in_ledger, size_in_ledger, size_of_order, size_where_entered, traded_before, uncancelled_before}
 use Rattle.audit_base.specs.Orders.{may_rest, order_at, place_at}
 use Rattle.audit_base.proofs.ContinuousOffenceLemmas.{traded-more}
-use Rattle.order_arrivals.specs.Resting.{stands_with}
+use Rattle.order_arrivals.specs.Resting.{has_left_with}
 use Rattle.continuous_picture.specs.Active.{active_with, may_be_active}
 
 uncancelled-earlier : (c : Option ℕ) (p q : ℕ) → p ≤ q → uncancelled_before c q ≡ true → uncancelled_before c p ≡ true
@@ -54,7 +54,7 @@ module _ (orders : List Order) (deals : List Deal) where
   unfolding active_after_in_ledger rests_before_in_ledger size_in_ledger
   known-active p x come t =
       let o = order_at orders x in
-      let both = and_parts (may_be_active o p) (stands_with o (suc p) (size_of_order orders deals x) (past (suc p) x)) t in
+      let both = and_parts (may_be_active o p) (has_left_with o (suc p) (size_of_order orders deals x) (past (suc p) x)) t in
       let stands = and_parts (uncancelled_before o.cancelled (suc p)) (nat_lt (past (suc p) x) (size_of_order orders deals x)) both.1 in
       let fewer = ltb-true _ _ stands.1 in
       elim (or_cases (may_rest o.life) (place_at orders x == p) both.0) [
@@ -72,7 +72,7 @@ module _ (orders : List Order) (deals : List Deal) where
   active-earlier p x come t =
       let o = order_at orders x in
       let known_later = active-known (suc p) x t in
-      let both = and_parts (may_be_active o (suc p)) (stands_with o (suc (suc p)) (size_of_order orders deals x) (past (suc (suc p)) x)) known_later in
+      let both = and_parts (may_be_active o (suc p)) (has_left_with o (suc (suc p)) (size_of_order orders deals x) (past (suc (suc p)) x)) known_later in
       let stands = and_parts (uncancelled_before o.cancelled (suc (suc p))) (nat_lt (past (suc (suc p)) x) (size_of_order orders deals x)) both.1 in
       let fewer = ltb-true _ _ stands.1 in
       let grows = traded-grows x (suc p) (suc (suc p)) (omega arith) in

@@ -13,8 +13,8 @@ use Rattle.audit_base.specs.Orders.{limit_at, may_rest, order_at, place_at, same
 use Rattle.audit_base.proofs.OrderLemmas.{is-same_side, place-rises, same_side-is}
 use Rattle.continuous_audit.specs.Records.{AreTradedBefore}
 use Rattle.continuous_audit.proofs.NumberLemmas.{traded-at}
-use Rattle.order_arrivals.specs.declared.market.Market.{Market}
-use Rattle.order_arrivals.specs.Markets.{HaveTraded, IsMarket}
+use Rattle.order_arrivals.specs.declared.dealt_orders.DealtOrders.{DealtOrders}
+use Rattle.order_arrivals.specs.DealtOrders.{HaveTraded, IsMarket}
 use Rattle.order_arrivals.specs.Resting.{rests_with}
 use Rattle.order_book.specs.Books.{IsAheadInBook, best_resting, has_index_and_limit, with_order, without_order}
 use Rattle.order_book.specs.declared.books.Resting.{Resting}
@@ -103,7 +103,7 @@ module _ (orders : List Order) (deals : List Deal) where
     }
 
 -- what each order has traded before a place, by the deals of the orders before it
-pub before-known : (m : Market) → IsMarket m → (place n added : ℕ) (traded : List ℕ) → HaveTraded m n added traded → ((x : ℕ) → x < n → place_at m.orders.now x < place) → ((x : ℕ) → n ≤ x → x < length m.orders.now → place ≤ place_at m.orders.now x)
+pub before-known : (m : DealtOrders) → IsMarket m → (place n added : ℕ) (traded : List ℕ) → HaveTraded m n added traded → ((x : ℕ) → x < n → place_at m.orders.now x < place) → ((x : ℕ) → n ≤ x → x < length m.orders.now → place ≤ place_at m.orders.now x)
     → AreTradedBefore m.orders.now m.deals.now place traded
 before-known m market place n added traded has come coming =
     traded-at m.orders.now market.order_list m.deals.now market.deal_list m.incoming_deals.now market.incoming_deals place n added traded has.split has.totals (λ k inside lt. come k lt) (λ k inside le. coming k le inside)

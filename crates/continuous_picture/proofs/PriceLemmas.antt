@@ -11,8 +11,8 @@ use Rattle.continuous_audit.specs.declared.incoming_deals.IncomingDeal.{Incoming
 use Rattle.continuous_audit.specs.IncomingDeals.{incoming_deal_of}
 use Rattle.continuous_audit.specs.Scans.{deal_index_at, incoming_deal_past_end, incoming_order_at}
 use Rattle.continuous_audit.proofs.IncomingLemmas.{cause-inside, incoming-cause}
-use Rattle.order_arrivals.specs.declared.market.Market.{Market}
-use Rattle.order_arrivals.specs.Markets.{IsMarket, incoming_deal_at}
+use Rattle.order_arrivals.specs.declared.dealt_orders.DealtOrders.{DealtOrders}
+use Rattle.order_arrivals.specs.DealtOrders.{IsMarket, incoming_deal_at}
 use Rattle.continuous_picture.specs.declared.ranges.LimitRange.{LimitRange}
 use Rattle.continuous_picture.specs.declared.walks.Walk.{Walk}
 use Rattle.continuous_picture.specs.Columns.{IsPriceWithin, IsRangeIfThere}
@@ -23,7 +23,7 @@ use Rattle.continuous_picture.proofs.RangeLemmas.{HasAlso, range-same, range-wit
 
 -- The prices from one of the incoming deals to before another.
 
-module _ (m : Market) (first : ℕ) where
+module _ (m : DealtOrders) (first : ℕ) where
   abbrev Among : ℕ → ℕ → Type 0
   Among next = IsPriceAmong m first next
 
@@ -53,7 +53,7 @@ module _ (m : Market) (first : ℕ) where
 
 -- The deals of some places are the incoming deals that a walk adds from the first to behind the last.
 
-module _ (m : Market) (market : IsMarket m) (first next : ℕ) (old new : Walk) (from : IsWalk m first first old) (to : IsWalk m next next new) where
+module _ (m : DealtOrders) (market : IsMarket m) (first next : ℕ) (old new : Walk) (from : IsWalk m first first old) (to : IsWalk m next next new) where
   abbrev orders : List Order
   orders = m.orders.now
 

@@ -8,11 +8,11 @@ use Rattle.std.proofs.lemmas.List.Elements.{All-append, All-cons, All-nil}
 use Rattle.audit_base.specs.declared.orders.Deal.{Deal}
 use Rattle.audit_base.specs.declared.orders.Order.{Order}
 use Rattle.audit_base.specs.Orders.{place_at}
-use Rattle.continuous_picture.specs.declared.columns.Column.{Column}
+use Rattle.continuous_picture.specs.declared.columns.PlaceColumn.{PlaceColumn}
 use Rattle.continuous_picture.specs.Columns.{AreColumns, AreInRow, IsColumn, next_edge}
 use Rattle.continuous_picture.specs.Rows.{HasColumnBehind}
 
-row-more : (from to end : ℕ) (columns : List Column) (column : Column) → AreInRow from to columns → column.first ≡ to → column.next ≡ end → AreInRow from end (columns ++ column ∷ [])
+row-more : (from to end : ℕ) (columns : List PlaceColumn) (column : PlaceColumn) → AreInRow from to columns → column.first ≡ to → column.next ≡ end → AreInRow from end (columns ++ column ∷ [])
 row-more from to end [] column row first next = (first ∙ sym row, next)
 row-more from to end (x ∷ xs) column row first next = (row.0, row-more x.next to end xs column row.1 first next)
 
@@ -25,7 +25,7 @@ pub width-is : (places width divided : ℕ) → divided ≡ places → width ≡
 width-is places width divided same e = let both = div_ceil_times divided 1000 (omega arith) in let whole : IsWidth divided width = rw e (record { reaches = both.0; narrow = both.1 }) in subst (λ (k : ℕ). IsWidth k width) same whole
 
 -- the columns that are made so far
-pub record AreSoFar (orders : List Order) (deals : List Deal) (from end width first : ℕ) (columns : List Column) : Type 0 where
+pub record AreSoFar (orders : List Order) (deals : List Deal) (from end width first : ℕ) (columns : List PlaceColumn) : Type 0 where
   pub row : AreInRow from first columns
   pub each : All (IsColumn orders deals) columns
   pub above : from ≤ first
@@ -53,7 +53,7 @@ edge-is first end width some = elim (cases_Bool (nat_lt width (end - first))) [
 ]
 
 module _ (orders : List Order) (deals : List Deal) (from end width : ℕ) (wide : IsWidth (end - from) width) where
-  pub so-far-none : (columns : List Column) → columns ≡ [] → AreSoFar orders deals from end width from columns
+  pub so-far-none : (columns : List PlaceColumn) → columns ≡ [] → AreSoFar orders deals from end width from columns
   so-far-none columns none = rw none (record {
     row = refl;
     each = All-nil (IsColumn orders deals);
@@ -76,7 +76,7 @@ module _ (orders : List Order) (deals : List Deal) (from end width : ℕ) (wide 
       ] in
       (omega arith, omega arith)
 
-  pub so-far-more : (first next : ℕ) (columns made : List Column) → first < end → next ≡ next_edge first end width → HasColumnBehind orders deals first next columns made
+  pub so-far-more : (first next : ℕ) (columns made : List PlaceColumn) → first < end → next ≡ next_edge first end width → HasColumnBehind orders deals first next columns made
       → AreSoFar orders deals from end width first columns → AreSoFar orders deals from end width next made
   so-far-more first next columns made some e has far =
       let column = has.column in
@@ -110,7 +110,7 @@ module _ (orders : List Order) (deals : List Deal) (from end width : ℕ) (wide 
             (All-cons (λ c. c.next ≡ suc c.first) column [] (let one : width ≤ 1 = omega arith in omega (arith, moves)) (All-nil (λ c. c.next ≡ suc c.first))));
       }
 
-pub so-far-all : (orders : List Order) (deals : List Deal) (from end width first : ℕ) (columns : List Column) → from ≡ place_at orders 0 → end ≤ first → AreSoFar orders deals from end width first columns → AreColumns orders deals end columns
+pub so-far-all : (orders : List Order) (deals : List Deal) (from end width first : ℕ) (columns : List PlaceColumn) → from ≡ place_at orders 0 → end ≤ first → AreSoFar orders deals from end width first columns → AreColumns orders deals end columns
 so-far-all orders deals from end width first columns from_is last far =
     let above = far.above in
     let below = far.below in

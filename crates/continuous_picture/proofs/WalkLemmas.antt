@@ -13,8 +13,8 @@ use Rattle.audit_base.proofs.OrderLemmas.{not_both_sides, place-rises}
 use Rattle.continuous_audit.specs.Records.{AreTradedBefore}
 use Rattle.continuous_picture.specs.Sizes.{AreSizesOf}
 use Rattle.continuous_audit.proofs.NumberLemmas.{traded-at}
-use Rattle.order_arrivals.specs.declared.market.Market.{Market}
-use Rattle.order_arrivals.specs.Markets.{HaveTraded, IsMarket}
+use Rattle.order_arrivals.specs.declared.dealt_orders.DealtOrders.{DealtOrders}
+use Rattle.order_arrivals.specs.DealtOrders.{HaveTraded, IsMarket}
 use Rattle.order_book.specs.Books.{BookSide, IsAheadInBook, best_resting, with_order}
 use Rattle.order_book.specs.declared.books.Resting.{Resting}
 use Rattle.continuous_picture.specs.declared.active.Known.{Known}
@@ -33,7 +33,7 @@ book-none orders deals side place xs e = subst (IsBookOf orders deals side 0 pla
   each = λ x lt of t. absurd (omega arith);
 })
 
-pub walk-first : (m : Market) → IsMarket m → (w : Walk) → w.next ≡ 0 → w.bids ≡ record { side = Buy; resting = [] } → w.asks ≡ record { side = Sell; resting = [] } → HaveTraded m 0 w.totals.added w.totals.traded.items
+pub walk-first : (m : DealtOrders) → IsMarket m → (w : Walk) → w.next ≡ 0 → w.bids ≡ record { side = Buy; resting = [] } → w.asks ≡ record { side = Sell; resting = [] } → HaveTraded m 0 w.totals.added w.totals.traded.items
     → IsWalk m (place_at m.orders.now 0) (place_at m.orders.now 0) w
 walk-first m is w next bids asks traded =
     let orders = m.orders.now in
@@ -81,7 +81,7 @@ module _ (orders : List Order) (deals : List Deal) (n place : ℕ) where
 pub book-below : (orders : List Order) (deals : List Deal) (side : Side) (count place : ℕ) (xs : List Resting) → IsBookOf orders deals side count place xs → All (λ r. r.index < count) xs
 book-below orders deals side count place xs is = All-weaker (IsInBook orders side count) (λ r. r.index < count) (λ r own. own.inside) xs is.only
 
-module _ (m : Market) (place : ℕ) (old new : Walk) (is : IsWalk m place place old) (next : new.next ≡ old.next) (totals : new.totals ≡ old.totals) (r : Resting) (index : r.index ≡ old.next) (limit : r.limit ≡ limit_at m.orders.now old.next) where
+module _ (m : DealtOrders) (place : ℕ) (old new : Walk) (is : IsWalk m place place old) (next : new.next ≡ old.next) (totals : new.totals ≡ old.totals) (r : Resting) (index : r.index ≡ old.next) (limit : r.limit ≡ limit_at m.orders.now old.next) where
   abbrev orders : List Order
   orders = m.orders.now
 
@@ -110,7 +110,7 @@ module _ (m : Market) (place : ℕ) (old new : Walk) (is : IsWalk m place place 
 
 -- The order of a record is taken, or no order of the list has this record.
 
-module _ (m : Market) (market : IsMarket m) (place : ℕ) where
+module _ (m : DealtOrders) (market : IsMarket m) (place : ℕ) where
   abbrev orders' : List Order
   orders' = m.orders.now
 

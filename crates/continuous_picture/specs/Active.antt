@@ -6,8 +6,8 @@ use Rattle.audit_base.specs.Continuous.{size_of_order, traded_before}
 use Rattle.audit_base.specs.Orders.{may_rest, order_at}
 use Rattle.continuous_audit.specs.Records.{AreTradedBefore}
 use Rattle.continuous_picture.specs.Sizes.{AreSizesOf}
-use Rattle.order_arrivals.specs.Markets.{IsMarket}
-use Rattle.order_arrivals.specs.Resting.{stands_with}
+use Rattle.order_arrivals.specs.DealtOrders.{IsMarket}
+use Rattle.order_arrivals.specs.Resting.{has_left_with}
 use Rattle.order_book.specs.declared.books.Resting.{Resting}
 use Rattle.continuous_picture.specs.declared.active.Known.{Known}
 
@@ -18,7 +18,7 @@ may_be_active order place = may_rest order.life || (order.place == place)
 -- an order of a record up to a place is active after the record there
 abbrev pub active_with : Order → ℕ → ℕ → ℕ → Bool
 active_with order place size traded =
-    may_be_active order place && stands_with order (suc place) size traded
+    may_be_active order place && has_left_with order (suc place) size traded
 
 -- the orders and the deals
 abbrev pub orders_of : Known → List Order

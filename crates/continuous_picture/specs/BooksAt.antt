@@ -9,7 +9,7 @@ use Rattle.audit_base.specs.Priority.{Better}
 use Rattle.continuous_audit.specs.Records.{AreTradedBefore}
 use Rattle.continuous_picture.specs.Sizes.{AreSizesOf}
 use Rattle.continuous_picture.specs.declared.books_at.Before.{Before}
-use Rattle.order_arrivals.specs.Markets.{IsMarket}
+use Rattle.order_arrivals.specs.DealtOrders.{IsMarket}
 use Rattle.order_book.specs.declared.books.Resting.{Resting}
 use Rattle.continuous_picture.specs.Walks.{HasOrder}
 

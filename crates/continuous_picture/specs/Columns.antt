@@ -8,7 +8,7 @@ use Rattle.audit_base.specs.declared.terms.Side.TheVariants.{Buy, Sell}
 use Rattle.audit_base.specs.Continuous.{cause}
 use Rattle.audit_base.specs.Deals.{deal_at}
 use Rattle.audit_base.specs.Orders.{place_at}
-use Rattle.continuous_picture.specs.declared.columns.Column.{Column}
+use Rattle.continuous_picture.specs.declared.columns.PlaceColumn.{PlaceColumn}
 use Rattle.continuous_picture.specs.declared.ranges.LimitRange.{LimitRange}
 use Rattle.continuous_picture.specs.Quotes.{best_limit}
 
@@ -42,14 +42,14 @@ IsRangeIfThere Has (Some range) = IsRange Has range
 
 -- a column has the least and the greatest of the best limits of both sides at its places, and of
 -- the prices of the deals whose causes they are
-pub record IsColumn (orders : List Order) (deals : List Deal) (column : Column) : Type 0 where
+pub record IsColumn (orders : List Order) (deals : List Deal) (column : PlaceColumn) : Type 0 where
   pub some : column.first < column.next
   pub bids : IsRangeIfThere (IsBestWithin orders deals Buy column.first column.next) column.bids
   pub asks : IsRangeIfThere (IsBestWithin orders deals Sell column.first column.next) column.asks
   pub trades : IsRangeIfThere (IsPriceWithin orders deals column.first column.next) column.trades
 
 -- one column after another, from one place to before another
-abbrev pub AreInRow : ℕ → ℕ → List Column → Type 0
+abbrev pub AreInRow : ℕ → ℕ → List PlaceColumn → Type 0
 AreInRow from end [] = from ≡ end
 AreInRow from end (column ∷ columns) =
     (column.first ≡ from) × AreInRow column.next end columns
@@ -61,7 +61,7 @@ next_edge first end width = if nat_lt width (end - first) then first + width els
 -- the columns have all places from that of the first order to before another, one after another;
 -- there are at most 1,000 of them, and with as many places each has one
 pub record AreColumns (orders : List Order) (deals : List Deal) (end : ℕ)
-    (columns : List Column) : Type 0 where
+    (columns : List PlaceColumn) : Type 0 where
   pub row : AreInRow (place_at orders 0) (max (place_at orders 0) end) columns
   pub each : All (IsColumn orders deals) columns
   pub few : length columns ≤ 1000

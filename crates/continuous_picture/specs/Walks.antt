@@ -6,8 +6,8 @@ use Rattle.audit_base.specs.declared.terms.Side.{Side}
 use Rattle.audit_base.specs.declared.terms.Side.TheVariants.{Buy, Sell}
 use Rattle.audit_base.specs.Continuous.{active_after}
 use Rattle.audit_base.specs.Orders.{limit_at, place_at, side_at}
-use Rattle.order_arrivals.specs.declared.market.Market.{Market}
-use Rattle.order_arrivals.specs.Markets.{HaveTraded}
+use Rattle.order_arrivals.specs.declared.dealt_orders.DealtOrders.{DealtOrders}
+use Rattle.order_arrivals.specs.DealtOrders.{HaveTraded}
 use Rattle.order_book.specs.declared.books.Resting.{Resting}
 use Rattle.continuous_picture.specs.declared.walks.Walk.{Walk}
 
@@ -41,7 +41,7 @@ pub record AreCome (orders : List Order) (next bound : ℕ) : Type 0 where
 
 -- a walk has taken the orders of the records before `bound`, and has all that are active after
 -- `place`
-pub record IsWalk (m : Market) (bound place : ℕ) (w : Walk) : Type 0 where
+pub record IsWalk (m : DealtOrders) (bound place : ℕ) (w : Walk) : Type 0 where
   pub come : AreCome m.orders.now w.next bound
   pub traded : HaveTraded m w.next w.totals.added w.totals.traded.items
   pub bid_side : w.bids.side ≡ Buy
@@ -55,7 +55,7 @@ is_next_at orders next place = if nat_lt next (length orders) then place_at orde
     else false
 
 -- the books have the next order as well, and all else is as it was
-pub record HasNext (m : Market) (place : ℕ) (old new : Walk) : Type 0 where
+pub record HasNext (m : DealtOrders) (place : ℕ) (old new : Walk) : Type 0 where
   pub next : new.next ≡ old.next
   pub totals : new.totals ≡ old.totals
   pub bid_side : new.bids.side ≡ Buy

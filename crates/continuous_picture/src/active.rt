@@ -2,14 +2,14 @@
 ghost use Rattle.std.specs.Prelude.{◌≡◌, ◌<◌, ◌^◌, length};
 ghost use Rattle.continuous_picture.specs.Active as spec;
 
-use order_arrivals::market::Market;
-use order_arrivals::resting::stands;
+use order_arrivals::dealt_orders::DealtOrders;
+use order_arrivals::resting::has_left_before;
 use order_list::listed::ListedOrder;
 
 /// What is known after the record at a place.
 #[derive(Clone, Copy)]
 pub(crate) struct Known<'m, 's, 't> {
-    pub(crate) market: &'m Market<'m>,
+    pub(crate) market: &'m DealtOrders<'m>,
     pub(crate) sizes: &'s [u64],
     /// What each order has traded up to the place.
     pub(crate) traded: &'t [u128],
@@ -28,7 +28,7 @@ fn is_active_with(order: &ListedOrder<'_>, place: u64, size: u64, traded: u128) 
     requires { place < 2 ^ 33 }
     ensures { result ≡ spec.active_with order.now place size traded }
 {
-    may_be_active(order, place) && stands(order, place + 1, size, traded)
+    may_be_active(order, place) && has_left_before(order, place + 1, size, traded)
 }
 
 impl Known<'_, '_, '_> {

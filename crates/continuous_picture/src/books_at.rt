@@ -5,15 +5,15 @@ ghost use Rattle.audit_base.specs.Orders.{place_at, same_side, side_at};
 ghost use Rattle.continuous_audit.specs.Records.{AreTradedBefore};
 ghost use Rattle.continuous_picture.specs.BooksAt.{AreLines, IsBefore, IsBookAt, deals_before, orders_before};
 ghost use Rattle.continuous_picture.specs.Sizes.{AreSizesOf};
-ghost use Rattle.order_arrivals.specs.Markets.{IsMarket};
+ghost use Rattle.order_arrivals.specs.DealtOrders.{IsMarket};
 ghost use Rattle.order_book.specs.Books.{IsAheadInBook};
 
 use audit_base::faults::NoMemory;
 use audit_base::terms::Side;
 use matching_core::totals::left_of;
-use order_arrivals::market::Market;
+use order_arrivals::dealt_orders::DealtOrders;
 use order_arrivals::resting::rests;
-use order_arrivals::running::Totals;
+use order_arrivals::totals::RunningTotals;
 use order_book::books::{Book, Resting};
 use order_list::lists::OrderList;
 use std::alloc::Global;
@@ -24,7 +24,7 @@ const MOST_LINES: usize = 10;
 /// What is known right before the record at a place.
 #[derive(Clone, Copy)]
 struct Before<'m, 's, 't> {
-    market: &'m Market<'m>,
+    market: &'m DealtOrders<'m>,
     sizes: &'s [u64],
     /// What each order has traded before the place.
     traded: &'t [u128],
@@ -40,13 +40,17 @@ fn is_from(orders: &OrderList<'_>, order: usize, place: u64) -> bool
 }
 
 /// What each order has traded before a place.
-fn totals_before(alloc: Global, market: &Market<'_>, place: u64) -> Result<Totals, NoMemory>
+fn totals_before(
+    alloc: Global,
+    market: &DealtOrders<'_>,
+    place: u64,
+) -> Result<RunningTotals, NoMemory>
     requires { IsMarket market.now }
     ensures { IfOk result (λ totals. AreTradedBefore market.now.orders.now market.now.deals.now
         place totals.traded.items) }
 {
     let orders = market.orders;
-    let mut totals = Totals::new(alloc, orders.len())?;
+    let mut totals = RunningTotals::new(alloc, orders.len())?;
     for order in 0..orders.len() {
         if is_from(orders, order, place) {
             return Ok(totals);
@@ -154,7 +158,7 @@ fn first_lines(alloc: Global, book: &mut Book) -> Result<Vec<Resting>, NoMemory>
 /// left of it. Err only out of memory.
 pub fn book_at(
     alloc: Global,
-    market: &Market<'_>,
+    market: &DealtOrders<'_>,
     sizes: &[u64],
     side: Side,
     place: u64,

@@ -5,13 +5,13 @@ ghost use Rattle.continuous_picture.specs.Columns.{AreColumns, IsColumn, next_ed
 ghost use Rattle.continuous_picture.specs.Rows.{HasColumnBehind};
 ghost use Rattle.continuous_picture.specs.Sizes.{AreSizesOf};
 ghost use Rattle.continuous_picture.specs.Walks.{IsWalk};
-ghost use Rattle.order_arrivals.specs.Markets.{IsMarket};
+ghost use Rattle.order_arrivals.specs.DealtOrders.{IsMarket};
 
 use crate::prices::prices_of;
 use crate::ranges::{LimitRange, with_limit};
 use crate::walks::Walk;
 use audit_base::faults::NoMemory;
-use order_arrivals::market::Market;
+use order_arrivals::dealt_orders::DealtOrders;
 use std::alloc::Global;
 
 /// The greatest number of columns.
@@ -20,7 +20,7 @@ pub const MOST_COLUMNS: u64 = 1000;
 /// The places from one to before another, with the least and the greatest best limit of each side
 /// there, and the least and the greatest price of the trades whose cause is there.
 #[derive(Clone, Copy, Debug, PartialEq, Eq)]
-pub struct Column {
+pub struct PlaceColumn {
     pub first: u64,
     pub next: u64,
     pub bids: Option<LimitRange>,
@@ -30,10 +30,10 @@ pub struct Column {
 
 /// Adds the column of these places, at the first of which the walk is, behind the others.
 fn add_column(
-    market: &Market<'_>,
+    market: &DealtOrders<'_>,
     sizes: &[u64],
     walk: &mut Walk,
-    columns: &mut Vec<Column>,
+    columns: &mut Vec<PlaceColumn>,
     first: u64,
     next: u64,
 ) -> Result<(), NoMemory>
@@ -55,7 +55,7 @@ fn add_column(
     }
     let after = walk.added();
     let trades = prices_of(market, before, after);
-    columns.push(Column {
+    columns.push(PlaceColumn {
         first,
         next,
         bids,
@@ -78,7 +78,7 @@ fn next_edge(first: u64, end: u64, width: u64) -> u64
 }
 
 /// The place of the first order, or 0 where there is none.
-fn first_place(market: &Market<'_>) -> u64
+fn first_place(market: &DealtOrders<'_>) -> u64
     ensures { result ≡ place_at market.now.orders.now 0 }
 {
     match market.orders.get(0) {
@@ -90,10 +90,10 @@ fn first_place(market: &Market<'_>) -> u64
 /// The columns from the place of the first order to before another. Err only out of memory.
 pub fn columns_of(
     alloc: Global,
-    market: &Market<'_>,
+    market: &DealtOrders<'_>,
     sizes: &[u64],
     end: u64,
-) -> Result<Vec<Column>, NoMemory>
+) -> Result<Vec<PlaceColumn>, NoMemory>
     requires market { IsMarket market.now }
     requires sizes { AreSizesOf market.now.orders.now market.now.deals.now sizes.now }
     requires fits { end < 2 ^ 33 }

@@ -4,16 +4,16 @@ ghost use Rattle.audit_base.specs.Deals.{IsDealList};
 ghost use Rattle.audit_base.specs.Orders.{IsOrderList};
 ghost use Rattle.continuous_picture.specs.Pictures.{IsBookBefore, IsBookIfAsked, IsContinuousPicture};
 ghost use Rattle.continuous_picture.specs.Sizes.{AreSizesOf};
-ghost use Rattle.order_arrivals.specs.Markets.{IsMarket};
+ghost use Rattle.order_arrivals.specs.DealtOrders.{IsMarket};
 
 use crate::books_at::book_at;
-use crate::columns::{Column, columns_of};
+use crate::columns::{PlaceColumn, columns_of};
 use audit_base::faults::NoMemory;
 use audit_base::orders::Deal;
 use audit_base::terms::Side;
 use continuous_audit::incoming_deals::sort_incoming_deals;
 use order_arrivals::arrivals::arrivals_of;
-use order_arrivals::market::Market;
+use order_arrivals::dealt_orders::DealtOrders;
 use order_book::books::Resting;
 use order_list::lists::OrderList;
 use std::alloc::Global;
@@ -29,14 +29,14 @@ pub struct BookBefore {
 /// The columns of the picture, and the book where one is asked for.
 #[derive(Debug, Drop)]
 pub struct ContinuousPicture {
-    pub columns: Vec<Column>,
+    pub columns: Vec<PlaceColumn>,
     pub book: Option<BookBefore>,
 }
 
 /// The book right before the record at a place.
 fn book_before(
     alloc: Global,
-    market: &Market<'_>,
+    market: &DealtOrders<'_>,
     sizes: &[u64],
     place: u64,
 ) -> Result<BookBefore, NoMemory>
@@ -54,7 +54,7 @@ fn book_before(
 /// The same, where a place is given.
 fn book_if_asked(
     alloc: Global,
-    market: &Market<'_>,
+    market: &DealtOrders<'_>,
     sizes: &[u64],
     place: Option<u64>,
 ) -> Result<Option<BookBefore>, NoMemory>
@@ -88,7 +88,7 @@ pub fn continuous_picture(
     ensures { IfOk result (IsContinuousPicture orders.now deals.now end place) }
 {
     let incoming_deals = sort_incoming_deals(alloc, orders, deals)?;
-    let market = Market {
+    let market = DealtOrders {
         orders,
         deals,
         incoming_deals: &incoming_deals,

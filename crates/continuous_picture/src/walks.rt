@@ -5,7 +5,7 @@ ghost use Rattle.continuous_picture.specs.Active.{IsKnown, is_active_in_book, or
 ghost use Rattle.continuous_picture.specs.Quotes.{IsQuoteAt};
 ghost use Rattle.continuous_picture.specs.Sizes.{AreSizesOf};
 ghost use Rattle.continuous_picture.specs.Walks.{HasNext, IsWalk, from_first, is_next_at};
-ghost use Rattle.order_arrivals.specs.Markets.{IsMarket};
+ghost use Rattle.order_arrivals.specs.DealtOrders.{IsMarket};
 ghost use Rattle.order_book.specs.Books.{IsAheadInBook, best_resting};
 
 use crate::active::Known;
@@ -13,8 +13,8 @@ use crate::quotes::Quote;
 use audit_base::faults::NoMemory;
 use audit_base::numbers::Price;
 use audit_base::terms::Side;
-use order_arrivals::market::Market;
-use order_arrivals::running::Totals;
+use order_arrivals::dealt_orders::DealtOrders;
+use order_arrivals::totals::RunningTotals;
 use order_book::books::Book;
 use std::alloc::Global;
 
@@ -24,7 +24,7 @@ pub(crate) struct Walk {
     /// The orders that may be active. What is left of them is not kept there.
     bids: Book,
     asks: Book,
-    totals: Totals,
+    totals: RunningTotals,
     /// The index of the first order that has not come.
     next: usize,
 }
@@ -51,7 +51,7 @@ fn first_active(known: &Known<'_, '_, '_>, book: &mut Book) -> Option<Price>
 
 impl Walk {
     /// At the place of the first order.
-    pub(crate) fn new(alloc: Global, market: &Market<'_>) -> Result<Walk, NoMemory>
+    pub(crate) fn new(alloc: Global, market: &DealtOrders<'_>) -> Result<Walk, NoMemory>
         requires { IsMarket market.now }
         ensures { let place = place_at market.now.orders.now 0 in
             IfOk result (IsWalk market.now place place) }
@@ -59,7 +59,7 @@ impl Walk {
         Ok(Walk {
             bids: Book::new(alloc, Side::Buy),
             asks: Book::new(alloc, Side::Sell),
-            totals: Totals::new(alloc, market.orders.len())?,
+            totals: RunningTotals::new(alloc, market.orders.len())?,
             next: 0,
         })
     }
@@ -72,7 +72,7 @@ impl Walk {
     }
 
     /// Whether the next order is that of the record at a place.
-    fn has_order_at(&self, market: &Market<'_>, place: u64) -> bool
+    fn has_order_at(&self, market: &DealtOrders<'_>, place: u64) -> bool
         ensures { result ≡ is_next_at market.now.orders.now self.now.next place }
     {
         if self.next < market.orders.len() {
@@ -83,7 +83,7 @@ impl Walk {
     }
 
     /// Puts the next order into the book of its side.
-    fn add_next(&mut self, market: &Market<'_>, place: u64) -> Result<(), NoMemory>
+    fn add_next(&mut self, market: &DealtOrders<'_>, place: u64) -> Result<(), NoMemory>
         requires market { IsMarket market.now }
         requires walk { IsWalk market.now place place self.old }
         requires next { self.old.next < length market.now.orders.now }
@@ -98,7 +98,7 @@ impl Walk {
     }
 
     /// Takes the order of the record at a place, if it is one of the list.
-    fn take(&mut self, market: &Market<'_>, place: u64) -> Result<(), NoMemory>
+    fn take(&mut self, market: &DealtOrders<'_>, place: u64) -> Result<(), NoMemory>
         requires market { IsMarket market.now }
         requires walk { IsWalk market.now place place self.old }
         ensures { OnOk result (IsWalk market.now (suc place) place self.new) }
@@ -113,7 +113,7 @@ impl Walk {
     }
 
     /// The best limits after the record at a place.
-    fn quote(&mut self, market: &Market<'_>, sizes: &[u64], place: u64) -> Quote
+    fn quote(&mut self, market: &DealtOrders<'_>, sizes: &[u64], place: u64) -> Quote
         requires market { IsMarket market.now }
         requires sizes { AreSizesOf market.now.orders.now market.now.deals.now sizes.now }
         requires fits { place < 2 ^ 33 }
@@ -135,7 +135,7 @@ impl Walk {
     /// The best limits after the record at a place, at which the walk is, and goes on to the next.
     pub(crate) fn next_quote(
         &mut self,
-        market: &Market<'_>,
+        market: &DealtOrders<'_>,
         sizes: &[u64],
         place: u64,
     ) -> Result<Quote, NoMemory>

@@ -5,9 +5,9 @@ use Rattle.audit_base.specs.declared.faults.Reason.{Reason}
 use Rattle.audit_base.specs.declared.records.OrderRecord.{OrderRecord}
 use Rattle.audit_base.specs.declared.records.OrderRecord.TheVariants as record_of
 use Rattle.audit_base.specs.declared.terms.Life.TheVariants as life
-use Rattle.csv_logs.specs.declared.orders.Head.{Head}
-use Rattle.csv_logs.specs.declared.orders.Kind.{Kind}
-use Rattle.csv_logs.specs.declared.orders.Kind.TheVariants as kind
+use Rattle.csv_logs.specs.declared.orders.LineHead.{LineHead}
+use Rattle.csv_logs.specs.declared.orders.LineKind.{LineKind}
+use Rattle.csv_logs.specs.declared.orders.LineKind.TheVariants as kind
 use Rattle.csv_logs.specs.Columns.{◌>>=◌, column_text, in_column, row_name, row_side, row_quantity, row_price, row_blank}
 use Rattle.audit_base.specs.Numbers.{market_price}
 use Rattle.csv_logs.specs.OrderLines.{kind_form, row_head, row_limit_order, row_market_order, row_cancel, row_replacement, order_of_kind, order_of_row}
@@ -25,27 +25,27 @@ four (Ok w) (Ok x) (Err why) d make order e each = absurd (cc e)
 four (Ok w) (Err why) c d make order e each = absurd (cc e)
 four (Err why) b c d make order e each = absurd (cc e)
 
-limit-priced : (head : Head) (fields : List (List ℕ)) (order : OrderRecord) → row_limit_order head life.Rests fields ≡ Ok order → HasMarketPrice order
+limit-priced : (head : LineHead) (fields : List (List ℕ)) (order : OrderRecord) → row_limit_order head life.Rests fields ≡ Ok order → HasMarketPrice order
 limit-priced head fields order e =
     four (row_side 6 fields) (row_quantity 7 fields) (row_price 8 fields) (row_blank 9 fields) (λ side quantity price none. record_of.New head.key head.time head.symbol side quantity price life.Rests) order e (λ _ _ _ _ other. cc other)
 
-immediate-priced : (head : Head) (fields : List (List ℕ)) (order : OrderRecord) → row_limit_order head life.Immediate fields ≡ Ok order → HasMarketPrice order
+immediate-priced : (head : LineHead) (fields : List (List ℕ)) (order : OrderRecord) → row_limit_order head life.Immediate fields ≡ Ok order → HasMarketPrice order
 immediate-priced head fields order e =
     four (row_side 6 fields) (row_quantity 7 fields) (row_price 8 fields) (row_blank 9 fields) (λ side quantity price none. record_of.New head.key head.time head.symbol side quantity price life.Immediate) order e (λ _ _ _ _ other. cc other)
 
-market-priced : (head : Head) (fields : List (List ℕ)) (order : OrderRecord) → row_market_order head fields ≡ Ok order → HasMarketPrice order
+market-priced : (head : LineHead) (fields : List (List ℕ)) (order : OrderRecord) → row_market_order head fields ≡ Ok order → HasMarketPrice order
 market-priced head fields order e =
     four (row_side 6 fields) (row_quantity 7 fields) (row_blank 8 fields) (row_blank 9 fields) (λ side quantity none nothing. record_of.New head.key head.time head.symbol side quantity (market_price side) life.Market) order e (λ _ _ _ _ _. refl)
 
-cancel-priced : (head : Head) (fields : List (List ℕ)) (order : OrderRecord) → row_cancel head fields ≡ Ok order → HasMarketPrice order
+cancel-priced : (head : LineHead) (fields : List (List ℕ)) (order : OrderRecord) → row_cancel head fields ≡ Ok order → HasMarketPrice order
 cancel-priced head fields order e =
     four (row_blank 6 fields) (row_blank 7 fields) (row_blank 8 fields) (row_name 9 fields) (λ x y z target. record_of.Cancel head.key head.time head.symbol target) order e (λ _ _ _ _. tt)
 
-replace-priced : (head : Head) (fields : List (List ℕ)) (order : OrderRecord) → row_replacement head fields ≡ Ok order → HasMarketPrice order
+replace-priced : (head : LineHead) (fields : List (List ℕ)) (order : OrderRecord) → row_replacement head fields ≡ Ok order → HasMarketPrice order
 replace-priced head fields order e =
     four (row_side 6 fields) (row_quantity 7 fields) (row_price 8 fields) (row_name 9 fields) (λ side quantity price target. record_of.Replace head.key head.time head.symbol target side quantity price) order e (λ _ _ _ _. tt)
 
-order-priced : (k : Kind) (head : Head) (fields : List (List ℕ)) (order : OrderRecord) → order_of_kind k head fields ≡ Ok order → HasMarketPrice order
+order-priced : (k : LineKind) (head : LineHead) (fields : List (List ℕ)) (order : OrderRecord) → order_of_kind k head fields ≡ Ok order → HasMarketPrice order
 order-priced kind.New head fields order e = limit-priced head fields order e
 order-priced kind.Immediate head fields order e = immediate-priced head fields order e
 order-priced kind.Market head fields order e = market-priced head fields order e

@@ -9,9 +9,9 @@ use Rattle.audit_base.specs.Numbers.{price_form, quantity_form}
 use Rattle.audit_base.specs.RecordRanges.{RecordInRange}
 use Rattle.audit_base.specs.Trades.{TradeInRange}
 use Rattle.audit_base.proofs.RangeLemmas.{IsQuantity, market-range, price-range, quantity-range}
-use Rattle.csv_logs.specs.declared.orders.Head.{Head}
-use Rattle.csv_logs.specs.declared.orders.Kind.{Kind}
-use Rattle.csv_logs.specs.declared.orders.Kind.TheVariants as kind
+use Rattle.csv_logs.specs.declared.orders.LineHead.{LineHead}
+use Rattle.csv_logs.specs.declared.orders.LineKind.{LineKind}
+use Rattle.csv_logs.specs.declared.orders.LineKind.TheVariants as kind
 use Rattle.csv_logs.specs.Columns.{◌>>=◌, column_text, row_blank, in_column, row_name, row_price, row_quantity, row_side, row_stamp}
 use Rattle.csv_logs.specs.Laws.{CsvOrdersAreInRange, CsvTradesAreInRange}
 use Rattle.csv_logs.specs.OrderLines.{row_cancel, row_head, kind_form, row_limit_order, row_market_order, order_of_row, order_of_kind, row_replacement}
@@ -47,32 +47,32 @@ trade-known fields =
     behind-known IsQuantity TradeInRange (row_quantity 8 fields) _ (quantity-known 8 fields) (λ quantity is.
     behind-known IsPrice TradeInRange (row_price 9 fields) _ (price-known 9 fields) (λ price priced. record { some = is.some; most = is.most; priced = priced }))))))
 
-limit-known : (head : Head) (the_life : Life) (fields : List (List ℕ)) → IfOk (row_limit_order head the_life fields) RecordInRange
+limit-known : (head : LineHead) (the_life : Life) (fields : List (List ℕ)) → IfOk (row_limit_order head the_life fields) RecordInRange
 limit-known head the_life fields =
     behind RecordInRange (row_side 6 fields) _ (λ side.
     behind-known IsQuantity RecordInRange (row_quantity 7 fields) _ (quantity-known 7 fields) (λ quantity is.
     behind-known IsPrice RecordInRange (row_price 8 fields) _ (price-known 8 fields) (λ price priced.
     behind RecordInRange (row_blank 9 fields) _ (λ none. record { some = is.some; most = is.most; priced = priced }))))
 
-market-known : (head : Head) (fields : List (List ℕ)) → IfOk (row_market_order head fields) RecordInRange
+market-known : (head : LineHead) (fields : List (List ℕ)) → IfOk (row_market_order head fields) RecordInRange
 market-known head fields =
     behind RecordInRange (row_side 6 fields) _ (λ side.
     behind-known IsQuantity RecordInRange (row_quantity 7 fields) _ (quantity-known 7 fields) (λ quantity is.
     behind RecordInRange (row_blank 8 fields) _ (λ none.
     behind RecordInRange (row_blank 9 fields) _ (λ nothing. record { some = is.some; most = is.most; priced = market-range side }))))
 
-cancel-known : (head : Head) (fields : List (List ℕ)) → IfOk (row_cancel head fields) RecordInRange
+cancel-known : (head : LineHead) (fields : List (List ℕ)) → IfOk (row_cancel head fields) RecordInRange
 cancel-known head fields =
     behind RecordInRange (row_blank 6 fields) _ (λ _. behind RecordInRange (row_blank 7 fields) _ (λ _. behind RecordInRange (row_blank 8 fields) _ (λ _. behind RecordInRange (row_name 9 fields) _ (λ target. tt))))
 
-replace-known : (head : Head) (fields : List (List ℕ)) → IfOk (row_replacement head fields) RecordInRange
+replace-known : (head : LineHead) (fields : List (List ℕ)) → IfOk (row_replacement head fields) RecordInRange
 replace-known head fields =
     behind RecordInRange (row_side 6 fields) _ (λ side.
     behind-known IsQuantity RecordInRange (row_quantity 7 fields) _ (quantity-known 7 fields) (λ quantity is.
     behind-known IsPrice RecordInRange (row_price 8 fields) _ (price-known 8 fields) (λ price priced.
     behind RecordInRange (row_name 9 fields) _ (λ target. record { some = is.some; most = is.most; priced = priced }))))
 
-kind-known : (k : Kind) (head : Head) (fields : List (List ℕ)) → IfOk (order_of_kind k head fields) RecordInRange
+kind-known : (k : LineKind) (head : LineHead) (fields : List (List ℕ)) → IfOk (order_of_kind k head fields) RecordInRange
 kind-known kind.New head fields = limit-known head life.Rests fields
 kind-known kind.Immediate head fields = limit-known head life.Immediate fields
 kind-known kind.Market head fields = market-known head fields

@@ -12,10 +12,10 @@ use Rattle.audit_base.specs.declared.terms.Life.{Life}
 use Rattle.audit_base.specs.declared.terms.Life.TheVariants as life
 use Rattle.audit_base.specs.declared.terms.Side.{Side}
 use Rattle.audit_base.specs.declared.terms.Side.TheVariants as side
-use Rattle.csv_logs.specs.declared.orders.Head.{Head}
-use Rattle.csv_logs.specs.declared.orders.Kind.{Kind}
-use Rattle.csv_logs.specs.declared.orders.Kind.TheVariants as kind
-use Rattle.csv_logs.specs.declared.orders.Terms.{Terms}
+use Rattle.csv_logs.specs.declared.orders.LineHead.{LineHead}
+use Rattle.csv_logs.specs.declared.orders.LineKind.{LineKind}
+use Rattle.csv_logs.specs.declared.orders.LineKind.TheVariants as kind
+use Rattle.csv_logs.specs.declared.orders.LineTerms.{LineTerms}
 use Rattle.csv_logs.specs.Columns.{row_side_form}
 use Rattle.csv_logs.specs.OrderLines.{kind_form, order_of_row}
 use Rattle.csv_logs.specs.TradeLines.{trade_of_row}
@@ -46,7 +46,7 @@ side-again : (s : Side) → row_side_form (row_side_text s) ≡ Some s
 side-again side.Buy = refl
 side-again side.Sell = refl
 
-abbrev kind_by : Life → Kind
+abbrev kind_by : Life → LineKind
 kind_by life.Rests = kind.New
 kind_by life.Immediate = kind.Immediate
 kind_by life.Market = kind.Market
@@ -66,7 +66,7 @@ kind-unquoted life.Immediate = refl
 kind-unquoted life.Market = refl
 
 -- a line of an order means the order
-new-again : (head : Head) (terms : Terms) (l : Life) → is_name head.key.firm ≡ true → is_name head.key.id ≡ true → stamp_form (stamp_text head.time) ≡ Some head.time → is_name head.symbol ≡ true
+new-again : (head : LineHead) (terms : LineTerms) (l : Life) → is_name head.key.firm ≡ true → is_name head.key.id ≡ true → stamp_form (stamp_text head.time) ≡ Some head.time → is_name head.symbol ≡ true
     → quantity_form (decimal terms.quantity) ≡ Some terms.quantity → price_form (price_text terms.price) ≡ Some terms.price → HasMarketPrice (csv_new_order head terms l)
     → order_of_row (order_row (csv_new_order head terms l)) ≡ Ok (csv_new_order head terms l)
 unfolding order_of_row field_at
@@ -74,12 +74,12 @@ new-again head terms life.Rests a b c d e f priced = rw (a, b, c, d, side-again 
 new-again head terms life.Immediate a b c d e f priced = rw (a, b, c, d, side-again terms.side, e, f) refl
 new-again head terms life.Market a b c d e f priced = rw (a, b, c, d, side-again terms.side, e, priced refl) refl
 
-cancel-again : (head : Head) (target : List ℕ) → is_name head.key.firm ≡ true → is_name head.key.id ≡ true → stamp_form (stamp_text head.time) ≡ Some head.time → is_name head.symbol ≡ true
+cancel-again : (head : LineHead) (target : List ℕ) → is_name head.key.firm ≡ true → is_name head.key.id ≡ true → stamp_form (stamp_text head.time) ≡ Some head.time → is_name head.symbol ≡ true
     → is_name target ≡ true → order_of_row (order_row (csv_cancel_order head target)) ≡ Ok (csv_cancel_order head target)
 unfolding order_of_row field_at
 cancel-again head target a b c d e = rw (a, b, c, d, e) refl
 
-replace-again : (head : Head) (terms : Terms) (target : List ℕ) → is_name head.key.firm ≡ true → is_name head.key.id ≡ true → stamp_form (stamp_text head.time) ≡ Some head.time → is_name head.symbol ≡ true
+replace-again : (head : LineHead) (terms : LineTerms) (target : List ℕ) → is_name head.key.firm ≡ true → is_name head.key.id ≡ true → stamp_form (stamp_text head.time) ≡ Some head.time → is_name head.symbol ≡ true
     → quantity_form (decimal terms.quantity) ≡ Some terms.quantity → price_form (price_text terms.price) ≡ Some terms.price → is_name target ≡ true
     → order_of_row (order_row (csv_replace_order head terms target)) ≡ Ok (csv_replace_order head terms target)
 unfolding order_of_row field_at
@@ -89,7 +89,7 @@ replace-again head terms target a b c d e f g = rw (a, b, c, d, side-again terms
 name-bytes : (name : List ℕ) → is_name name ≡ true → list_all is_name_byte name ≡ true
 name-bytes name is = name-unquoted name name refl is
 
-pub new-line : (head : Head) (terms : Terms) (l : Life) → is_name head.key.firm ≡ true → is_name head.key.id ≡ true → is_name head.symbol ≡ true
+pub new-line : (head : LineHead) (terms : LineTerms) (l : Life) → is_name head.key.firm ≡ true → is_name head.key.id ≡ true → is_name head.symbol ≡ true
     → list_all is_name_byte (stamp_text head.time) ≡ true → stamp_form (stamp_text head.time) ≡ Some head.time
     → list_all is_name_byte (decimal terms.quantity) ≡ true → quantity_form (decimal terms.quantity) ≡ Some terms.quantity
     → list_all is_name_byte (limit_text l terms.price) ≡ true → price_form (price_text terms.price) ≡ Some terms.price
@@ -102,7 +102,7 @@ new-line head terms l firm id symbol time_unquoted time quantity_unquoted quanti
   again = λ priced. new-again head terms l firm id time symbol quantity price priced;
 }
 
-pub cancel-line : (head : Head) (target : List ℕ) → is_name head.key.firm ≡ true → is_name head.key.id ≡ true → is_name head.symbol ≡ true → is_name target ≡ true
+pub cancel-line : (head : LineHead) (target : List ℕ) → is_name head.key.firm ≡ true → is_name head.key.id ≡ true → is_name head.symbol ≡ true → is_name target ≡ true
     → list_all is_name_byte (stamp_text head.time) ≡ true → stamp_form (stamp_text head.time) ≡ Some head.time
     → IsLineOf order_of_row HasMarketPrice (csv_cancel_order head target) (order_row (csv_cancel_order head target))
 cancel-line head target firm id symbol name time_unquoted time = record {
@@ -113,7 +113,7 @@ cancel-line head target firm id symbol name time_unquoted time = record {
   again = λ _. cancel-again head target firm id time symbol name;
 }
 
-pub replace-line : (head : Head) (terms : Terms) (target : List ℕ) → is_name head.key.firm ≡ true → is_name head.key.id ≡ true → is_name head.symbol ≡ true → is_name target ≡ true
+pub replace-line : (head : LineHead) (terms : LineTerms) (target : List ℕ) → is_name head.key.firm ≡ true → is_name head.key.id ≡ true → is_name head.symbol ≡ true → is_name target ≡ true
     → list_all is_name_byte (stamp_text head.time) ≡ true → stamp_form (stamp_text head.time) ≡ Some head.time
     → list_all is_name_byte (decimal terms.quantity) ≡ true → quantity_form (decimal terms.quantity) ≡ Some terms.quantity
     → list_all is_name_byte (price_text terms.price) ≡ true → price_form (price_text terms.price) ≡ Some terms.price

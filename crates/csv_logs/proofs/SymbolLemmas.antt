@@ -11,9 +11,9 @@ use Rattle.audit_base.specs.declared.terms.Life.TheVariants as life
 use Rattle.audit_base.specs.Histories.{symbol_of}
 use Rattle.audit_base.specs.Names.{is_name, name_form}
 use Rattle.audit_base.specs.Numbers.{market_price}
-use Rattle.csv_logs.specs.declared.orders.Head.{Head}
-use Rattle.csv_logs.specs.declared.orders.Kind.{Kind}
-use Rattle.csv_logs.specs.declared.orders.Kind.TheVariants as kind
+use Rattle.csv_logs.specs.declared.orders.LineHead.{LineHead}
+use Rattle.csv_logs.specs.declared.orders.LineKind.{LineKind}
+use Rattle.csv_logs.specs.declared.orders.LineKind.TheVariants as kind
 use Rattle.csv_logs.specs.Columns.{◌>>=◌, column_text, in_column, row_key, row_name, row_side, row_quantity, row_price, row_blank, row_stamp, test_result}
 use Rattle.csv_logs.specs.OrderLines.{kind_form, row_head, row_limit_order, order_of_kind, order_of_row}
 use Rattle.csv_logs.specs.TradeLines.{row_parties, trade_of_row}
@@ -41,9 +41,9 @@ in-column number (Some value) found e = let eq : value ≡ found = cc in ap (λ 
 name-is : (number : ℕ) (fields : List (List ℕ)) (name : List ℕ) → row_name number fields ≡ Ok name → name ≡ column_text number fields
 name-is number fields name e = sym (form-is (column_text number fields) name (in-column number (name_form (column_text number fields)) name e))
 
-head-symbol : (fields : List (List ℕ)) (head : Head) → row_head fields ≡ Ok head → head.symbol ≡ column_text 5 fields
+head-symbol : (fields : List (List ℕ)) (head : LineHead) → row_head fields ≡ Ok head → head.symbol ≡ column_text 5 fields
 head-symbol fields head e =
-    let P : Head → Type 0 = λ (h : Head). h.symbol ≡ column_text 5 fields in
+    let P : LineHead → Type 0 = λ (h : LineHead). h.symbol ≡ column_text 5 fields in
     one P (row_key 2 fields) (λ key. row_stamp 4 fields >>= (λ time. row_name 5 fields >>= (λ symbol. Ok (record { key = key; time = time; symbol = symbol })))) head e (λ key _ e1.
     one P (row_stamp 4 fields) (λ time. row_name 5 fields >>= (λ symbol. Ok (record { key = key; time = time; symbol = symbol }))) head e1 (λ time _ e2.
     one P (row_name 5 fields) (λ symbol. Ok (record { key = key; time = time; symbol = symbol })) head e2 (λ symbol named e3.
@@ -57,11 +57,11 @@ four P (Ok w) (Ok x) (Err why) d make order e each = absurd (cc e)
 four P (Ok w) (Err why) c d make order e each = absurd (cc e)
 four P (Err why) b c d make order e each = absurd (cc e)
 
-limit-symbol : (head : Head) (l : Life) (fields : List (List ℕ)) (order : OrderRecord) → row_limit_order head l fields ≡ Ok order → symbol_of order ≡ head.symbol
+limit-symbol : (head : LineHead) (l : Life) (fields : List (List ℕ)) (order : OrderRecord) → row_limit_order head l fields ≡ Ok order → symbol_of order ≡ head.symbol
 limit-symbol head l fields order e =
     four (λ o. symbol_of o ≡ head.symbol) (row_side 6 fields) (row_quantity 7 fields) (row_price 8 fields) (row_blank 9 fields) (λ side quantity price none. record_of.New head.key head.time head.symbol side quantity price l) order e (λ _ _ _ _. refl)
 
-order-of-symbol : (k : Kind) (head : Head) (fields : List (List ℕ)) (order : OrderRecord) → order_of_kind k head fields ≡ Ok order → symbol_of order ≡ head.symbol
+order-of-symbol : (k : LineKind) (head : LineHead) (fields : List (List ℕ)) (order : OrderRecord) → order_of_kind k head fields ≡ Ok order → symbol_of order ≡ head.symbol
 order-of-symbol kind.New head fields order e = limit-symbol head life.Rests fields order e
 order-of-symbol kind.Immediate head fields order e = limit-symbol head life.Immediate fields order e
 order-of-symbol kind.Market head fields order e =

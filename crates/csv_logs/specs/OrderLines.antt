@@ -8,26 +8,26 @@ use Rattle.audit_base.specs.declared.terms.Life.{Life}
 use Rattle.audit_base.specs.declared.terms.Life.TheVariants as life
 use Rattle.audit_base.specs.Moments.{Moment}
 use Rattle.audit_base.specs.Numbers.{market_price}
-use Rattle.csv_logs.specs.declared.orders.Kind.{Kind}
-use Rattle.csv_logs.specs.declared.orders.Kind.TheVariants as kind
-use Rattle.csv_logs.specs.declared.orders.Head.{Head}
+use Rattle.csv_logs.specs.declared.orders.LineKind.{LineKind}
+use Rattle.csv_logs.specs.declared.orders.LineKind.TheVariants as kind
+use Rattle.csv_logs.specs.declared.orders.LineHead.{LineHead}
 use Rattle.csv_logs.specs.Columns.{Row, column_text, in_column, ◌>>=◌, row_name, row_stamp, row_side, row_quantity, row_price, row_blank, row_key, HasKey, HasName, written_key}
 
 -- `N` for new, `X` for cancel, `R` for replace, `I` for immediate, `M` for market
-abbrev pub kind_of : ℕ → Option Kind
+abbrev pub kind_of : ℕ → Option LineKind
 kind_of letter =
     if letter == 78 then Some kind.New else if letter == 88 then Some kind.Cancel
     else if letter == 82 then Some kind.Replace else if letter == 73 then Some kind.Immediate
     else if letter == 77 then Some kind.Market else None
 
 -- the kind of an order line is one letter
-abbrev pub kind_form : List ℕ → Option Kind
+abbrev pub kind_form : List ℕ → Option LineKind
 kind_form [] = None
 kind_form (letter ∷ []) = kind_of letter
 kind_form (letter ∷ next ∷ rest) = None
 
 -- columns 2 to 5, which every kind has: firm and id, time, symbol
-abbrev pub row_head : Row → Result Head Reason
+abbrev pub row_head : Row → Result LineHead Reason
 row_head fields = do
   key ← row_key 2 fields
   time ← row_stamp 4 fields
@@ -39,12 +39,12 @@ abbrev pub HasHeadNames : Row → Type 0
 HasHeadNames fields = HasKey 2 fields × HasName 5 fields
 
 -- what columns 2 to 5 write, where they hold names and this time
-abbrev pub written_head : Moment → Row → Head
+abbrev pub written_head : Moment → Row → LineHead
 written_head time fields =
     record { key = written_key 2 fields; time = time; symbol = column_text 5 fields }
 
 -- a new order with a limit has a side, a quantity and a price, and no target
-abbrev pub row_limit_order : Head → Life → Row → Result OrderRecord Reason
+abbrev pub row_limit_order : LineHead → Life → Row → Result OrderRecord Reason
 row_limit_order head life fields = do
   side ← row_side 6 fields
   quantity ← row_quantity 7 fields
@@ -53,7 +53,7 @@ row_limit_order head life fields = do
   Ok (record_of.New head.key head.time head.symbol side quantity price life)
 
 -- a market order has a side and a quantity, and no price and no target
-abbrev pub row_market_order : Head → Row → Result OrderRecord Reason
+abbrev pub row_market_order : LineHead → Row → Result OrderRecord Reason
 row_market_order head fields = do
   side ← row_side 6 fields
   quantity ← row_quantity 7 fields
@@ -62,7 +62,7 @@ row_market_order head fields = do
   Ok (record_of.New head.key head.time head.symbol side quantity (market_price side) life.Market)
 
 -- a cancel has a target alone
-abbrev pub row_cancel : Head → Row → Result OrderRecord Reason
+abbrev pub row_cancel : LineHead → Row → Result OrderRecord Reason
 row_cancel head fields = do
   no_side ← row_blank 6 fields
   no_quantity ← row_blank 7 fields
@@ -71,7 +71,7 @@ row_cancel head fields = do
   Ok (record_of.Cancel head.key head.time head.symbol target)
 
 -- a replacement has a side, a quantity, a price and a target
-abbrev pub row_replacement : Head → Row → Result OrderRecord Reason
+abbrev pub row_replacement : LineHead → Row → Result OrderRecord Reason
 row_replacement head fields = do
   side ← row_side 6 fields
   quantity ← row_quantity 7 fields
@@ -80,7 +80,7 @@ row_replacement head fields = do
   Ok (record_of.Replace head.key head.time head.symbol target side quantity price)
 
 -- columns 6 to 9, by the kind
-abbrev pub order_of_kind : Kind → Head → Row → Result OrderRecord Reason
+abbrev pub order_of_kind : LineKind → LineHead → Row → Result OrderRecord Reason
 order_of_kind kind.New head fields = row_limit_order head life.Rests fields
 order_of_kind kind.Immediate head fields = row_limit_order head life.Immediate fields
 order_of_kind kind.Market head fields = row_market_order head fields

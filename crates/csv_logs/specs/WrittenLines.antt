@@ -14,18 +14,18 @@ use Rattle.audit_base.specs.Histories.{HasMarketPrice}
 use Rattle.csv_logs.specs.Written.{csv_line_text, log_text, order_row}
 use Rattle.csv_logs.specs.declared.log_text.ConvertedLog.{ConvertedLog}
 use Rattle.csv_logs.specs.declared.log_text.LogText.{LogText}
-use Rattle.csv_logs.specs.declared.orders.Head.{Head}
-use Rattle.csv_logs.specs.declared.orders.Terms.{Terms}
+use Rattle.csv_logs.specs.declared.orders.LineHead.{LineHead}
+use Rattle.csv_logs.specs.declared.orders.LineTerms.{LineTerms}
 
 -- the records of an order's parts
-abbrev pub csv_new_order : Head → Terms → Life → OrderRecord
+abbrev pub csv_new_order : LineHead → LineTerms → Life → OrderRecord
 csv_new_order head terms life =
     record_of.New head.key head.time head.symbol terms.side terms.quantity terms.price life
 
-abbrev pub csv_cancel_order : Head → List ℕ → OrderRecord
+abbrev pub csv_cancel_order : LineHead → List ℕ → OrderRecord
 csv_cancel_order head target = record_of.Cancel head.key head.time head.symbol target
 
-abbrev pub csv_replace_order : Head → Terms → List ℕ → OrderRecord
+abbrev pub csv_replace_order : LineHead → LineTerms → List ℕ → OrderRecord
 csv_replace_order head terms target =
     record_of.Replace head.key head.time head.symbol target terms.side terms.quantity terms.price
 

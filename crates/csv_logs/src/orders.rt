@@ -3,7 +3,7 @@ ghost use Rattle.std.specs.Prelude.{◌≡◌, ◌∷◌, [], Err, IfErr, IfOk, 
 ghost use Rattle.audit_base.specs.declared.terms.Life.{Life};
 ghost use Rattle.audit_base.specs.declared.terms.Life.TheVariants.{Market};
 ghost use Rattle.csv_logs.specs.Columns.{HasName, column_text, test_result};
-ghost use Rattle.csv_logs.specs.declared.orders.Head.{Head};
+ghost use Rattle.csv_logs.specs.declared.orders.LineHead.{LineHead};
 ghost use Rattle.csv_logs.specs.Steps.{TakesFields, entry_says};
 ghost use Rattle.csv_logs.specs.WrittenLines.{csv_cancel_order, csv_new_order, csv_replace_order};
 ghost use Rattle.log_source.specs.Collectors.{HasPlace};
@@ -26,7 +26,7 @@ use log_source::collector::Collector;
 
 /// What the first column of an order line says that the line is.
 #[derive(Clone, Copy)]
-pub(crate) enum Kind {
+pub(crate) enum LineKind {
     New,
     Cancel,
     Replace,
@@ -36,22 +36,22 @@ pub(crate) enum Kind {
 
 /// The columns that every order line has.
 #[derive(Clone, Copy)]
-pub(crate) struct Head {
+pub(crate) struct LineHead {
     pub(crate) key: Key,
     pub(crate) time: Stamp,
     pub(crate) symbol: Name,
 }
 
 /// The kind that the one letter of column 1 says.
-fn read_kind(text: &[u8]) -> Option<Kind>
+fn read_kind(text: &[u8]) -> Option<LineKind>
     ensures { result ≡ kind_form text.now }
 {
     match text {
-        b"N" => Some(Kind::New),
-        b"X" => Some(Kind::Cancel),
-        b"R" => Some(Kind::Replace),
-        b"I" => Some(Kind::Immediate),
-        b"M" => Some(Kind::Market),
+        b"N" => Some(LineKind::New),
+        b"X" => Some(LineKind::Cancel),
+        b"R" => Some(LineKind::Replace),
+        b"I" => Some(LineKind::Immediate),
+        b"M" => Some(LineKind::Market),
         _ => None,
     }
 }
@@ -71,17 +71,17 @@ fn head_time(fields: &NineFields<'_>, stamps: &mut StampReader) -> Result<Stamp,
 
 /// What only a new order or a replacement says: columns 6 to 8.
 #[derive(Clone, Copy)]
-pub(crate) struct Terms {
+pub(crate) struct LineTerms {
     pub(crate) side: Side,
     pub(crate) quantity: Quantity,
     pub(crate) price: Price,
 }
 
-impl Terms {
-    pub(crate) fn of(side: Side, quantity: Quantity, price: Price) -> Terms
+impl LineTerms {
+    pub(crate) fn of(side: Side, quantity: Quantity, price: Price) -> LineTerms
         ensures { result ≡ record { side = side; quantity = quantity; price = price } }
     {
-        Terms {
+        LineTerms {
             side,
             quantity,
             price,
@@ -90,39 +90,39 @@ impl Terms {
 }
 
 /// Columns 6 to 9 of an order with a limit: side, quantity and price, and no target.
-fn limit_terms(fields: &NineFields<'_>) -> Result<Terms, Reason>
-    ensures read { IfOk result (λ terms. (head : Head) (life : Life)
+fn limit_terms(fields: &NineFields<'_>) -> Result<LineTerms, Reason>
+    ensures read { IfOk result (λ terms. (head : LineHead) (life : Life)
         → row_limit_order head life fields.now ≡ Ok (csv_new_order head terms life)) }
-    ensures why { IfErr result (λ why. (head : Head) (life : Life)
+    ensures why { IfErr result (λ why. (head : LineHead) (life : Life)
         → row_limit_order head life fields.now ≡ Err why) }
 {
     let side = side_at(6, fields)?;
     let quantity = quantity_at(7, fields)?;
     let price = price_at(8, fields)?;
     empty_at(9, fields)?;
-    Ok(Terms::of(side, quantity, price))
+    Ok(LineTerms::of(side, quantity, price))
 }
 
 /// Columns 6 to 9 of a market order, which has the market price of its side.
-fn market_terms(fields: &NineFields<'_>) -> Result<Terms, Reason>
-    ensures read { IfOk result (λ terms. (head : Head)
+fn market_terms(fields: &NineFields<'_>) -> Result<LineTerms, Reason>
+    ensures read { IfOk result (λ terms. (head : LineHead)
         → row_market_order head fields.now ≡ Ok (csv_new_order head terms Market)) }
-    ensures why { IfErr result (λ why. (head : Head) → row_market_order head fields.now ≡ Err why) }
+    ensures why { IfErr result (λ why. (head : LineHead) → row_market_order head fields.now ≡ Err why) }
 {
     let side = side_at(6, fields)?;
     let quantity = quantity_at(7, fields)?;
     empty_at(8, fields)?;
     empty_at(9, fields)?;
-    Ok(Terms::of(side, quantity, market_price(side)))
+    Ok(LineTerms::of(side, quantity, market_price(side)))
 }
 
 /// Columns 6 to 9 of a cancel: a target alone.
 fn test_cancel(fields: &NineFields<'_>) -> Result<(), Reason>
-    ensures tests { (head : Head) → result ≡ test_result (row_cancel head fields.now) }
+    ensures tests { (head : LineHead) → result ≡ test_result (row_cancel head fields.now) }
     ensures named { OnOk result (HasName 9 fields.now) }
-    ensures read { OnOk result ((head : Head)
+    ensures read { OnOk result ((head : LineHead)
         → row_cancel head fields.now ≡ Ok (csv_cancel_order head (column_text 9 fields.now))) }
-    ensures why { IfErr result (λ why. (head : Head) → row_cancel head fields.now ≡ Err why) }
+    ensures why { IfErr result (λ why. (head : LineHead) → row_cancel head fields.now ≡ Err why) }
 {
     empty_at(6, fields)?; // no side
     empty_at(7, fields)?;
@@ -131,18 +131,18 @@ fn test_cancel(fields: &NineFields<'_>) -> Result<(), Reason>
 }
 
 /// Columns 6 to 9 of a replacement; its target is only tested here.
-fn replacement_terms(fields: &NineFields<'_>) -> Result<Terms, Reason>
+fn replacement_terms(fields: &NineFields<'_>) -> Result<LineTerms, Reason>
     ensures named { OnOk result (HasName 9 fields.now) }
-    ensures read { IfOk result (λ terms. (head : Head)
+    ensures read { IfOk result (λ terms. (head : LineHead)
         → row_replacement head fields.now
         ≡ Ok (csv_replace_order head terms (column_text 9 fields.now))) }
-    ensures why { IfErr result (λ why. (head : Head) → row_replacement head fields.now ≡ Err why) }
+    ensures why { IfErr result (λ why. (head : LineHead) → row_replacement head fields.now ≡ Err why) }
 {
     let side = side_at(6, fields)?;
     let quantity = quantity_at(7, fields)?;
     let price = price_at(8, fields)?;
     test_name(9, fields)?;
-    Ok(Terms::of(side, quantity, price))
+    Ok(LineTerms::of(side, quantity, price))
 }
 
 /// Hands on a new order. Its record is made where it is handed on, and not copied.
@@ -150,7 +150,7 @@ fn take_new<K: Collector<Entry = OrderRecord>>(
     entries: &mut K,
     time: Stamp,
     life: Life,
-    terms: Terms,
+    terms: LineTerms,
     fields: &NineFields<'_>,
 ) -> Result<(), NoMemory>
     requires names { HasHeadNames fields.now }
@@ -267,7 +267,7 @@ fn take_replacement<K: Collector<Entry = OrderRecord>>(
 /// Takes columns 6 to 9 of a line of this kind, whose first columns are tested.
 fn take_order_of_kind<K: Collector<Entry = OrderRecord>>(
     entries: &mut K,
-    kind: Kind,
+    kind: LineKind,
     time: Stamp,
     fields: &NineFields<'_>,
 ) -> Result<Result<(), Reason>, NoMemory>
@@ -278,11 +278,11 @@ fn take_order_of_kind<K: Collector<Entry = OrderRecord>>(
         IfOk result (TakesFields says (K.has_taken entries.old) (K.has_taken entries.new)) }
 {
     match kind {
-        Kind::New => take_limit(entries, time, Life::Rests, fields),
-        Kind::Immediate => take_limit(entries, time, Life::Immediate, fields),
-        Kind::Market => take_market(entries, time, fields),
-        Kind::Cancel => take_cancel(entries, time, fields),
-        Kind::Replace => take_replacement(entries, time, fields),
+        LineKind::New => take_limit(entries, time, Life::Rests, fields),
+        LineKind::Immediate => take_limit(entries, time, Life::Immediate, fields),
+        LineKind::Market => take_market(entries, time, fields),
+        LineKind::Cancel => take_cancel(entries, time, fields),
+        LineKind::Replace => take_replacement(entries, time, fields),
     }
 }
 
@@ -290,7 +290,10 @@ fn take_order_of_kind<K: Collector<Entry = OrderRecord>>(
 /// whose names are tested.
 #[inline(always)]
 #[tactic(auto, unfolding(crate::specs::OrderLines::order_of_row))]
-fn kind_and_time(fields: &NineFields<'_>, stamps: &mut StampReader) -> Result<(Kind, Stamp), Reason>
+fn kind_and_time(
+    fields: &NineFields<'_>,
+    stamps: &mut StampReader,
+) -> Result<(LineKind, Stamp), Reason>
     ensures named { OnOk result (HasHeadNames fields.now) }
     ensures read { IfOk result (λ found. order_of_row fields.now
         ≡ order_of_kind found.0 (written_head found.1 fields.now) fields.now) }
@@ -319,7 +322,7 @@ pub(crate) fn take_order<K: Collector<Entry = OrderRecord>>(
 }
 
 fn test_limit(fields: &NineFields<'_>) -> Result<(), Reason>
-    ensures { (head : Head) (life : Life)
+    ensures { (head : LineHead) (life : Life)
         → result ≡ test_result (row_limit_order head life fields.now) }
 {
     limit_terms(fields)?;
@@ -327,28 +330,28 @@ fn test_limit(fields: &NineFields<'_>) -> Result<(), Reason>
 }
 
 fn test_market(fields: &NineFields<'_>) -> Result<(), Reason>
-    ensures { (head : Head) → result ≡ test_result (row_market_order head fields.now) }
+    ensures { (head : LineHead) → result ≡ test_result (row_market_order head fields.now) }
 {
     market_terms(fields)?;
     Ok(())
 }
 
 fn test_replacement(fields: &NineFields<'_>) -> Result<(), Reason>
-    ensures { (head : Head) → result ≡ test_result (row_replacement head fields.now) }
+    ensures { (head : LineHead) → result ≡ test_result (row_replacement head fields.now) }
 {
     replacement_terms(fields)?;
     Ok(())
 }
 
 /// The tests of columns 6 to 9 alone, for an order of which no record is made.
-fn test_order_of_kind(kind: Kind, fields: &NineFields<'_>) -> Result<(), Reason>
-    ensures { (head : Head) → result ≡ test_result (order_of_kind kind head fields.now) }
+fn test_order_of_kind(kind: LineKind, fields: &NineFields<'_>) -> Result<(), Reason>
+    ensures { (head : LineHead) → result ≡ test_result (order_of_kind kind head fields.now) }
 {
     match kind {
-        Kind::New | Kind::Immediate => test_limit(fields),
-        Kind::Market => test_market(fields),
-        Kind::Cancel => test_cancel(fields),
-        Kind::Replace => test_replacement(fields),
+        LineKind::New | LineKind::Immediate => test_limit(fields),
+        LineKind::Market => test_market(fields),
+        LineKind::Cancel => test_cancel(fields),
+        LineKind::Replace => test_replacement(fields),
     }
 }
 

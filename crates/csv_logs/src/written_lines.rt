@@ -7,7 +7,7 @@ ghost use Rattle.csv_logs.specs.Written.{order_row, row_side_text, kind_text, li
 ghost use Rattle.csv_logs.specs.WrittenLines.{IsAtLine, IsLineOf, IsOrderRow, WritesRow, have_name_bytes, csv_cancel_order, csv_new_order, csv_replace_order};
 
 use crate::entries::CsvRecord;
-use crate::orders::{Head, Terms};
+use crate::orders::{LineHead, LineTerms};
 use audit_base::columns::columns;
 use audit_base::faults::NoMemory;
 use audit_base::field_texts::{price_text, quantity_text, stamp_text};
@@ -71,8 +71,8 @@ fn limit_bytes(alloc: Global, life: Life, price: Price) -> Result<Vec<u8>, NoMem
 /// The line of a new order, of any life.
 fn write_new<W: Write + Drop>(
     alloc: Global,
-    head: Head,
-    terms: Terms,
+    head: LineHead,
+    terms: LineTerms,
     life: Life,
     writer: &mut Writer<W>,
 ) -> Result<(), NoMemory>
@@ -102,7 +102,7 @@ fn write_new<W: Write + Drop>(
 /// The line of a cancel, whose columns 6 to 8 are empty.
 fn write_cancel<W: Write + Drop>(
     alloc: Global,
-    head: Head,
+    head: LineHead,
     target: Name,
     writer: &mut Writer<W>,
 ) -> Result<(), NoMemory>
@@ -130,8 +130,8 @@ fn write_cancel<W: Write + Drop>(
 /// The line of a replacement.
 fn write_replace<W: Write + Drop>(
     alloc: Global,
-    head: Head,
-    terms: Terms,
+    head: LineHead,
+    terms: LineTerms,
     target: Name,
     writer: &mut Writer<W>,
 ) -> Result<(), NoMemory>
@@ -226,7 +226,7 @@ impl LogLine for OrderRecord {
         alloc: Global,
         writer: &mut Writer<W>,
     ) -> Result<(), NoMemory> {
-        let head = Head {
+        let head = LineHead {
             key: self.key(),
             time: self.time(),
             symbol: self.symbol(),
@@ -239,7 +239,7 @@ impl LogLine for OrderRecord {
                 life,
                 ..
             } => {
-                let terms = Terms::of(side, quantity, price);
+                let terms = LineTerms::of(side, quantity, price);
                 write_new(alloc, head, terms, life, writer)
             }
             OrderRecord::Cancel { target, .. } => write_cancel(alloc, head, target, writer),
@@ -250,7 +250,7 @@ impl LogLine for OrderRecord {
                 price,
                 ..
             } => {
-                let terms = Terms::of(side, quantity, price);
+                let terms = LineTerms::of(side, quantity, price);
                 write_replace(alloc, head, terms, target, writer)
             }
         }

@@ -10,7 +10,7 @@ use Rattle.audit_base.specs.declared.terms.Which.{Which}
 use Rattle.audit_base.specs.declared.terms.Which.TheVariants.{Orders, Trades}
 use Rattle.day_symbols.specs.Shares.{DayShare}
 use Rattle.record_verdict.specs.declared.scopes.Admission.{Admission}
-use Rattle.day_trades.specs.declared.day_trades.EndedTrades.{EndedTrades}
+use Rattle.day_records.specs.declared.day_trades.EndedTrades.{EndedTrades}
 use Rattle.day_verdicts.specs.declared.day_verdicts.JudgedSymbols.{JudgedSymbols}
 use Rattle.day_verdicts.specs.DayVerdicts.{IsJudgedShare}
 use Rattle.log_source.specs.Sources.{RoseOrIsFull}

@@ -5,8 +5,8 @@ use Rattle.audit_base.specs.declared.records.OrderRecord.{OrderRecord}
 use Rattle.audit_base.specs.declared.records.TradeRecord.{TradeRecord}
 use Rattle.audit_base.specs.declared.terms.Which.TheVariants.{Orders, Trades}
 use Rattle.day_symbols.specs.Shares.{DayShare}
-use Rattle.day_trades.specs.declared.day_trades.EndedTrades.{EndedTrades}
-use Rattle.day_trades.specs.DayTrades.{HasTradesOf}
+use Rattle.day_records.specs.declared.day_trades.EndedTrades.{EndedTrades}
+use Rattle.day_records.specs.DayTrades.{HasTradesOf}
 use Rattle.day_logs.specs.declared.before_rule.DayBeforeRule.TheVariants as before_rule
 use Rattle.day_logs.specs.DayBeforeRule.{day_without_log, GivesDayBeforeRuleOrStop, GivesDayTradesOrStop, IsDayReadAfterOrders}
 use Rattle.log_verdict.specs.declared.reading.Unread.{Unread}

@@ -33,13 +33,13 @@ SharesHaveTheVerdicts = (rule : Rule) (table : Bool) (entries : List OrderRecord
     → HasVerdictInShare rule table entries trades other symbol b → a ≡ b
 
 -- Two answers are written as one text and have one status.
-pub record AreWrittenAlike (judged_by : List ℕ) (a b : DayAnswer) : Type 0 where
-  pub text_same : day_answer_text judged_by a ≡ day_answer_text judged_by b
+pub record AreWrittenAlike (question_text : List ℕ) (a b : DayAnswer) : Type 0 where
+  pub text_same : day_answer_text question_text a ≡ day_answer_text question_text b
   pub status_same : day_answer_status a ≡ day_answer_status b
 
 -- one answer: whatever forms two logs are in, the answers to a question about them have one text
 -- and one status
 abbrev pub OneDayAnswer : Type 0
-OneDayAnswer = (q : DayQuestion) (orders trades : Log) (judged_by : List ℕ) (a b : DayAnswer)
+OneDayAnswer = (q : DayQuestion) (orders trades : Log) (question_text : List ℕ) (a b : DayAnswer)
     → IsAnswerToLogs (AreVerdictsOfDay q) orders trades a
-    → IsAnswerToLogs (AreVerdictsOfDay q) orders trades b → AreWrittenAlike judged_by a b
+    → IsAnswerToLogs (AreVerdictsOfDay q) orders trades b → AreWrittenAlike question_text a b

@@ -12,7 +12,7 @@ use crate::reading::read_day;
 use audit_base::faults::{BadPlace, NoMemory};
 use audit_base::findings::Finding;
 use audit_base::terms::{Rule, Which};
-use day_symbols::shares::Share;
+use day_symbols::shares::DayShare;
 use day_verdicts::day_verdicts::{JudgedSymbols, judge_day};
 use further_checks::findings::FurtherChecks;
 use log_source::shelf::Shelf;
@@ -30,7 +30,7 @@ pub struct DayQuestion {
     pub table: bool,
     /// Which of the further checks are asked for.
     pub checks: FurtherChecks,
-    pub share: Share,
+    pub share: DayShare,
 }
 
 /// The answer to two logs of a day.

@@ -2,7 +2,7 @@
 use audit_base::faults::BadPlace;
 use audit_base::findings::Finding;
 use audit_base::terms::Which;
-use day_trades::day_trades::EndedTrades;
+use day_records::day_trades::EndedTrades;
 
 /// What two logs of a day give before a rule is looked at.
 #[derive(Drop)]

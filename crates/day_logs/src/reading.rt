@@ -3,8 +3,8 @@
 ghost use Rattle.std.specs.Prelude.{◌≡◌, ◌≤◌, [], List, IfOk};
 ghost use Rattle.audit_base.specs.declared.records.OrderRecord.{OrderRecord as AnEntry};
 ghost use Rattle.audit_base.specs.declared.terms.Which.{Which};
-ghost use Rattle.day_orders.specs.DayOrders.{HasOrders};
-ghost use Rattle.day_trades.specs.DayTrades.{IsDayTrades};
+ghost use Rattle.day_records.specs.DayOrders.{HasOrders};
+ghost use Rattle.day_records.specs.DayTrades.{IsDayTrades};
 ghost use Rattle.log_source.specs.Sources.{longest_read};
 ghost use Rattle.log_verdict.specs.BothLogs.{HaveOneLimit, StaysWithin, StaysWithinAt};
 ghost use Rattle.log_verdict.specs.Collecting.{TouchesOnly};
@@ -14,9 +14,9 @@ ghost use Rattle.day_logs.specs.DayBeforeRule.{GivesDayBeforeRuleOrStop, GivesDa
 
 use crate::before_rule::DayBeforeRule;
 use audit_base::terms::Which;
-use day_orders::day_orders::{AuditedShare, DayOrders, EndedOrders};
-use day_symbols::shares::Share;
-use day_trades::day_trades::{AuditedDay, DayTrades};
+use day_records::day_orders::{AuditedShare, DayOrders, EndedOrders};
+use day_records::day_trades::{AuditedDay, DayTrades};
+use day_symbols::shares::DayShare;
 use log_source::shelf::Shelf;
 use log_verdict::reading::{Collected, Unread, collect_orders, collect_trades};
 use log_verdict::sources::Source;
@@ -66,7 +66,7 @@ fn read_trades<M: AuditedDay, F: Shelf>(
 fn after_orders<M: AuditedDay, F: Shelf>(
     alloc: Global,
     shelf: &mut F,
-    share: Share,
+    share: DayShare,
     admission: Admission,
     trades: &Source<'_>,
     orders: EndedOrders,
@@ -96,7 +96,7 @@ fn after_orders<M: AuditedDay, F: Shelf>(
 fn read_share<D: AuditedShare, F: Shelf>(
     alloc: Global,
     shelf: &mut F,
-    share: Share,
+    share: DayShare,
     admission: Admission,
     orders: &Source<'_>,
     trades: &Source<'_>,
@@ -123,7 +123,7 @@ fn read_share<D: AuditedShare, F: Shelf>(
 pub fn read_day<F: Shelf>(
     alloc: Global,
     shelf: &mut F,
-    share: Share,
+    share: DayShare,
     admission: Admission,
     orders: &Source<'_>,
     trades: &Source<'_>,

@@ -11,8 +11,12 @@ use std::alloc::Global;
 
 /// The text of an answer, with what the symbols were judged by in the place of RULE. Finding 4 has
 /// no symbol before its lines.
-pub fn text_of_day(alloc: Global, answer: &DayAnswer, judged_by: &[u8]) -> Result<Vec<u8>, NoMemory>
-    ensures { IfOk result (λ text. text.items ≡ day_answer_text judged_by.now answer.now) }
+pub fn text_of_day(
+    alloc: Global,
+    answer: &DayAnswer,
+    question_text: &[u8],
+) -> Result<Vec<u8>, NoMemory>
+    ensures { IfOk result (λ text. text.items ≡ day_answer_text question_text.now answer.now) }
 {
     match answer {
         DayAnswer::Malformed { log, bad } => {
@@ -20,7 +24,7 @@ pub fn text_of_day(alloc: Global, answer: &DayAnswer, judged_by: &[u8]) -> Resul
             report_text(alloc, &Verdict::Malformed { log, bad })
         }
         DayAnswer::Unpaired(finding) => report_text(alloc, &Verdict::Rejected(*finding)),
-        DayAnswer::Judged(judged) => judged.text(alloc, judged_by),
+        DayAnswer::Judged(judged) => judged.text(alloc, question_text),
     }
 }
 

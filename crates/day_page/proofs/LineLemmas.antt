@@ -11,8 +11,8 @@ use Rattle.std.proofs.lemmas.List.Splits.{slice_split-cons_no}
 use Rattle.audit_base.proofs.UnquotedLemmas.{decimal_is_unquoted}
 use Rattle.audit_base.proofs.WrittenDigits.{decimal_digits}
 use Rattle.audit_base.specs.Names.{is_name_byte}
-use Rattle.day_report.specs.DayTexts.{byte_in_line, day_line, symbol_front, symbol_lines, with_line_fronts}
-use Rattle.day_report.specs.declared.day_line.DayCounts.{DayCounts}
+use Rattle.audit_report.specs.DayTexts.{byte_in_line, day_line, symbol_front, symbol_lines, with_line_fronts}
+use Rattle.audit_report.specs.declared.day_line.DayCounts.{DayCounts}
 use Rattle.day_page.specs.DayLines.{behind_commas, field_at, is_line_end, is_word, lines_of}
 use Rattle.day_page.specs.Laws.{AreCounts, IsLines, is_one_line}
 use Rattle.day_page.specs.Rows.{row_of_line, rows_of_text}
@@ -102,20 +102,20 @@ no-row-of-number digits more h d = rw (second-field digits more h, no-word digit
 few_digits : (n : ℕ) → n < 2 ^ 64 → n < 10 ^ 64
 few_digits n few = omega (arith, few)
 
-counts-give-none : (counts : DayCounts) (judged_by : List ℕ) → AreCounts counts → list_any is_line_end judged_by ≡ false → rows_of_text (day_line counts judged_by) ≡ []
-counts-give-none counts judged_by few line =
-    let rejected_line = line-behind (decimal counts.rejected) (44 ∷ judged_by) (one-line (decimal counts.rejected) (decimal_is_unquoted counts.rejected (few_digits counts.rejected few.rejected))) line in
-    let accepted_line = line-behind (decimal counts.accepted) (44 ∷ (decimal counts.rejected ++ 44 ∷ judged_by)) (one-line (decimal counts.accepted) (decimal_is_unquoted counts.accepted (few_digits counts.accepted few.accepted))) rejected_line in
-    let rest = 44 ∷ (decimal counts.accepted ++ 44 ∷ (decimal counts.rejected ++ 44 ∷ judged_by)) in
+counts-give-none : (counts : DayCounts) (question_text : List ℕ) → AreCounts counts → list_any is_line_end question_text ≡ false → rows_of_text (day_line counts question_text) ≡ []
+counts-give-none counts question_text few line =
+    let rejected_line = line-behind (decimal counts.rejected) (44 ∷ question_text) (one-line (decimal counts.rejected) (decimal_is_unquoted counts.rejected (few_digits counts.rejected few.rejected))) line in
+    let accepted_line = line-behind (decimal counts.accepted) (44 ∷ (decimal counts.rejected ++ 44 ∷ question_text)) (one-line (decimal counts.accepted) (decimal_is_unquoted counts.accepted (few_digits counts.accepted few.accepted))) rejected_line in
+    let rest = 44 ∷ (decimal counts.accepted ++ 44 ∷ (decimal counts.rejected ++ 44 ∷ question_text)) in
     let symbols_name = decimal_is_unquoted counts.symbols (few_digits counts.symbols few.symbols) in
     let symbols_line = line-behind (decimal counts.symbols) rest (one-line (decimal counts.symbols) symbols_name) accepted_line in
     let line_is = codes "day" ++ 44 ∷ (decimal counts.symbols ++ rest) in
     rows-ended line_is ∙ rows-of-line line_is symbols_line
-    ∙ no-row-of-number (decimal counts.symbols) (decimal counts.accepted ++ 44 ∷ (decimal counts.rejected ++ 44 ∷ judged_by)) symbols_name (decimal_digits counts.symbols (few_digits counts.symbols few.symbols))
+    ∙ no-row-of-number (decimal counts.symbols) (decimal counts.accepted ++ 44 ∷ (decimal counts.rejected ++ 44 ∷ question_text)) symbols_name (decimal_digits counts.symbols (few_digits counts.symbols few.symbols))
 
-pub have-rows : (counts : DayCounts) (judged_by : List ℕ) (reports : List (List ℕ × List ℕ)) → AreCounts counts → IsTrue (is_one_line judged_by) → All (λ r. IsLines r.1) reports
-    → rows_of_text (day_line counts judged_by ++ flat_map (λ r. symbol_lines r.0 r.1) reports) ≡ flat_map (λ r. rows_of_text (symbol_lines r.0 r.1)) reports
-have-rows counts judged_by reports few line are =
-    rows-of-more (day_line counts judged_by) (flat_map (λ r. symbol_lines r.0 r.1) reports) (inr (join_with_byte 44 (codes "day" ∷ decimal counts.symbols ∷ decimal counts.accepted ∷ decimal counts.rejected ∷ judged_by ∷ []), refl))
-    ∙ ap (λ (l : List ℕ). l ++ rows_of_text (flat_map (λ r. symbol_lines r.0 r.1) reports)) (counts-give-none counts judged_by few (not-true (list_any is_line_end judged_by) line))
+pub have-rows : (counts : DayCounts) (question_text : List ℕ) (reports : List (List ℕ × List ℕ)) → AreCounts counts → IsTrue (is_one_line question_text) → All (λ r. IsLines r.1) reports
+    → rows_of_text (day_line counts question_text ++ flat_map (λ r. symbol_lines r.0 r.1) reports) ≡ flat_map (λ r. rows_of_text (symbol_lines r.0 r.1)) reports
+have-rows counts question_text reports few line are =
+    rows-of-more (day_line counts question_text) (flat_map (λ r. symbol_lines r.0 r.1) reports) (inr (join_with_byte 44 (codes "day" ∷ decimal counts.symbols ∷ decimal counts.accepted ∷ decimal counts.rejected ∷ question_text ∷ []), refl))
+    ∙ ap (λ (l : List ℕ). l ++ rows_of_text (flat_map (λ r. symbol_lines r.0 r.1) reports)) (counts-give-none counts question_text few (not-true (list_any is_line_end question_text) line))
     ∙ rows-of-reports reports are

@@ -3,7 +3,7 @@ use Rattle.std.specs.Prelude.{ℕ, Bool, List, [], ◌++◌, codes, if◌then◌
 use Rattle.page_markup.specs.declared.words.Tag.TheVariants as tag
 use Rattle.page_parts.specs.Documents.{IsPage}
 use Rattle.page_parts.specs.Elements.{text_element}
-use Rattle.page_table.specs.Elements.{head_of_table, table_element}
+use Rattle.page_parts.specs.TableElements.{head_of_table, table_element}
 use Rattle.day_page.specs.DayLines.{behind_commas, field_at, first_line, is_word}
 use Rattle.day_page.specs.Rows.{day_columns, rows_of_text}
 

@@ -2,8 +2,8 @@
 use Rattle.std.specs.Prelude.{◌≡◌, ◌⊎◌, ◌<◌, ◌^◌, ℕ, Bool, not, List, [], ◌∷◌, ◌++◌, All, IsTrue, slice_index_or}
 use Rattle.std.specs.List.{flat_map, join_with_byte, list_all, list_any}
 use Rattle.audit_base.specs.Names.{is_name_byte}
-use Rattle.day_report.specs.DayTexts.{day_line, symbol_lines}
-use Rattle.day_report.specs.declared.day_line.DayCounts.{DayCounts}
+use Rattle.audit_report.specs.DayTexts.{day_line, symbol_lines}
+use Rattle.audit_report.specs.declared.day_line.DayCounts.{DayCounts}
 use Rattle.day_page.specs.Addresses.{without_escapes}
 use Rattle.day_page.specs.DayLines.{field_at, is_line_end}
 use Rattle.day_page.specs.FileNames.{file_name, page_address}
@@ -42,8 +42,8 @@ pub record AreCounts (counts : DayCounts) : Type 0 where
 -- each symbol has its rows, in order: those of the text of a day, which is the line of its counts
 -- and the lines of each symbol's report, are those of each symbol's lines, one after another
 abbrev pub SymbolsHaveTheirRows : Type 0
-SymbolsHaveTheirRows = (counts : DayCounts) (judged_by : List ℕ)
-    (reports : List (List ℕ × List ℕ)) → AreCounts counts → IsTrue (is_one_line judged_by)
+SymbolsHaveTheirRows = (counts : DayCounts) (question_text : List ℕ)
+    (reports : List (List ℕ × List ℕ)) → AreCounts counts → IsTrue (is_one_line question_text)
     → All (λ r. IsLines r.1) reports
-    → rows_of_text (day_line counts judged_by ++ flat_map (λ r. symbol_lines r.0 r.1) reports)
+    → rows_of_text (day_line counts question_text ++ flat_map (λ r. symbol_lines r.0 r.1) reports)
     ≡ flat_map (λ r. rows_of_text (symbol_lines r.0 r.1)) reports

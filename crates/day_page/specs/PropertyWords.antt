@@ -5,7 +5,7 @@ use Rattle.audit_base.specs.Least.{first_answer, only_if}
 use Rattle.audit_base.specs.Words.{property_word}
 use Rattle.audit_base.specs.declared.findings.Property.{Property}
 use Rattle.audit_base.specs.declared.findings.Property.TheVariants as property
-use Rattle.page_table.specs.Wording.{broken_words}
+use Rattle.page_parts.specs.Wording.{broken_words}
 use Rattle.day_page.specs.DayLines.{is_word}
 
 -- all properties of the rules

@@ -6,15 +6,15 @@ use Rattle.page_markup.specs.declared.words.AttributeName.TheVariants as name
 use Rattle.page_markup.specs.declared.words.Tag.TheVariants as tag
 use Rattle.page_markup.specs.Escapes.{escaped}
 use Rattle.page_parts.specs.Elements.{element, link, said}
-use Rattle.page_table.specs.declared.cells.Column.{Column}
-use Rattle.page_table.specs.declared.cells.Column.TheVariants.{Symbol, Answer, Log, Record, Orders, Trades, Volume}
-use Rattle.page_table.specs.Elements.{gaps, words_cell}
+use Rattle.page_parts.specs.declared.cells.TableColumn.{TableColumn}
+use Rattle.page_parts.specs.declared.cells.TableColumn.TheVariants.{Symbol, Answer, Log, Record, Orders, Trades, Volume}
+use Rattle.page_parts.specs.TableElements.{gaps, words_cell}
 use Rattle.day_page.specs.DayLines.{field_at, is_word, lines_of}
 use Rattle.day_page.specs.FileNames.{page_address}
 use Rattle.day_page.specs.PropertyWords.{is_of_volume, rejected_words}
 
 -- the columns of the table
-abbrev pub day_columns : List Column
+abbrev pub day_columns : List TableColumn
 day_columns = Symbol ∷ Answer ∷ Log ∷ Record ∷ Orders ∷ Trades ∷ Volume ∷ []
 
 -- the heading of a row: the symbol, whose spaces are kept, or a link to its page

@@ -7,19 +7,19 @@ use crate::rows::rows_of_text;
 use audit_base::faults::NoMemory;
 use page_markup::markup::Markup;
 use page_markup::words::Tag;
+use page_parts::cells::{TableColumn, head_of, table_of};
 use page_parts::documents::page_of;
 use page_parts::elements::with_text_element;
-use page_table::cells::{Column, head_of, table_of};
 use std::alloc::Global;
 
-const COLUMNS: [Column; 7] = [
-    Column::Symbol,
-    Column::Answer,
-    Column::Log,
-    Column::Record,
-    Column::Orders,
-    Column::Trades,
-    Column::Volume,
+const COLUMNS: [TableColumn; 7] = [
+    TableColumn::Symbol,
+    TableColumn::Answer,
+    TableColumn::Log,
+    TableColumn::Record,
+    TableColumn::Orders,
+    TableColumn::Trades,
+    TableColumn::Volume,
 ];
 
 /// Whether the first line counts symbols.

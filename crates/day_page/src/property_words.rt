@@ -1,14 +1,14 @@
 //! What is broken, in words, by the word that a report has for the property.
 ghost use Rattle.std.specs.Prelude.{◌≡◌, ◌++◌, IfOk, OnOk, find, option_copied, option_map};
 ghost use Rattle.audit_base.specs.Words.{property_word};
-ghost use Rattle.page_table.specs.Wording.{broken_words};
+ghost use Rattle.page_parts.specs.Wording.{broken_words};
 ghost use Rattle.day_page.specs.DayLines as line;
 ghost use Rattle.day_page.specs.PropertyWords as spec;
 
 use crate::lines::is_word;
 use audit_base::faults::NoMemory;
 use audit_base::findings::Property;
-use page_table::wording::broken_words;
+use page_parts::wording::broken_words;
 use std::alloc::Global;
 
 const PROPERTIES: [Property; 16] = [

@@ -8,8 +8,8 @@ use crate::property_words::{is_of_volume, rejected_words};
 use audit_base::faults::NoMemory;
 use page_markup::markup::Markup;
 use page_markup::words::{AttributeName, Tag};
+use page_parts::cells::{with_gaps, with_words};
 use page_parts::elements::{says, with_link};
-use page_table::cells::{with_gaps, with_words};
 use std::alloc::Global;
 
 /// The heading of a row, whose spaces are kept.

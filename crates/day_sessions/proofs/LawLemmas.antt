@@ -18,8 +18,8 @@ use Rattle.further_checks.specs.declared.findings.FurtherChecks.{FurtherChecks}
 use Rattle.log_verdict.specs.LogVerdicts.{trades_of_trade_log}
 use Rattle.log_verdict.specs.Ranges.{TradeLogsAreInRange}
 use Rattle.session_audit.specs.declared.phases.Phase.{Phase}
-use Rattle.session_verdict.specs.declared.sessions.Session.{Session}
-use Rattle.session_verdict.specs.Laws.{SayTheSame, SessionIsOne}
+use Rattle.session_audit.specs.declared.verdicts.Session.{Session}
+use Rattle.session_audit.specs.VerdictLaws.{SayTheSame, SessionIsOne}
 
 -- what is known of a log's trades, where they are these
 known : {A B : Type 0} (given : Result A B) (P : A → Type 0) (have : A) → IfOk given P → given ≡ Ok have → P have
@@ -62,7 +62,7 @@ same-judged phases table checks entries trades symbols a b ranges one is-a is-b 
     }
 
 pub one-session-answer : SessionIsOne → TradeLogsAreInRange → OneSessionAnswer
-one-session-answer one ranges phases table checks share orders trades judged_by a b is-a is-b =
-    written-alike (AreSessionsOfDay phases table checks share) judged_by orders trades
+one-session-answer one ranges phases table checks share orders trades question_text a b is-a is-b =
+    written-alike (AreSessionsOfDay phases table checks share) question_text orders trades
     (λ entries records x y are is-x is-y. same-judged phases table checks entries records _ x y
     (known (trades_of_trade_log trades.form trades.bytes) (λ p. TradesInRange (paired_trades p)) (Ok records) (ranges trades.form trades.bytes) are) one is-x is-y) a b is-a is-b

@@ -11,16 +11,16 @@ use Rattle.audit_base.specs.Histories.{order_list}
 use Rattle.audit_base.specs.Trades.{deals_of_symbol}
 use Rattle.audit_report.specs.declared.verdicts.Verdict.TheVariants.{Rejected}
 use Rattle.day_logs.specs.DayBeforeRule.{DayTradesFitPlaces}
-use Rattle.session_verdict.specs.declared.sessions.Session.{Session}
-use Rattle.session_verdict.specs.Sessions.{IsRejectedSession, IsSessionOfDeals}
+use Rattle.session_audit.specs.declared.verdicts.Session.{Session}
+use Rattle.session_audit.specs.SessionVerdicts.{IsRejectedSession, IsSessionOfDeals}
 use Rattle.day_sessions.specs.JudgedSessions.{AreJudgedSessions, AreJudgedSessionsUpTo, AreJudgedSessionsOfShare, told_by_sessions}
 use Rattle.day_sessions.specs.SymbolSessions.{AddsSessionOfSymbol, IsSymbolSession, session_told}
 use Rattle.day_symbols.specs.Shares.{DayShare, symbols_in}
-use Rattle.day_trades.specs.declared.day_trades.EndedTrades.{EndedTrades}
-use Rattle.day_trades.specs.declared.symbol_records.SymbolRecords.{SymbolRecords}
-use Rattle.day_trades.specs.declared.symbol_trades.SymbolTrades.{SymbolTrades}
-use Rattle.day_trades.specs.SymbolRecords.{GivesSymbolTrades, HasFewSymbolRecords, times_if}
-use Rattle.day_trades.specs.SymbolTrades.{HasFewOfSymbol}
+use Rattle.day_records.specs.declared.day_trades.EndedTrades.{EndedTrades}
+use Rattle.day_records.specs.declared.symbol_records.SymbolRecords.{SymbolRecords}
+use Rattle.day_records.specs.declared.symbol_trades.SymbolTrades.{SymbolTrades}
+use Rattle.day_records.specs.SymbolRecords.{GivesSymbolTrades, HasFewSymbolRecords, times_if}
+use Rattle.day_records.specs.SymbolTrades.{HasFewOfSymbol}
 use Rattle.day_verdicts.specs.declared.day_verdicts.JudgedSymbols.{JudgedSymbols}
 use Rattle.day_verdicts.specs.CheckedSymbols.{HasFewTimed}
 use Rattle.day_verdicts.specs.DayVerdicts.{HasRoomForOne}

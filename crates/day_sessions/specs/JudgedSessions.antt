@@ -3,13 +3,13 @@ use Rattle.std.specs.Prelude.{ℕ, Bool, List, take}
 use Rattle.audit_base.specs.declared.records.OrderRecord.{OrderRecord}
 use Rattle.audit_base.specs.declared.records.TradeRecord.{TradeRecord}
 use Rattle.day_logs.specs.DayAnswers.{DayMeaning}
-use Rattle.session_verdict.specs.declared.sessions.Session.{Session}
+use Rattle.session_audit.specs.declared.verdicts.Session.{Session}
 use Rattle.day_sessions.specs.SymbolSessions.{IsSymbolSession, session_told}
 use Rattle.day_symbols.specs.Kept.{AreForEach}
 use Rattle.day_symbols.specs.Shares.{DayShare, symbols_in}
 use Rattle.day_symbols.specs.Symbols.{symbols_of_day}
-use Rattle.day_trades.specs.declared.day_trades.EndedTrades.{EndedTrades}
-use Rattle.day_trades.specs.DayTrades.{HasTradesOf}
+use Rattle.day_records.specs.declared.day_trades.EndedTrades.{EndedTrades}
+use Rattle.day_records.specs.DayTrades.{HasTradesOf}
 use Rattle.day_verdicts.specs.declared.day_verdicts.JudgedSymbols.{JudgedSymbols}
 use Rattle.day_verdicts.specs.ToldSymbols.{tell_each, Told, TellsSymbols}
 use Rattle.further_checks.specs.declared.findings.FurtherChecks.{FurtherChecks}

@@ -13,7 +13,7 @@ use Rattle.session_audit.specs.declared.phases.Phase.{Phase}
 -- one text and one status
 abbrev pub OneSessionAnswer : Type 0
 OneSessionAnswer = (phases : List Phase) (table : Bool) (checks : FurtherChecks)
-    (share : DayShare) (orders trades : Log) (judged_by : List ℕ) (a b : DayAnswer)
+    (share : DayShare) (orders trades : Log) (question_text : List ℕ) (a b : DayAnswer)
     → IsAnswerToLogs (AreSessionsOfDay phases table checks share) orders trades a
     → IsAnswerToLogs (AreSessionsOfDay phases table checks share) orders trades b
-    → AreWrittenAlike judged_by a b
+    → AreWrittenAlike question_text a b

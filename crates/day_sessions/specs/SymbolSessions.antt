@@ -4,8 +4,8 @@ use Rattle.std.specs.Prelude.{◌≡◌, ℕ, Bool, List, Ok, length}
 use Rattle.audit_base.specs.Moments.{Moment}
 use Rattle.audit_base.specs.declared.records.OrderRecord.{OrderRecord}
 use Rattle.audit_base.specs.declared.records.TradeRecord.{TradeRecord}
-use Rattle.day_trades.specs.declared.symbol_trades.SymbolTrades.{SymbolTrades}
-use Rattle.day_trades.specs.SymbolTrades.{IsSymbolTrades}
+use Rattle.day_records.specs.declared.symbol_trades.SymbolTrades.{SymbolTrades}
+use Rattle.day_records.specs.SymbolTrades.{IsSymbolTrades}
 use Rattle.day_verdicts.specs.declared.day_verdicts.JudgedSymbols.{JudgedSymbols}
 use Rattle.day_verdicts.specs.declared.symbol_reports.SymbolReport.{SymbolReport}
 use Rattle.day_verdicts.specs.CheckedSymbols.{after_checks, after_given, asked_times}
@@ -14,8 +14,8 @@ use Rattle.further_checks.specs.declared.findings.FurtherChecks.{FurtherChecks}
 use Rattle.record_verdict.specs.declared.before_rule.BeforeRule.{BeforeRule}
 use Rattle.record_verdict.specs.declared.scopes.Admission.TheVariants as admission
 use Rattle.session_audit.specs.declared.phases.Phase.{Phase}
-use Rattle.session_verdict.specs.declared.sessions.Session.{Session}
-use Rattle.session_verdict.specs.Sessions.{IsSessionAfter, IsSessionOfKind, IsSessionOfRecords}
+use Rattle.session_audit.specs.declared.verdicts.Session.{Session}
+use Rattle.session_audit.specs.SessionVerdicts.{IsSessionAfter, IsSessionOfKind, IsSessionOfRecords}
 
 -- this is the session of the symbol over these records
 abbrev pub IsSymbolSession : List Phase → Bool → List OrderRecord → List TradeRecord → List ℕ

@@ -14,7 +14,7 @@ use audit_base::faults::NoMemory;
 use day_logs::answers::DayAnswer;
 use day_logs::before_rule::DayBeforeRule;
 use day_logs::reading::read_day;
-use day_symbols::shares::Share;
+use day_symbols::shares::DayShare;
 use further_checks::findings::FurtherChecks;
 use log_source::shelf::Shelf;
 use log_verdict::sources::Source;
@@ -29,7 +29,7 @@ fn sessions_after(
     phases: &[Phase],
     table: bool,
     checks: FurtherChecks,
-    share: Share,
+    share: DayShare,
     given: DayBeforeRule,
 ) -> Result<DayAnswer, NoMemory>
     requires phases { ArePhases phases.now }
@@ -54,7 +54,7 @@ fn sessions_of_logs<F: Shelf>(
     phases: &[Phase],
     table: bool,
     checks: FurtherChecks,
-    share: Share,
+    share: DayShare,
     orders: &Source<'_>,
     trades: &Source<'_>,
 ) -> Result<DayAnswer, Stop>
@@ -81,7 +81,7 @@ pub fn sessions_on<F: Shelf>(
     phases: &[Phase],
     table: bool,
     checks: FurtherChecks,
-    share: Share,
+    share: DayShare,
     orders: &Source<'_>,
     trades: &Source<'_>,
 ) -> Result<DayAnswer, Stop>

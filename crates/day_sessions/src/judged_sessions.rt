@@ -7,8 +7,8 @@ ghost use Rattle.session_audit.specs.Phases.{ArePhases};
 
 use crate::symbol_sessions::judge_symbol;
 use audit_base::faults::NoMemory;
-use day_symbols::shares::Share;
-use day_trades::day_trades::EndedTrades;
+use day_records::day_trades::EndedTrades;
+use day_symbols::shares::DayShare;
 use day_verdicts::day_verdicts::JudgedSymbols;
 use further_checks::findings::FurtherChecks;
 use session_audit::phases::Phase;
@@ -24,7 +24,7 @@ pub fn judge_sessions(
     phases: &[Phase],
     table: bool,
     checks: FurtherChecks,
-    share: Share,
+    share: DayShare,
     ended: EndedTrades,
 ) -> Result<JudgedSymbols, NoMemory>
     requires phases { ArePhases phases.now }

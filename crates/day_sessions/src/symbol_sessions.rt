@@ -9,14 +9,14 @@ ghost use Rattle.session_audit.specs.Phases.{ArePhases};
 use audit_base::faults::NoMemory;
 use audit_base::names::Name;
 use audit_base::stamps::Stamp;
-use day_trades::symbol_trades::SymbolTrades;
+use day_records::symbol_trades::SymbolTrades;
 use day_verdicts::day_verdicts::JudgedSymbols;
 use day_verdicts::symbol_reports::{SymbolReport, report_after};
 use further_checks::findings::FurtherChecks;
 use further_checks::laws::nothing_is_found_unasked;
 use record_verdict::before_rule::BeforeRule;
 use session_audit::phases::Phase;
-use session_verdict::sessions::session_after;
+use session_audit::verdicts::session_after;
 use std::alloc::Global;
 
 /// What is told of a symbol whose records give this: by its session, and then by the checks.

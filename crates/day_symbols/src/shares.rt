@@ -9,12 +9,12 @@ pub const MOST_SHARES: u32 = 65_536;
 /// The share K/N: of the symbols in their order those with the numbers K, K + N, K + 2N and so
 /// on, from 1. K is from 1 to N, and N at most 65,536.
 #[derive(Clone, Copy, Debug, PartialEq, Eq)]
-pub struct Share {
+pub struct DayShare {
     number: u32,
     count: u32,
 }
 
-impl Model for Share {
+impl Model for DayShare {
     ghost use Rattle.day_symbols.specs.Shares.{DayShare, IsDayShare};
 
     ghost Value = { DayShare };
@@ -27,26 +27,26 @@ impl Model for Share {
     ghost inverse = { λ share. record { number = share.number; count = share.count } };
 }
 
-impl Share {
+impl DayShare {
     ghost use Rattle.std.specs.Prelude.{◌≡◌, ◌<◌, true, length, option_map, slice_get};
     ghost use Rattle.day_symbols.specs.Shares.{is_in_share, is_looked_at, index_in_share, day_share_of, symbols_in, whole_day};
 
     /// The share number/count, where there is one.
-    pub fn of(number: u32, count: u32) -> Option<Share>
+    pub fn of(number: u32, count: u32) -> Option<DayShare>
         ensures { result ≡ day_share_of number count }
     {
         if 1 <= number && number <= count && count <= MOST_SHARES {
-            Some(Share { number, count })
+            Some(DayShare { number, count })
         } else {
             None
         }
     }
 
     /// The whole day: 1/1.
-    pub fn whole() -> Share
+    pub fn whole() -> DayShare
         ensures { result ≡ whole_day }
     {
-        Share {
+        DayShare {
             number: 1,
             count: 1,
         }

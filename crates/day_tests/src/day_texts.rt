@@ -3,7 +3,7 @@ use crate::two_logs::shelf_of;
 use audit_base::terms::{Form, Rule};
 use day_logs::answers::{DayQuestion, verdicts_on};
 use day_logs::texts::text_of_day;
-use day_symbols::shares::Share;
+use day_symbols::shares::DayShare;
 use further_checks::findings::FurtherChecks;
 use log_source::memory_shelf::MemoryShelf;
 use log_verdict::sources::Source;
@@ -33,8 +33,8 @@ pub(crate) fn day_shelf(alloc: Global, orders: &[u8], trades: &[u8]) -> Result<M
 }
 
 /// The share number/count of a day.
-pub(crate) fn share_of(number: u32, count: u32) -> Result<Share, Fail> {
-    match Share::of(number, count) {
+pub(crate) fn share_of(number: u32, count: u32) -> Result<DayShare, Fail> {
+    match DayShare::of(number, count) {
         Some(share) => Ok(share),
         None => Err(Fail::new("no share")),
     }
@@ -56,7 +56,7 @@ pub(crate) fn text_asked(
 pub(crate) fn share_text(
     alloc: Global,
     shelf: &mut MemoryShelf,
-    share: Share,
+    share: DayShare,
 ) -> Result<Vec<u8>, Fail> {
     let question = DayQuestion {
         rule: Rule::Matching,

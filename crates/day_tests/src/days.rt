@@ -3,7 +3,7 @@ ghost use Rattle.std.specs.Prelude.{◌<◌, length};
 
 use audit_base::terms::Rule;
 use csv_logs::logs::{csv_orders_of, csv_trades_of};
-use day_symbols::shares::Share;
+use day_symbols::shares::DayShare;
 use day_verdicts::whole_days::judge_records_of_day;
 use further_checks::findings::FurtherChecks;
 use std::process::Abort;
@@ -22,7 +22,7 @@ const TRADES: &[u8] = b"trade,time,symbol,buy_firm,buy_id,sell_firm,sell_id,quan
     T2,20240102-09:00:01,Z,A,b1,B,s1,11,9\n";
 
 /// The text of a share of the day under `matching`.
-fn text_of<R: AllocGlobal + Abort>(rt: &R, share: Share, orders: &[u8], trades: &[u8]) -> Vec<u8>
+fn text_of<R: AllocGlobal + Abort>(rt: &R, share: DayShare, orders: &[u8], trades: &[u8]) -> Vec<u8>
     requires orders { length orders.now < 1000 }
     requires trades { length trades.now < 1000 }
 {
@@ -43,7 +43,7 @@ fn text_of<R: AllocGlobal + Abort>(rt: &R, share: Share, orders: &[u8], trades: 
 
 #[test]
 fn each_symbol_has_the_lines_that_it_has_by_itself(rt: HostRuntime) {
-    let text = text_of(&rt, Share::whole(), ORDERS, TRADES);
+    let text = text_of(&rt, DayShare::whole(), ORDERS, TRADES);
     assert_eq!(rt;
         text.as_slice(),
         b"day,3,1,2,matching\n\
@@ -59,7 +59,7 @@ fn each_symbol_has_the_lines_that_it_has_by_itself(rt: HostRuntime) {
 
 #[test]
 fn a_share_has_its_symbols_alone(rt: HostRuntime) {
-    let second = Share::of(2, 2).expect(&rt, "a share");
+    let second = DayShare::of(2, 2).expect(&rt, "a share");
     let text = text_of(&rt, second, ORDERS, TRADES);
     assert_eq!(rt;
         text.as_slice(),
@@ -72,7 +72,7 @@ fn a_share_has_its_symbols_alone(rt: HostRuntime) {
 
 #[test]
 fn a_share_without_symbols_is_empty(rt: HostRuntime) {
-    let last = Share::of(4, 4).expect(&rt, "a share");
+    let last = DayShare::of(4, 4).expect(&rt, "a share");
     let text = text_of(&rt, last, ORDERS, TRADES);
     assert_eq!(rt; text.as_slice(), b"day,0,0,0,matching\n".as_slice());
 }

@@ -4,7 +4,7 @@ use audit_base::names::{Name, read_name};
 use audit_base::terms::{Form, Rule, Which};
 use audit_report::reports::report_text;
 use day_logs::answers::DayQuestion;
-use day_symbols::shares::Share;
+use day_symbols::shares::DayShare;
 use further_checks::findings::FurtherChecks;
 use log_source::memory_shelf::MemoryShelf;
 use log_verdict::sources::Source;
@@ -184,7 +184,7 @@ fn check_asked(
         rule,
         table,
         checks: FurtherChecks::none(),
-        share: Share::whole(),
+        share: DayShare::whole(),
     };
     let text = text_asked(alloc, shelf, &question)?;
     check_text(first, &text, &wanted)

@@ -2,7 +2,7 @@
 ghost use Rattle.std.specs.Prelude.{◌<◌};
 
 use crate::day_texts::{ORDERS, TRADES, check_text, day_shelf, log_of, share_of, share_text};
-use day_symbols::shares::Share;
+use day_symbols::shares::DayShare;
 use log_source::memory_shelf::MemoryShelf;
 use std::alloc::Global;
 use std::test::Fail;
@@ -97,7 +97,7 @@ fn check_third(
 fn ten_thousand_symbols_of_one_order(rt: HostRuntime) -> Result<(), Fail> {
     let alloc = rt.alloc();
     let mut shelf = day_shelf(alloc, &many_orders(alloc)?, &many_trades(alloc)?)?;
-    let day = share_text(alloc, &mut shelf, Share::whole())?;
+    let day = share_text(alloc, &mut shelf, DayShare::whole())?;
     check_day(alloc, &day)
 }
 
@@ -105,7 +105,7 @@ fn ten_thousand_symbols_of_one_order(rt: HostRuntime) -> Result<(), Fail> {
 fn three_shares_of_ten_thousand_symbols(rt: HostRuntime) -> Result<(), Fail> {
     let alloc = rt.alloc();
     let mut shelf = day_shelf(alloc, &many_orders(alloc)?, &many_trades(alloc)?)?;
-    let day = share_text(alloc, &mut shelf, Share::whole())?;
+    let day = share_text(alloc, &mut shelf, DayShare::whole())?;
     let share = share_text(alloc, &mut shelf, share_of(1, 3)?)?;
     check_third(alloc, &day, &share, 0, "day,3334,3300,34,matching\n", 3_334)?;
     let share = share_text(alloc, &mut shelf, share_of(2, 3)?)?;
@@ -210,7 +210,7 @@ fn check_beside(alloc: Global, row: &Beside) -> Result<(), Fail> {
     let orders = orders_of_one(alloc, row.orders)?;
     let trades = trades_of_one(alloc, row.trades_before, row.trades_after)?;
     let mut shelf = day_shelf(alloc, &orders, &trades)?;
-    let day = share_text(alloc, &mut shelf, Share::whole())?;
+    let day = share_text(alloc, &mut shelf, DayShare::whole())?;
     check_text(
         row.name,
         &day,

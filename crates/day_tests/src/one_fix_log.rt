@@ -3,7 +3,7 @@ use crate::day_texts::{check_text, log_of};
 use audit_base::terms::{Form, Rule};
 use day_logs::answers::{DayQuestion, verdicts_on};
 use day_logs::texts::text_of_day;
-use day_symbols::shares::Share;
+use day_symbols::shares::DayShare;
 use further_checks::findings::FurtherChecks;
 use log_source::memory_shelf::MemoryShelf;
 use log_verdict::sources::Source;
@@ -159,7 +159,7 @@ fn check_row(alloc: Global, row: &Row) -> Result<(), Fail> {
         rule: row.rule,
         table: row.table,
         checks: FurtherChecks::none(),
-        share: Share::whole(),
+        share: DayShare::whole(),
     };
     let answer = verdicts_on(alloc, &mut shelf, &question, &log, &log)?;
     let text = text_of_day(alloc, &answer, row.rule.word())?;

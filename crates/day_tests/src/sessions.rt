@@ -4,7 +4,7 @@ use audit_base::terms::Form;
 use audit_report::statuses::Status;
 use day_logs::texts::{status_of_day, text_of_day};
 use day_sessions::answers::sessions_on;
-use day_symbols::shares::Share;
+use day_symbols::shares::DayShare;
 use further_checks::findings::FurtherChecks;
 use log_verdict::sources::Source;
 use seeded_hash::seed::HashSeed;
@@ -31,7 +31,7 @@ fn each_symbol_has_its_session(rt: HostRuntime) -> Result<(), Fail> {
         &PHASES,
         false,
         FurtherChecks::none(),
-        Share::whole(),
+        DayShare::whole(),
         &orders,
         &trades,
     )?;

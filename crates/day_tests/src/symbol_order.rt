@@ -1,6 +1,6 @@
 //! The order of the symbols of a day.
 use crate::day_texts::{ORDERS, TRADES, check_text, day_shelf, log_of, share_text};
-use day_symbols::shares::Share;
+use day_symbols::shares::DayShare;
 use std::alloc::Global;
 use std::test::Fail;
 
@@ -124,7 +124,7 @@ fn check_row(alloc: Global, row: &Row) -> Result<(), Fail> {
     let mut trades = log_of(alloc, &[TRADES])?;
     trades.extend_from_slice(&log_of(alloc, row.trades)?)?;
     let mut shelf = day_shelf(alloc, &orders, &trades)?;
-    let text = share_text(alloc, &mut shelf, Share::whole())?;
+    let text = share_text(alloc, &mut shelf, DayShare::whole())?;
     check_text(row.name, &text, &log_of(alloc, row.text)?)
 }
 

@@ -5,7 +5,7 @@ use audit_base::terms::{Form, Rule, Which};
 use audit_report::statuses::Status;
 use day_logs::answers::{DayAnswer, DayQuestion, verdicts_on};
 use day_logs::texts::{status_of_day, text_of_day};
-use day_symbols::shares::Share;
+use day_symbols::shares::DayShare;
 use further_checks::findings::FurtherChecks;
 use log_source::memory_shelf::MemoryShelf;
 use log_verdict::sources::Source;
@@ -54,7 +54,7 @@ fn answer_on(alloc: Global, shelf: &mut MemoryShelf, trades_form: Form) -> Resul
         rule: Rule::Matching,
         table: false,
         checks: FurtherChecks::none(),
-        share: Share::whole(),
+        share: DayShare::whole(),
     };
     let orders = Source::of("orders", Form::Csv, HashSeed::fixed());
     let trades = Source::of("trades", trades_form, HashSeed::fixed());

@@ -7,10 +7,10 @@ use Rattle.audit_base.specs.declared.terms.Rule.{Rule}
 use Rattle.audit_report.specs.declared.verdicts.Verdict.{Verdict}
 use Rattle.day_symbols.specs.Shares.{DayShare, symbols_in}
 use Rattle.day_symbols.specs.Symbols.{symbols_of_day}
-use Rattle.day_trades.specs.declared.day_trades.EndedTrades.{EndedTrades}
-use Rattle.day_trades.specs.declared.symbol_records.SymbolRecords.{SymbolRecords}
-use Rattle.day_trades.specs.declared.symbol_trades.SymbolTrades.{SymbolTrades}
-use Rattle.day_trades.specs.SymbolRecords.{GivesSymbolTrades}
+use Rattle.day_records.specs.declared.day_trades.EndedTrades.{EndedTrades}
+use Rattle.day_records.specs.declared.symbol_records.SymbolRecords.{SymbolRecords}
+use Rattle.day_records.specs.declared.symbol_trades.SymbolTrades.{SymbolTrades}
+use Rattle.day_records.specs.SymbolRecords.{GivesSymbolTrades}
 use Rattle.day_verdicts.specs.DayVerdicts.{IsVerdictOnSymbol}
 use Rattle.day_verdicts.specs.VerdictLists.{HasTakenShare, HasTakenUpTo, HasTakenVerdicts, TakesVerdict}
 use Rattle.day_verdicts.proofs.VerdictSteps.{IsNext, for-each-more, next-gives}

@@ -13,15 +13,15 @@ use Rattle.day_symbols.specs.Kept.{AreForEach}
 use Rattle.day_symbols.specs.Shares.{DayShare, symbols_in}
 use Rattle.day_symbols.specs.Symbols.{symbols_of_day}
 use Rattle.day_symbols.proofs.PlaceLemmas.{got-left, got-last}
-use Rattle.day_trades.specs.declared.day_trades.EndedTrades.{EndedTrades}
-use Rattle.day_trades.specs.declared.symbol_records.SymbolRecords.{SymbolRecords}
-use Rattle.day_trades.specs.declared.symbol_trades.SymbolTrades.{SymbolTrades}
-use Rattle.day_trades.specs.DayTrades.{HasTradesOf}
-use Rattle.day_trades.specs.SymbolRecords.{GivesSymbolTrades, HasFewSymbolRecords, HasSymbolRecords, times_if}
-use Rattle.day_trades.specs.SymbolTrades.{HasFewOfSymbol, IsSymbolTrades}
+use Rattle.day_records.specs.declared.day_trades.EndedTrades.{EndedTrades}
+use Rattle.day_records.specs.declared.symbol_records.SymbolRecords.{SymbolRecords}
+use Rattle.day_records.specs.declared.symbol_trades.SymbolTrades.{SymbolTrades}
+use Rattle.day_records.specs.DayTrades.{HasTradesOf}
+use Rattle.day_records.specs.SymbolRecords.{GivesSymbolTrades, HasFewSymbolRecords, HasSymbolRecords, times_if}
+use Rattle.day_records.specs.SymbolTrades.{HasFewOfSymbol, IsSymbolTrades}
 use Rattle.further_checks.specs.declared.findings.FurtherChecks.{FurtherChecks}
 use Rattle.further_checks.specs.FurtherRules.{asks_further}
-use Rattle.kept_records.specs.KeptTrades.{KeptDeals}
+use Rattle.day_records.specs.KeptTrades.{KeptDeals}
 use Rattle.record_verdict.specs.declared.scopes.Admission.{Admission}
 use Rattle.record_verdict.specs.RecordVerdicts.{IsRecordVerdict, question}
 use Rattle.record_verdict.specs.Scopes.{admission_of}

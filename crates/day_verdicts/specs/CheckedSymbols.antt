@@ -5,8 +5,8 @@ use Rattle.audit_base.specs.Moments.{Moment}
 use Rattle.audit_base.specs.declared.records.OrderRecord.{OrderRecord}
 use Rattle.audit_base.specs.declared.records.TradeRecord.{TradeRecord}
 use Rattle.audit_base.specs.Histories.{order_list}
-use Rattle.day_trades.specs.declared.symbol_trades.SymbolTrades.{SymbolTrades}
-use Rattle.day_trades.specs.SymbolTrades.{HasFewOfSymbol}
+use Rattle.day_records.specs.declared.symbol_trades.SymbolTrades.{SymbolTrades}
+use Rattle.day_records.specs.SymbolTrades.{HasFewOfSymbol}
 use Rattle.further_checks.specs.declared.findings.FurtherChecks.{FurtherChecks}
 use Rattle.further_checks.specs.declared.findings.FurtherFinding.{FurtherFinding}
 use Rattle.further_checks.specs.FurtherRules.{asks_further, first_finding_of_symbol, further_findings, times_of_symbol}

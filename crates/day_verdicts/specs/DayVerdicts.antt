@@ -7,14 +7,14 @@ use Rattle.audit_base.specs.declared.terms.Rule.{Rule}
 use Rattle.audit_report.specs.declared.verdicts.Verdict.{Verdict}
 use Rattle.audit_report.specs.declared.verdicts.Verdict.TheVariants as verdict
 use Rattle.audit_report.specs.Texts.{verdict_text}
-use Rattle.day_report.specs.declared.day_line.DayCounts.{DayCounts}
+use Rattle.audit_report.specs.declared.day_line.DayCounts.{DayCounts}
 use Rattle.day_symbols.specs.Kept.{AreForEach}
 use Rattle.day_symbols.specs.Shares.{DayShare, symbols_in}
 use Rattle.day_symbols.specs.Symbols.{symbols_of_day}
-use Rattle.day_trades.specs.declared.day_trades.EndedTrades.{EndedTrades}
-use Rattle.day_trades.specs.declared.symbol_trades.SymbolTrades.{SymbolTrades}
-use Rattle.day_trades.specs.DayTrades.{HasTradesOf}
-use Rattle.day_trades.specs.SymbolTrades.{IsSymbolTrades}
+use Rattle.day_records.specs.declared.day_trades.EndedTrades.{EndedTrades}
+use Rattle.day_records.specs.declared.symbol_trades.SymbolTrades.{SymbolTrades}
+use Rattle.day_records.specs.DayTrades.{HasTradesOf}
+use Rattle.day_records.specs.SymbolTrades.{IsSymbolTrades}
 use Rattle.day_verdicts.specs.declared.day_verdicts.JudgedSymbols.{JudgedSymbols}
 use Rattle.day_verdicts.specs.declared.symbol_reports.SymbolReport.{SymbolReport}
 use Rattle.day_verdicts.specs.CheckedSymbols.{after_checks, after_given, asked_times}

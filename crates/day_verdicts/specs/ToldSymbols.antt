@@ -1,7 +1,7 @@
 -- What is told of the symbols of a day: the counts, and the lines.
 use Rattle.std.specs.Prelude.{◌≡◌, ◌+◌, ℕ, Bool, not, List, [], ◌∷◌, ◌++◌, length, count_by, if◌then◌else◌}
-use Rattle.day_report.specs.declared.day_line.DayCounts.{DayCounts}
-use Rattle.day_report.specs.DayTexts.{symbol_lines}
+use Rattle.audit_report.specs.declared.day_line.DayCounts.{DayCounts}
+use Rattle.audit_report.specs.DayTexts.{symbol_lines}
 use Rattle.day_verdicts.specs.declared.day_verdicts.JudgedSymbols.{JudgedSymbols}
 use Rattle.day_verdicts.specs.declared.symbol_reports.SymbolReport.{SymbolReport}
 

@@ -6,8 +6,8 @@ use Rattle.audit_base.specs.declared.terms.Rule.{Rule}
 use Rattle.audit_report.specs.declared.verdicts.Verdict.{Verdict}
 use Rattle.day_symbols.specs.Shares.{DayShare, symbols_in}
 use Rattle.day_symbols.specs.Symbols.{symbols_of_day}
-use Rattle.day_trades.specs.DayTrades.{HasTradesOf}
-use Rattle.day_trades.specs.declared.day_trades.EndedTrades.{EndedTrades}
+use Rattle.day_records.specs.DayTrades.{HasTradesOf}
+use Rattle.day_records.specs.declared.day_trades.EndedTrades.{EndedTrades}
 use Rattle.day_verdicts.specs.DayVerdicts.{AreVerdicts}
 use Rattle.record_verdict.specs.Scopes.{admission_of}
 

@@ -1,8 +1,8 @@
 //! The verdict on each symbol of a share, one symbol after another.
 ghost use Rattle.std.specs.Prelude.{◌≡◌, ◌++◌, IfOk, OnOk};
-ghost use Rattle.day_report.specs.DayTexts.{day_line};
+ghost use Rattle.audit_report.specs.DayTexts.{day_line};
 ghost use Rattle.audit_report.specs.Texts.{IsVerdictInRange};
-ghost use Rattle.day_trades.specs.SymbolTrades.{HasFewOfSymbol};
+ghost use Rattle.day_records.specs.SymbolTrades.{HasFewOfSymbol};
 ghost use Rattle.record_verdict.specs.BeforeRule.{IsJudgeable};
 ghost use Rattle.day_verdicts.specs.CheckedSymbols.{HasFewTimed, HasTimes};
 ghost use Rattle.day_verdicts.specs.DayVerdicts as day;
@@ -13,13 +13,13 @@ use audit_base::faults::NoMemory;
 use audit_base::names::Name;
 use audit_base::stamps::Stamp;
 use audit_base::terms::Rule;
+use audit_report::day_line::{DayCounts, append_day_line};
 use audit_report::reports::report_text;
+use audit_report::symbol_lines::append_symbol_lines;
 use audit_report::verdicts::Verdict;
-use day_report::day_line::{DayCounts, append_day_line};
-use day_report::symbol_lines::append_symbol_lines;
-use day_symbols::shares::Share;
-use day_trades::day_trades::EndedTrades;
-use day_trades::symbol_trades::SymbolTrades;
+use day_records::day_trades::EndedTrades;
+use day_records::symbol_trades::SymbolTrades;
+use day_symbols::shares::DayShare;
 use further_checks::findings::FurtherChecks;
 use further_checks::laws::nothing_is_found_unasked;
 use record_verdict::before_rule::BeforeRule;
@@ -138,12 +138,12 @@ impl JudgedSymbols {
 
     /// The text of the day: the line that counts its symbols, with what they were judged by, and
     /// their lines.
-    pub fn text(&self, alloc: Global, judged_by: &[u8]) -> Result<Vec<u8>, NoMemory>
-        ensures { let line = day_line self.now.counts judged_by.now in
+    pub fn text(&self, alloc: Global, question_text: &[u8]) -> Result<Vec<u8>, NoMemory>
+        ensures { let line = day_line self.now.counts question_text.now in
             IfOk result (λ text. text.items ≡ line ++ self.now.lines.items) }
     {
         let mut text = Vec::new(alloc);
-        append_day_line(alloc, self.counts, judged_by, &mut text)?;
+        append_day_line(alloc, self.counts, question_text, &mut text)?;
         text.extend_from_slice(&self.lines)?;
         Ok(text)
     }
@@ -159,7 +159,7 @@ pub fn judge_day(
     rule: Rule,
     table: bool,
     checks: FurtherChecks,
-    share: Share,
+    share: DayShare,
     ended: EndedTrades,
 ) -> Result<JudgedSymbols, NoMemory>
     requires { day.RuleTradesFitPlaces rule share ended }

@@ -9,8 +9,8 @@ use audit_base::faults::NoMemory;
 use audit_base::names::Name;
 use audit_base::terms::Rule;
 use audit_report::verdicts::Verdict;
-use day_symbols::shares::Share;
-use day_trades::day_trades::EndedTrades;
+use day_records::day_trades::EndedTrades;
+use day_symbols::shares::DayShare;
 use record_verdict::questions::Question;
 use std::alloc::Global;
 
@@ -34,7 +34,7 @@ pub trait VerdictList: Drop {
 pub fn hand_verdicts<L: VerdictList>(
     alloc: Global,
     rule: Rule,
-    share: Share,
+    share: DayShare,
     ended: EndedTrades,
     list: L,
 ) -> Result<L, NoMemory>

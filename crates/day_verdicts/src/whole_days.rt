@@ -1,19 +1,19 @@
 //! The verdicts on a day whose records are there as a whole.
 ghost use Rattle.std.specs.Prelude.{◌≡◌, ◌<◌, ◌-◌, ◌^◌, List, IfOk, length};
 ghost use Rattle.audit_base.specs.declared.records.OrderRecord.{OrderRecord as AnEntry};
-ghost use Rattle.day_orders.specs.DayOrders.{HasOrders, IsDayOrders};
+ghost use Rattle.day_records.specs.DayOrders.{HasOrders, IsDayOrders};
 ghost use Rattle.day_symbols.specs.Shares.{symbols_in};
 ghost use Rattle.day_symbols.specs.Symbols.{symbols_of_day};
-ghost use Rattle.day_trades.specs.DayTrades.{HasTradesOf, IsDayTrades};
+ghost use Rattle.day_records.specs.DayTrades.{HasTradesOf, IsDayTrades};
 ghost use Rattle.day_verdicts.specs.DayVerdicts.{IsJudgedDay};
 
 use crate::day_verdicts::{JudgedSymbols, judge_day};
 use audit_base::faults::NoMemory;
 use audit_base::records::{OrderRecord, TradeRecord};
 use audit_base::terms::Rule;
-use day_orders::day_orders::{AuditedShare, DayOrders, EndedOrders};
-use day_symbols::shares::Share;
-use day_trades::day_trades::{AuditedDay, DayTrades, EndedTrades};
+use day_records::day_orders::{AuditedShare, DayOrders, EndedOrders};
+use day_records::day_trades::{AuditedDay, DayTrades, EndedTrades};
+use day_symbols::shares::DayShare;
 use further_checks::findings::FurtherChecks;
 use log_source::collector::Collector;
 use record_verdict::scopes::Admission;
@@ -24,7 +24,7 @@ use std::marker::Brand;
 /// The order log of a day that has been handed these records.
 fn orders_handed<D: AuditedShare>(
     alloc: Global,
-    share: Share,
+    share: DayShare,
     entries: &[OrderRecord],
 ) -> Result<DayOrders<D>, NoMemory>
     requires share { share ≡ D.share }
@@ -41,7 +41,7 @@ fn orders_handed<D: AuditedShare>(
 /// What the order records of a day give.
 fn orders_of<D: AuditedShare>(
     alloc: Global,
-    share: Share,
+    share: DayShare,
     entries: &[OrderRecord],
 ) -> Result<EndedOrders, NoMemory>
     requires share { share ≡ D.share }
@@ -55,7 +55,7 @@ fn orders_of<D: AuditedShare>(
 /// The trade log of a day that has been handed these records.
 fn trades_handed<M: AuditedDay>(
     alloc: Global,
-    share: Share,
+    share: DayShare,
     admission: Admission,
     orders: EndedOrders,
     trades: &[TradeRecord],
@@ -78,7 +78,7 @@ fn trades_handed<M: AuditedDay>(
 /// What the trades of a day give, after these orders.
 fn trades_of<M: AuditedDay>(
     alloc: Global,
-    share: Share,
+    share: DayShare,
     admission: Admission,
     orders: EndedOrders,
     trades: &[TradeRecord],
@@ -104,7 +104,7 @@ pub fn judge_records_of_day(
     rule: Rule,
     table: bool,
     checks: FurtherChecks,
-    share: Share,
+    share: DayShare,
     entries: &[OrderRecord],
     trades: &[TradeRecord],
 ) -> Result<JudgedSymbols, NoMemory>

@@ -7,12 +7,12 @@ ghost use Rattle.desk_program.specs.Answers.{DeskAnswersWords};
 
 use crate::ends::DeskEnd;
 use crate::pictures::RulePictures;
+use desk_page::running::{PageEnd, run_page_seeded};
 use desk_run::running::run_desk_seeded;
 use desk_words::commands::{asks_filing, asks_page};
 use digest_files::closing::{ClosedEnd, ClosingDigests, file_and_close};
 use log_source::shelf::Shelf;
 use log_source::sink::Sink;
-use page_run::running::{PageEnd, run_page_seeded};
 use seeded_hash::seed::HashSeed;
 use std::alloc::Global;
 

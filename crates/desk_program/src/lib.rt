@@ -10,7 +10,7 @@ ghost use Rattle.audit_base.specs.declared.terms.Which.{Which};
 ghost use Rattle.audit_report.specs.declared.statuses.Status.TheVariants as status;
 ghost use Rattle.desk_program.specs.Answers.{DeskAnswersWords, DeskBegins, DeskBeginsUnknown, desk_end_number};
 ghost use Rattle.desk_program.specs.declared.ends.DeskEnd.TheVariants as ended;
-ghost use Rattle.run_notes.specs.ProgramAnswers.{AnswersCommandLine, AnswersFrom, AnswersUnknownWords, EndsAsAnswer};
+ghost use Rattle.stderr_notes.specs.ProgramAnswers.{AnswersCommandLine, AnswersFrom, AnswersUnknownWords, EndsAsAnswer};
 
 mod calls;
 pub mod ends;
@@ -30,13 +30,13 @@ use log_source::output::Output;
 use log_source::shelf::Shelf;
 use log_source::sink::Sink;
 use log_source::std_sink::StdSink;
-use run_notes::command_line::CommandLine;
-use run_notes::noted_shelf::NotedShelf;
-use run_notes::noted_sink::NotedSink;
-use run_notes::program_ends::{noted_files, noted_output};
 use std::io;
 use std::process::ExitCode;
 use std::random::RandomSource;
+use stderr_notes::command_line::CommandLine;
+use stderr_notes::noted_shelf::NotedShelf;
+use stderr_notes::noted_sink::NotedSink;
+use stderr_notes::program_ends::{noted_files, noted_output};
 
 /// Runs the command that the words of the command line ask for, with hashes of a random seed.
 fn answer_words<R: CommandLine + AllocGlobal + RandomSource, F: Shelf, K: Sink, O: ClosingDigests>(

@@ -5,10 +5,12 @@ use case_run::statuses::CaseStatus;
 use desk_words::commands::asks_filing;
 use log_source::limits::LONGEST_READ;
 use log_source::shelf::Shelf;
-use run_notes::database_notes::{is_database_missing, print_database_fault, print_made_database};
-use run_notes::log_notes::print_end;
-use run_notes::noted_shelf::NotedShelf;
-use run_notes::usage_notes::print_desk_usage;
+use stderr_notes::database_notes::{
+    is_database_missing, print_database_fault, print_made_database,
+};
+use stderr_notes::log_notes::print_end;
+use stderr_notes::noted_shelf::NotedShelf;
+use stderr_notes::usage_notes::print_desk_usage;
 
 /// The path of the database, where the words ask for a command with one.
 fn database_of(words: &[String]) -> Option<&str> {

@@ -6,9 +6,9 @@ use audit_base::faults::NoMemory;
 use audit_base::findings::Finding;
 use audit_base::orders::Deal;
 use audit_base::terms::Rule;
+use desk_page::drawings::Drawing;
 use order_list::lists::OrderList;
 use page_markup::markup::Markup;
-use page_run::drawings::Drawing;
 use rule_drawing::pictures::rule_picture;
 use std::alloc::Global;
 

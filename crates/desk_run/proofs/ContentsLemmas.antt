@@ -30,7 +30,7 @@ use Rattle.log_verdict.specs.BothLogs.{StaysWithin, StaysWithinAt}
 use Rattle.log_verdict.specs.Collecting.{step_of, IsUnread, TouchesOnly}
 use Rattle.log_verdict.specs.LogVerdicts.{records_of_order_log}
 use Rattle.log_verdict.specs.Steps.{Reading, EndsWithin, FaultsNeverFall, IsRead, IsReadFault, IsTooLong, StepsLead, with_slot}
-use Rattle.day_contents.specs.Items.{csv_items, fix_items, order_log_items}
+use Rattle.log_contents.specs.DayItems.{csv_items, fix_items, order_log_items}
 use Rattle.desk_run.specs.Contents.{IsAnswerToItems}
 
 -- The answers are those to logs that were read.

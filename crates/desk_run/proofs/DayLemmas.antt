@@ -29,8 +29,8 @@ day_status (answer.Judged judged) = by_rejected (nat_lt 0 judged.counts.rejected
 day_status (answer.Unpaired finding) = tt
 day_status (answer.Malformed log bad) = tt
 
-pub answer_status : (page : Bool) (meaning : DayMeaning) (judged_by : List ℕ) (orders trades : Log) (status : Status) (text : List ℕ) → IsDayAnswer page meaning judged_by orders trades status text → IsStatusOfLogs status
-answer_status page meaning judged_by orders trades status text is = subst IsStatusOfLogs (sym is.answer.status_is) (day_status is.day)
+pub answer_status : (page : Bool) (meaning : DayMeaning) (question_text : List ℕ) (orders trades : Log) (status : Status) (text : List ℕ) → IsDayAnswer page meaning question_text orders trades status text → IsStatusOfLogs status
+answer_status page meaning question_text orders trades status text is = subst IsStatusOfLogs (sym is.answer.status_is) (day_status is.day)
 
 -- what a reading within a limit decides is what one within that number does
 pub decides_within : {S : Type 0} (shelf : Shelf S) (old new : S) (source : Source) → source.limit ≡ longest_read → (request : DeskRequest) (result : Result Answer Stop)

@@ -8,7 +8,7 @@ use Rattle.audit_report.specs.declared.statuses.Status.TheVariants.{Accepted, Me
 use Rattle.command_run.specs.Runs.{AnswersCommand, ReadingDecides}
 use Rattle.desk_run.specs.Requests.{desk_command_of}
 use Rattle.desk_words.specs.declared.requests.DeskRequest.TheVariants.{Orders}
-use Rattle.generated_logs.specs.GeneratedTexts.{FailsWithin, WritesBeginning, generated_text}
+use Rattle.written_logs.specs.GeneratedTexts.{FailsWithin, WritesBeginning, generated_text}
 use Rattle.log_source.specs.Sinks.{SinkState}
 use Rattle.log_verdict.specs.Steps.{Reading}
 

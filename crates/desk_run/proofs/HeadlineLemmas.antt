@@ -16,7 +16,7 @@ use Rattle.day_logs.specs.declared.answers.DayAnswer.{DayAnswer}
 use Rattle.day_logs.specs.declared.answers.DayAnswer.TheVariants as answer
 use Rattle.day_logs.specs.DayAnswers.{AreVerdictsOfDay, DayMeaning, IsAnswerToRecords}
 use Rattle.day_logs.specs.DayAnswerTexts.{day_answer_status, day_answer_text}
-use Rattle.day_report.specs.declared.day_line.DayCounts.{DayCounts}
+use Rattle.audit_report.specs.declared.day_line.DayCounts.{DayCounts}
 use Rattle.day_sessions.specs.JudgedSessions.{AreSessionsOfDay, told_by_sessions}
 use Rattle.day_symbols.specs.Shares.{symbols_in}
 use Rattle.day_symbols.specs.Symbols.{symbols_of_day}
@@ -33,17 +33,17 @@ use Rattle.desk_run.specs.Requests.{day_question, desk_command_of, IsDayAnswer, 
 use Rattle.desk_run.specs.TopCall.{AnswersDay, AnswersDayOfPhases, AnswersDayOfRule, logs_named, WroteDay, WroteSessions, WroteSymbols, WroteTold, WroteVerdict, WroteVerdicts}
 
 -- counts and lines that are these, by what is written of them
-same_symbols : (judged : JudgedSymbols) (counts : DayCounts) (lines judged_by : List ℕ) (old new : SinkState) (status : Status) → judged.counts ≡ counts → judged.lines.items ≡ lines
-    → WroteSymbols judged.counts judged_by judged.lines.items old new status → WroteSymbols counts judged_by lines old new status
-same_symbols judged counts lines judged_by old new status counts_are lines_are =
-    subst (λ (c : DayCounts). WroteSymbols judged.counts judged_by judged.lines.items old new status → WroteSymbols c judged_by lines old new status) counts_are
-    (subst (λ (l : List ℕ). WroteSymbols judged.counts judged_by judged.lines.items old new status → WroteSymbols judged.counts judged_by l old new status) lines_are (λ w. w))
+same_symbols : (judged : JudgedSymbols) (counts : DayCounts) (lines question_text : List ℕ) (old new : SinkState) (status : Status) → judged.counts ≡ counts → judged.lines.items ≡ lines
+    → WroteSymbols judged.counts question_text judged.lines.items old new status → WroteSymbols counts question_text lines old new status
+same_symbols judged counts lines question_text old new status counts_are lines_are =
+    subst (λ (c : DayCounts). WroteSymbols judged.counts question_text judged.lines.items old new status → WroteSymbols c question_text lines old new status) counts_are
+    (subst (λ (l : List ℕ). WroteSymbols judged.counts question_text judged.lines.items old new status → WroteSymbols judged.counts question_text l old new status) lines_are (λ w. w))
 
 -- what is told of symbols, by what is written of it
-same_told : (symbols : List (List ℕ)) (told : List Told) (judged : JudgedSymbols) (judged_by : List ℕ) (old new : SinkState) (status : Status) → TellsSymbols symbols told judged
-    → WroteSymbols judged.counts judged_by judged.lines.items old new status → WroteTold symbols told judged_by old new status
-same_told symbols told judged judged_by old new status tells written =
-    same_symbols judged (counts_of told) (day_lines_of symbols told) judged_by old new status tells.counts_are tells.lines_are written
+same_told : (symbols : List (List ℕ)) (told : List Told) (judged : JudgedSymbols) (question_text : List ℕ) (old new : SinkState) (status : Status) → TellsSymbols symbols told judged
+    → WroteSymbols judged.counts question_text judged.lines.items old new status → WroteTold symbols told question_text old new status
+same_told symbols told judged question_text old new status tells written =
+    same_symbols judged (counts_of told) (day_lines_of symbols told) question_text old new status tells.counts_are tells.lines_are written
 
 -- a command that makes its whole answer first wrote nothing where memory ran out
 memory-whole : (early : Bool) (command : Command) (logs : List (List ℕ)) (old new : SinkState) (status : Status) → early ≡ false → RunsOutBefore early command logs old new status → RunsOutOfMemory old new status
@@ -59,11 +59,11 @@ apart x trades finding a b = cc
 same_fault : (x y : Result (List TradeRecord) Finding) (a b : Finding) → x ≡ Err a → y ≡ Err b → x ≡ y → a ≡ b
 same_fault x y a b e f same = cc
 
-module _ (meaning : DayMeaning) (judged_by : List ℕ) (old new : SinkState) (status : Status) (of_records : List OrderRecord → List TradeRecord → Type 0)
-    (told : (entries : List OrderRecord) (judged : JudgedSymbols) (trades : List TradeRecord) → meaning entries judged trades → WroteSymbols judged.counts judged_by judged.lines.items old new status
+module _ (meaning : DayMeaning) (question_text : List ℕ) (old new : SinkState) (status : Status) (of_records : List OrderRecord → List TradeRecord → Type 0)
+    (told : (entries : List OrderRecord) (judged : JudgedSymbols) (trades : List TradeRecord) → meaning entries judged trades → WroteSymbols judged.counts question_text judged.lines.items old new status
     → of_records entries trades) where
   of_trades : (entries : List OrderRecord) (paired : Result (List TradeRecord) Finding) (day : DayAnswer) → IsAnswerToRecords meaning entries paired day
-      → (status ≡ day_answer_status day) → Appends old.wrote new.wrote (day_answer_text judged_by day)
+      → (status ≡ day_answer_status day) → Appends old.wrote new.wrote (day_answer_text question_text day)
       → MatchResult paired (of_records entries) (λ finding. WroteVerdict (verdict.Rejected finding) old new status)
   of_trades entries (Ok trades) (answer.Judged judged) is status_is wrote = told entries judged trades is (record { status_is = status_is; wrote = wrote })
   of_trades entries (Err finding) (answer.Judged judged) is status_is wrote = absurd is
@@ -73,7 +73,7 @@ module _ (meaning : DayMeaning) (judged_by : List ℕ) (old new : SinkState) (st
 
   of_orders : (first : Result (List OrderRecord) BadPlace) (second : Result (Result (List TradeRecord) Finding) BadPlace) (day : DayAnswer)
       → MatchResult first (λ entries. MatchResult second (λ paired. IsAnswerToRecords meaning entries paired day) (λ bad. day ≡ answer.Malformed Trades bad)) (λ bad. day ≡ answer.Malformed Orders bad)
-      → (status ≡ day_answer_status day) → Appends old.wrote new.wrote (day_answer_text judged_by day)
+      → (status ≡ day_answer_status day) → Appends old.wrote new.wrote (day_answer_text question_text day)
       → MatchResult first
       (λ entries. MatchResult second (λ paired. MatchResult paired (of_records entries) (λ finding. WroteVerdict (verdict.Rejected finding) old new status)) (λ bad. WroteVerdict (verdict.Malformed Trades bad) old new status))
       (λ bad. WroteVerdict (verdict.Malformed Orders bad) old new status)
@@ -81,7 +81,7 @@ module _ (meaning : DayMeaning) (judged_by : List ℕ) (old new : SinkState) (st
   of_orders (Ok entries) (Err bad) day is status_is wrote = record { status_is = rw is at status_is; wrote = rw is at wrote }
   of_orders (Err bad) second day is status_is wrote = record { status_is = rw is at status_is; wrote = rw is at wrote }
 
-  written_day : (orders trades : Log) → WritesWhole (IsDayAnswer false meaning judged_by orders trades status) old new → WroteDay of_records orders trades old new status
+  written_day : (orders trades : Log) → WritesWhole (IsDayAnswer false meaning question_text orders trades status) old new → WroteDay of_records orders trades old new status
   written_day orders trades written =
       of_orders (records_of_order_log orders.form orders.bytes) (trades_of_trade_log trades.form trades.bytes) written.is.day written.is.is written.is.answer.status_is
       (subst (λ (text : List ℕ). Appends old.wrote new.wrote text) written.is.answer.text_is written.wrote)
@@ -96,10 +96,10 @@ module _ (meaning : DayMeaning) (judged_by : List ℕ) (old new : SinkState) (st
       (whole : command.writes_early ≡ false)
       (nexts : (bytes : List (List ℕ)) → command.next bytes ≡ next_of_both_logs orders_name trades_name orders.form bytes)
       (reports : (bytes : List (List ℕ)) (text : List ℕ) → command.is_answer bytes status text
-      → IsDayAnswer false meaning judged_by (log_in orders.form (log_read_at bytes 0)) (log_in trades.form (log_read_at bytes 1)) status text)
+      → IsDayAnswer false meaning question_text (log_in orders.form (log_read_at bytes 0)) (log_in trades.form (log_read_at bytes 1)) status text)
       (answers : (logs : List (List ℕ)) → AllIsThere r command logs old new → WritesAnswer command logs old new status) where
     as_day : (bytes : List (List ℕ)) → WritesWhole (command.is_answer bytes status) old new
-        → WritesWhole (IsDayAnswer false meaning judged_by (log_in orders.form (log_read_at bytes 0)) (log_in trades.form (log_read_at bytes 1)) status) old new
+        → WritesWhole (IsDayAnswer false meaning question_text (log_in orders.form (log_read_at bytes 0)) (log_in trades.form (log_read_at bytes 1)) status) old new
     as_day bytes written = record { text = written.text; is = reports bytes written.text written.is; wrote = written.wrote }
 
     by_orders : (said : Result (List OrderRecord) BadPlace) → records_of_order_log orders.form orders.bytes ≡ said → WroteDay of_records orders trades old new status ⊎ RunsOutOfMemory old new status

@@ -23,10 +23,10 @@ use Rattle.desk_words.specs.DressWords.{HasSohWord}
 use Rattle.desk_words.specs.declared.dress_words.DayDress.{DayDress}
 use Rattle.desk_words.specs.declared.dress_words.DayDress.TheVariants.{OnLines}
 use Rattle.desk_words.specs.declared.requests.DeskRequest.TheVariants.{Plain}
-use Rattle.dressed_logs.specs.declared.faults.BadMessage.{BadMessage}
-use Rattle.dressed_logs.specs.Fronts.{BeginsReadings}
-use Rattle.dressed_logs.specs.Laws.{written_line}
-use Rattle.dressed_logs.specs.Lines.{is_graphic, is_soh_text}
+use Rattle.fix_days.specs.declared.faults.BadMessage.{BadMessage}
+use Rattle.fix_days.specs.Fronts.{BeginsReadings}
+use Rattle.fix_days.specs.Laws.{written_line}
+use Rattle.fix_days.specs.Lines.{is_graphic, is_soh_text}
 use Rattle.log_source.specs.declared.shelf.Shelf.{Ghosts as Shelf}
 use Rattle.log_source.specs.declared.take.TakeFault.{TakeFault}
 use Rattle.log_source.specs.declared.take.TakeFault.TheVariants as take

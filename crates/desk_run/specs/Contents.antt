@@ -5,7 +5,7 @@ use Rattle.audit_base.specs.declared.terms.Which.TheVariants.{Orders, Trades}
 use Rattle.audit_report.specs.declared.statuses.Status.{Status}
 use Rattle.audit_report.specs.declared.verdicts.Verdict.TheVariants.{Malformed}
 use Rattle.command_run.specs.VerdictAnswers.{IsDone, IsVerdictAnswer}
-use Rattle.day_contents.specs.Items.{order_log_items, trade_log_items}
+use Rattle.log_contents.specs.DayItems.{order_log_items, trade_log_items}
 use Rattle.desk_run.specs.Deciding.{logs_of}
 use Rattle.desk_words.specs.declared.requests.DeskRequest.{DeskRequest}
 use Rattle.desk_words.specs.declared.requests.DeskRequest.TheVariants.{Contents}

@@ -10,9 +10,9 @@ use Rattle.audit_report.specs.Lines.{malformed_line}
 use Rattle.command_run.specs.VerdictAnswers.{IsAnswerWith}
 use Rattle.desk_words.specs.declared.dress_words.DayDress.{DayDress}
 use Rattle.desk_words.specs.declared.dress_words.DayDress.TheVariants.{Framed, OnLines}
-use Rattle.dressed_logs.specs.declared.faults.BadMessage.{BadMessage}
-use Rattle.dressed_logs.specs.Framed.{IsFramedReading}
-use Rattle.dressed_logs.specs.Lines.{IsLineReading}
+use Rattle.fix_days.specs.declared.faults.BadMessage.{BadMessage}
+use Rattle.fix_days.specs.Framed.{IsFramedReading}
+use Rattle.fix_days.specs.Lines.{IsLineReading}
 use Rattle.fix_messages.specs.Logs.{frame_reason}
 use Rattle.plain_logs.specs.PlainTexts.{IsPlainText}
 

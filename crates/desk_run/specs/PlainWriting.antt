@@ -4,8 +4,8 @@ use Rattle.std.specs.Io.KnownBytes.{Appends}
 use Rattle.audit_base.specs.declared.terms.Which.TheVariants.{Orders}
 use Rattle.command_run.specs.declared.answers.Answer.{Answer}
 use Rattle.command_run.specs.Early.{ReadsFront}
-use Rattle.dressed_logs.specs.declared.faults.BadMessage.{BadMessage}
-use Rattle.dressed_logs.specs.Fronts.{BeginsReadings}
+use Rattle.fix_days.specs.declared.faults.BadMessage.{BadMessage}
+use Rattle.fix_days.specs.Fronts.{BeginsReadings}
 use Rattle.log_source.specs.Sinks.{AppendsPart, HasFailureCause, SinkState}
 use Rattle.log_verdict.specs.BothLogs.{IsLogStop, StaysWithin}
 use Rattle.log_verdict.specs.Collecting.{step_of}

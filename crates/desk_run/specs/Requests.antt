@@ -77,17 +77,17 @@ IsWrittenOfDay true (Judged judged) the_text written = IsPageOfDayText the_text 
 
 -- The answer is that of a day: its status; and its text, with what the symbols were judged by in
 -- its first line, or the page of the day with that text.
-pub record IsAnswerOfDay (page : Bool) (judged_by : List ℕ) (day : DayAnswer) (status : Status)
+pub record IsAnswerOfDay (page : Bool) (question_text : List ℕ) (day : DayAnswer) (status : Status)
     (text : List ℕ) : Type 0 where
   pub status_is : status ≡ day_answer_status day
-  pub text_is : IsWrittenOfDay page day (day_answer_text judged_by day) text
+  pub text_is : IsWrittenOfDay page day (day_answer_text question_text day) text
 
 -- The answer is that to a day of two logs, as a page where that is asked for.
-pub record IsDayAnswer (page : Bool) (meaning : DayMeaning) (judged_by : List ℕ)
+pub record IsDayAnswer (page : Bool) (meaning : DayMeaning) (question_text : List ℕ)
     (orders trades : Log) (status : Status) (text : List ℕ) : Type 0 where
   pub day : DayAnswer
   pub is : IsAnswerToLogs meaning orders trades day
-  pub answer : IsAnswerOfDay page judged_by day status text
+  pub answer : IsAnswerOfDay page question_text day status text
 
 -- what a command answers to the logs that it has read, its status and its text: to `audit` and
 -- `session` that of the day, of the symbols of the share that is asked for, or its page; to

@@ -15,8 +15,8 @@ use Rattle.audit_report.specs.Statuses.{verdict_status}
 use Rattle.audit_report.specs.Texts.{verdict_text}
 use Rattle.command_run.specs.Runs.{AnswersHeldLogs, AnswersTooLong, AnswersWithCause, HoldsLog, IsKnown, NothingFails, RunsOutOfMemory}
 use Rattle.day_logs.specs.declared.answers.DayQuestion.{DayQuestion}
-use Rattle.day_report.specs.declared.day_line.DayCounts.{DayCounts}
-use Rattle.day_report.specs.DayTexts.{day_line}
+use Rattle.audit_report.specs.declared.day_line.DayCounts.{DayCounts}
+use Rattle.audit_report.specs.DayTexts.{day_line}
 use Rattle.day_sessions.specs.JudgedSessions.{AreSessions, told_by_sessions}
 use Rattle.day_symbols.specs.Shares.{DayShare, symbols_in}
 use Rattle.day_symbols.specs.Symbols.{symbols_of_day}
@@ -34,7 +34,7 @@ use Rattle.log_verdict.specs.LogVerdicts.{Log, OfLogs}
 use Rattle.log_verdict.specs.Steps.{reading_within, FaultsNeverFall, KeepsShelfLogs, Reading}
 use Rattle.session_audit.specs.declared.phases.Phase.{Phase}
 use Rattle.session_audit.specs.Texts.{phases_text}
-use Rattle.session_verdict.specs.declared.sessions.Session.{Session as SymbolSession}
+use Rattle.session_audit.specs.declared.verdicts.Session.{Session as SymbolSession}
 use Rattle.desk_run.specs.Requests.{day_question, desk_command_of, share_or_whole}
 
 -- what a call of `desk` knows of a shelf: a log may have 34,359,738,368 bytes
@@ -72,14 +72,14 @@ WroteVerdict v old new status = Wrote (verdict_status v) (verdict_text v) old ne
 -- exactly this was written of a day: the line of these counts, with what the symbols were judged
 -- by, and these lines; the status is 1 where a symbol is rejected, and else 0
 abbrev pub WroteSymbols : DayCounts → List ℕ → List ℕ → SinkState → SinkState → Status → Type 0
-WroteSymbols counts judged_by lines old new status =
+WroteSymbols counts question_text lines old new status =
     Wrote (if nat_lt 0 counts.rejected then Rejected else Accepted)
-    (day_line counts judged_by ++ lines) old new status
+    (day_line counts question_text ++ lines) old new status
 
 -- exactly what is told of these symbols was written
 abbrev pub WroteTold : List (List ℕ) → List Told → List ℕ → SinkState → SinkState → Status → Type 0
-WroteTold symbols told judged_by old new status =
-    WroteSymbols (counts_of told) judged_by (day_lines_of symbols told) old new status
+WroteTold symbols told question_text old new status =
+    WroteSymbols (counts_of told) question_text (day_lines_of symbols told) old new status
 
 -- The text of the verdicts on the symbols of the share was written, in their order: of each the
 -- lines of the verdict on it alone over these records, with the symbol and a comma before each; or

@@ -9,7 +9,7 @@ use Rattle.audit_report.specs.declared.statuses.Status.{Status}
 use Rattle.audit_report.specs.declared.statuses.Status.TheVariants.{Accepted}
 use Rattle.audit_report.specs.declared.verdicts.Verdict.TheVariants.{Malformed, Rejected}
 use Rattle.command_run.specs.VerdictAnswers.{IsAnswerWith, IsDone, IsVerdictAnswer}
-use Rattle.generated_logs.specs.GeneratedTexts.{generated_text}
+use Rattle.written_logs.specs.GeneratedTexts.{generated_text}
 use Rattle.log_verdict.specs.LogVerdicts.{Log, records_of_order_log, trades_of_trade_log}
 use Rattle.written_logs.specs.Texts.{IsLogOfOrders, IsLogOfTrades}
 

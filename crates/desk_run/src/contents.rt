@@ -1,7 +1,7 @@
 //! The answer to `contents`: what is in both logs.
 ghost use Rattle.std.specs.Prelude.{◌≤◌};
 ghost use Rattle.command_run.specs.Deciding.{DecidesAnswer, DecidesBytes};
-ghost use Rattle.day_contents.specs.Items.{trade_log_items};
+ghost use Rattle.log_contents.specs.DayItems.{trade_log_items};
 ghost use Rattle.desk_run.specs.Contents.{IsAnswerAfterOrders, request_of_contents};
 ghost use Rattle.desk_run.specs.Requests.{desk_command_of};
 ghost use Rattle.log_contents.specs.Summaries.{IsSummaryOf, LogItems};
@@ -15,8 +15,8 @@ use super::program::Desk;
 use audit_base::terms::Which;
 use command_run::answers::{Answer, done_answer, unread_answer};
 use command_run::laws::{both_logs_decide, read_logs_decide, readings_in_turn_are_one};
-use day_contents::reading::{summary_of_orders, summary_of_trades};
 use log_contents::contents_text::contents_text;
+use log_contents::day_reading::{summary_of_orders, summary_of_trades};
 use log_contents::summaries::Summary;
 use log_source::shelf::Shelf;
 use log_verdict::sources::Source;

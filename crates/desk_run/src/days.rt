@@ -18,7 +18,7 @@ use day_logs::answers::{DayAnswer, DayQuestion, verdicts_on};
 use day_logs::texts::{status_of_day, text_of_day};
 use day_page::day_pages::page_of_day_text;
 use day_sessions::answers::sessions_on;
-use day_symbols::shares::Share;
+use day_symbols::shares::DayShare;
 use further_checks::findings::FurtherChecks;
 use log_source::shelf::Shelf;
 use log_verdict::sources::Source;
@@ -43,13 +43,13 @@ fn page_of_day(alloc: Global, day: &DayAnswer, text: Vec<u8>) -> Result<Vec<u8>,
 fn written_of_day(
     alloc: Global,
     day: &DayAnswer,
-    judged_by: &[u8],
+    question_text: &[u8],
     page: bool,
 ) -> Result<Vec<u8>, NoMemory>
-    ensures { let the_text = day_answer_text judged_by.now day.now in
+    ensures { let the_text = day_answer_text question_text.now day.now in
         IfOk result (λ text. IsWrittenOfDay page day.now the_text text.items) }
 {
-    let text = text_of_day(alloc, day, judged_by)?;
+    let text = text_of_day(alloc, day, question_text)?;
     if page {
         page_of_day(alloc, day, text)
     } else {
@@ -61,12 +61,12 @@ fn written_of_day(
 fn day_answer(
     alloc: Global,
     day: &DayAnswer,
-    judged_by: &[u8],
+    question_text: &[u8],
     page: bool,
 ) -> Result<Answer, NoMemory>
-    ensures { IfOk result (IsAnswerOfKind (IsAnswerOfDay page judged_by.now day.now)) }
+    ensures { IfOk result (IsAnswerOfKind (IsAnswerOfDay page question_text.now day.now)) }
 {
-    let text = written_of_day(alloc, day, judged_by, page)?;
+    let text = written_of_day(alloc, day, question_text, page)?;
     Ok(Answer {
         status: status_of_day(day),
         text,
@@ -80,12 +80,12 @@ fn phases_answer(
     phases: &[Phase],
     page: bool,
 ) -> Result<Answer, NoMemory>
-    ensures { let judged_by = phases_text phases.now in
-        IfOk result (IsAnswerOfKind (IsAnswerOfDay page judged_by day.now)) }
+    ensures { let question_text = phases_text phases.now in
+        IfOk result (IsAnswerOfKind (IsAnswerOfDay page question_text day.now)) }
 {
-    let mut judged_by = Vec::new(alloc);
-    append_phases(alloc, phases, &mut judged_by)?;
-    day_answer(alloc, day, &judged_by, page)
+    let mut question_text = Vec::new(alloc);
+    append_phases(alloc, phases, &mut question_text)?;
+    day_answer(alloc, day, &question_text, page)
 }
 
 /// The answer to `audit`: the day by a rule, as a page where that is asked for.
@@ -118,7 +118,7 @@ pub(crate) fn answer_session<F: Shelf>(
     phases: &[Phase],
     table: bool,
     checks: FurtherChecks,
-    share: Share,
+    share: DayShare,
     page: bool,
     orders: &Source<'_>,
     trades: &Source<'_>,

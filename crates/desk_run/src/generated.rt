@@ -10,10 +10,10 @@ ghost use Rattle.audit_base.specs.declared.terms.Which.{Which as AWhich};
 
 use audit_base::terms::Form;
 use audit_report::statuses::Status;
-use generated_logs::faults::GenerateFault;
-use generated_logs::writing::write_generated;
 use log_source::sink::Sink;
 use std::alloc::Global;
+use written_logs::generated_faults::GenerateFault;
+use written_logs::generating::write_generated;
 
 /// Answers `orders`, which reads no log: whatever the reading, it has not touched a slot.
 pub(crate) fn run_orders<K: Sink>(

@@ -3,7 +3,7 @@
 use command_run::answers::Answer;
 use command_run::given_logs::GivenByLogs;
 use day_logs::answers::{DayAnswer, DayQuestion};
-use day_symbols::shares::Share;
+use day_symbols::shares::DayShare;
 use further_checks::findings::FurtherChecks;
 use session_audit::phases::PhaseList;
 use symbol_offences::questions::OffenceQuestion;
@@ -34,7 +34,7 @@ impl GivenByLogs for GivenSessions {
     ghost use Rattle.day_logs.specs.DayAnswers.{IsAnswerToRecords};
     ghost use Rattle.day_sessions.specs.JudgedSessions.{AreSessionsOfDay};
 
-    type Given = (PhaseList, bool, FurtherChecks, Share, DayAnswer);
+    type Given = (PhaseList, bool, FurtherChecks, DayShare, DayAnswer);
 
     ghost of_records = { λ given entries paired. IsAnswerToRecords
         (AreSessionsOfDay given.0 given.1 given.2 given.3) entries paired given.4 };

@@ -5,7 +5,7 @@ ghost use Rattle.log_source.specs.Sources.{longest_read};
 
 use audit_base::terms::Form;
 use command_words::paths::PathText;
-use day_symbols::shares::Share;
+use day_symbols::shares::DayShare;
 use log_source::limits::LONGEST_READ;
 use log_verdict::sources::Source;
 use seeded_hash::seed::HashSeed;
@@ -26,11 +26,11 @@ pub(crate) fn day_source(path: &PathText, form: Form, seed: HashSeed) -> Source<
 }
 
 /// The share that is asked for: the whole day where none is given.
-pub(crate) fn share_asked(share: Option<Share>) -> Share
+pub(crate) fn share_asked(share: Option<DayShare>) -> DayShare
     ensures { result ≡ share_or_whole share }
 {
     match share {
         Some(share) => share,
-        None => Share::whole(),
+        None => DayShare::whole(),
     }
 }

@@ -8,7 +8,7 @@ use super::further_words::{is_check_option, with_check};
 use super::share_words::share_named;
 use command_words::options::{Options, is_table_option, no_options, with_form_option, with_table};
 use command_words::word_forms::is_word;
-use day_symbols::shares::Share;
+use day_symbols::shares::DayShare;
 use further_checks::findings::FurtherChecks;
 
 /// What options say.
@@ -17,7 +17,7 @@ pub(crate) struct DeskOptions {
     /// What the options say that `auditor` has too.
     pub(crate) common: Options,
     /// The share of the day, if one is given.
-    pub(crate) share: Option<Share>,
+    pub(crate) share: Option<DayShare>,
     /// Which of the further checks are asked for.
     pub(crate) checks: FurtherChecks,
     /// Whether the text is to be written as a page.
@@ -92,7 +92,7 @@ fn with_lone_option(word: &str, said: DeskOptions) -> Option<DeskOptions>
 }
 
 /// What is said with a share too, unless one was given before.
-fn with_share(said: DeskOptions, share: Share) -> Option<DeskOptions>
+fn with_share(said: DeskOptions, share: DayShare) -> Option<DeskOptions>
     ensures { result ≡ spec.with_share said share }
 {
     if said.share.is_some() {

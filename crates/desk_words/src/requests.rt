@@ -9,7 +9,7 @@ use audit_base::names::Name;
 use audit_base::terms::{Form, Rule, Which};
 use command_words::paths::PathText;
 use command_words::requests::WordsFault;
-use day_symbols::shares::Share;
+use day_symbols::shares::DayShare;
 use further_checks::findings::FurtherChecks;
 use session_audit::phases::PhaseList;
 use std::alloc::Global;
@@ -34,7 +34,7 @@ pub enum DeskRequest {
         rule: Rule,
         logs: DayLogs,
         table: bool,
-        share: Option<Share>,
+        share: Option<DayShare>,
         checks: FurtherChecks,
         page: bool,
     },
@@ -44,7 +44,7 @@ pub enum DeskRequest {
         phases: PhaseList,
         logs: DayLogs,
         table: bool,
-        share: Option<Share>,
+        share: Option<DayShare>,
         checks: FurtherChecks,
         page: bool,
     },

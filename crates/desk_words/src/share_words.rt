@@ -4,7 +4,7 @@ ghost use Rattle.command_words.specs.PhaseWords.{cut_at};
 ghost use Rattle.desk_words.specs.ShareWords as spec;
 
 use command_words::word_forms::unpadded_number;
-use day_symbols::shares::{MOST_SHARES, Share};
+use day_symbols::shares::{DayShare, MOST_SHARES};
 
 /// The text before its first `/`, and the text after it.
 fn cut_at_slash(text: &str) -> Option<(&str, &str)>
@@ -15,11 +15,11 @@ fn cut_at_slash(text: &str) -> Option<(&str, &str)>
 
 /// The share that the word gives: K/N, two decimal numbers without leading zeros, where K is
 /// from 1 to N, and N at most 65,536.
-pub(crate) fn share_named(word: &str) -> Option<Share>
+pub(crate) fn share_named(word: &str) -> Option<DayShare>
     ensures { result ≡ spec.share_named word.now }
 {
     let (number, count) = cut_at_slash(word)?;
     let number = unpadded_number(number, MOST_SHARES)?;
     let count = unpadded_number(count, MOST_SHARES)?;
-    Share::of(number, count)
+    DayShare::of(number, count)
 }

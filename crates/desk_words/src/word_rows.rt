@@ -5,7 +5,7 @@ use crate::requests::{DayLogs, DeskRequest, read_desk_words};
 use audit_base::faults::NoMemory;
 use audit_base::terms::{Form, Rule};
 use command_words::requests::WordsFault;
-use day_symbols::shares::Share;
+use day_symbols::shares::DayShare;
 use std::alloc::Global;
 use std::test::Fail;
 
@@ -457,7 +457,7 @@ fn is_page_of_a_share(asked: &Result<DeskRequest, WordsFault>) -> bool {
         ) => {
             *rule == Rule::Continuous
                 && are_logs_of_two_forms(logs)
-                && *share == Share::of(2, 3)
+                && *share == DayShare::of(2, 3)
                 && checks.trade_times
                 && *page
                 && !*table

@@ -3,8 +3,8 @@
 use Rattle.std.proofs.Common.{◌≡◌, sym, ◌∙◌, refl, arith, ℕ, true, false, List, Ok, Err}
 use Rattle.case_keeper.specs.declared.keeper.KeepFault.TheVariants.{Failed}
 use Rattle.digest_keeper.specs.DigestKeepers.{DigestKeeperState}
-use Rattle.filing_run.specs.DigestOpeners.{DigestOpenerState, OpensDatabase}
-use Rattle.filing_run.specs.declared.opener.Missing.{Missing}
+use Rattle.desk_filing.specs.DigestOpeners.{DigestOpenerState, OpensDatabase}
+use Rattle.desk_filing.specs.declared.opener.Missing.{Missing}
 
 pub opens_untold : {B : Type 0} (state : B → DigestKeeperState) (old : DigestOpenerState) (path : List ℕ) (missing : Missing) (book : B)
     → (state book).faults ≡ 0 → old.tells ≡ false → OpensDatabase state old old path missing (Ok book)

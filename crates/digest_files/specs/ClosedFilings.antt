@@ -2,9 +2,9 @@
 use Rattle.std.specs.Prelude.{ℕ, List, Option}
 use Rattle.case_run.specs.declared.statuses.CaseStatus.{CaseStatus}
 use Rattle.digest_keeper.specs.DigestKeepers.{DigestKeeperState}
-use Rattle.filing_run.specs.DigestOpeners.{DigestOpenerState, KeepsDatabases}
-use Rattle.filing_run.specs.Runs.{FilesAsked}
-use Rattle.filing_run.specs.Words.{filing_request_of}
+use Rattle.desk_filing.specs.DigestOpeners.{DigestOpenerState, KeepsDatabases}
+use Rattle.desk_filing.specs.Runs.{FilesAsked}
+use Rattle.desk_filing.specs.Words.{filing_request_of}
 use Rattle.log_source.specs.Sinks.{SinkState, SinkStays}
 use Rattle.log_source.specs.declared.shelf.Shelf.{Ghosts as Shelf}
 

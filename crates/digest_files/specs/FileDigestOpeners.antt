@@ -2,7 +2,7 @@
 use Rattle.std.specs.Prelude.{◌≡◌, true, false, None, Result, Err}
 use Rattle.case_keeper.specs.declared.keeper.KeepFault.{KeepFault}
 use Rattle.case_keeper.specs.declared.keeper.KeepFault.TheVariants.{Failed}
-use Rattle.filing_run.specs.DigestOpeners.{DigestOpenerState}
+use Rattle.desk_filing.specs.DigestOpeners.{DigestOpenerState}
 use Rattle.log_source.specs.Calls.{faults_after}
 use Rattle.digest_files.specs.declared.file_opener.FileDigestOpener.{FileDigestOpener}
 

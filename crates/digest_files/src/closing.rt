@@ -5,8 +5,8 @@ ghost use Rattle.audit_base.specs.declared.terms.Which.{Which};
 ghost use Rattle.digest_files.specs.ClosedFilings.{FilesThenCloses};
 
 use case_run::statuses::CaseStatus;
-use filing_run::opener::DigestOpener;
-use filing_run::running::{FilingEnd, run_filing_seeded};
+use desk_filing::opener::DigestOpener;
+use desk_filing::running::{FilingEnd, run_filing_seeded};
 use log_source::shelf::Shelf;
 use log_source::sink::Sink;
 use seeded_hash::seed::HashSeed;

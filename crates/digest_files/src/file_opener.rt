@@ -3,14 +3,14 @@ ghost use Rattle.std.specs.Prelude.{◌≡◌, false, IfOk};
 ghost use Rattle.command_words.specs.WordForms.{is_path};
 ghost use Rattle.digest_files.specs.FileDigestOpeners.{digest_file_opener_state, fresh_digest_opener, RefusesDatabase};
 ghost use Rattle.digest_sqlite.specs.SqlDigestKeepers.{sql_digest_state};
-ghost use Rattle.filing_run.specs.DigestOpeners.{OpensDatabase};
+ghost use Rattle.desk_filing.specs.DigestOpeners.{OpensDatabase};
 
 use crate::closing::ClosingDigests;
-use case_files::database_files::DatabasePlace;
-use case_files::databases::{close_database, open_database};
 use case_keeper::keeper::KeepFault;
+use casebook_program::database_files::DatabaseFile;
+use casebook_program::databases::{close_database, open_database};
+use desk_filing::opener::{DigestOpener, Missing};
 use digest_sqlite::sql_digest_keeper::SqlDigestKeeper;
-use filing_run::opener::{DigestOpener, Missing};
 use sqlite::{File, FileStore};
 use std::fs;
 
@@ -27,7 +27,7 @@ pub struct FileDigestOpener {
     rt: HostRuntime,
     faults: u64,
     // Where the database is that was opened last, if there was memory for it.
-    place: Option<DatabasePlace>,
+    place: Option<DatabaseFile>,
 }
 
 /// Whether a database may be opened under a path: there is a file, or one is to be made.
@@ -84,7 +84,7 @@ impl DigestOpener for FileDigestOpener {
     {
         match open_keeper(&self.rt, path, missing) {
             Ok(keeper) => {
-                self.place = DatabasePlace::of(&self.rt, path).ok();
+                self.place = DatabaseFile::of(&self.rt, path).ok();
                 Ok(keeper)
             }
             Err(fault) => {

@@ -2,14 +2,14 @@
 //! what a database is made of.
 use crate::logs::{shelf_of_logs, split_words};
 use audit_base::faults::NoMemory;
-use case_files::closing::{Closing, run_and_close};
 use case_keeper::casebook::Casebook;
 use case_keeper::keeper::Keeper;
 use case_run::running::run_case;
 use case_run::statuses::CaseStatus;
+use casebook_program::closing::{Closing, run_and_close};
+use desk_filing::opener::DigestOpener;
+use desk_filing::running::{FilingEnd, run_filing};
 use digest_files::closing::{ClosingDigests, file_and_close};
-use filing_run::opener::DigestOpener;
-use filing_run::running::{FilingEnd, run_filing};
 use log_source::memory_sink::MemorySink;
 use seeded_hash::seed::HashSeed;
 use std::alloc::Global;

@@ -1,7 +1,7 @@
 //! An opener of the database of one connection, over any store.
 use case_keeper::keeper::KeepFault;
+use desk_filing::opener::{DigestOpener, Missing};
 use digest_sqlite::sql_digest_keeper::SqlDigestKeeper;
-use filing_run::opener::{DigestOpener, Missing};
 use sqlite::{Alter, Connection};
 use std::alloc::Global;
 use std::process::Abort;
@@ -40,7 +40,7 @@ impl<S: Alter + Drop> ConnectionOpener<S> {
 
 impl<S: Alter + Drop> DigestOpener for ConnectionOpener<S> {
     ghost use Rattle.std.specs.Prelude.{false, None};
-    ghost use Rattle.filing_run.specs.DigestOpeners.{DigestOpenerState};
+    ghost use Rattle.desk_filing.specs.DigestOpeners.{DigestOpenerState};
 
     type Book = SqlDigestKeeper<S>;
 

@@ -1,10 +1,10 @@
 //! Commands over databases in files, which are closed after each.
 use crate::calls::{Said, say_by_casebook, say_by_desk};
 use audit_base::faults::NoMemory;
-use case_files::file_opener::FileOpener;
+use casebook_program::file_opener::FileOpener;
+use desk_filing::opener::Missing;
 use digest_files::closing::ClosingDigests;
 use digest_files::file_opener::FileDigestOpener;
-use filing_run::opener::Missing;
 use std::fs;
 use std::test::Fail;
 

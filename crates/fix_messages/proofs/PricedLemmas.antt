@@ -14,7 +14,7 @@ use Rattle.audit_base.specs.declared.faults.BadPlace.{BadPlace}
 use Rattle.audit_base.specs.declared.faults.Reason.{Reason}
 use Rattle.fix_fields.specs.Grammar.{TagValue, begins_with_type}
 use Rattle.fix_framing.specs.declared.frames.FrameFault.{FrameFault}
-use Rattle.fix_messages.specs.declared.heads.Head.{Head}
+use Rattle.fix_messages.specs.declared.heads.MessageHead.{MessageHead}
 use Rattle.fix_messages.specs.declared.meanings.MessageFault.{MessageFault}
 use Rattle.fix_messages.specs.declared.orders.OrderType.{OrderType}
 use Rattle.fix_messages.specs.declared.orders.OrderType.TheVariants as limits
@@ -62,7 +62,7 @@ new-priced fields =
     behind HasMarketPrice (message_order_type 40 fields) _ (λ chosen.
     by-limits chosen head side quantity fields)))))
   where
-    by-limits : (chosen : OrderType) (head : Head) (side : Side) (quantity : ℕ) (fields : List TagValue)
+    by-limits : (chosen : OrderType) (head : MessageHead) (side : Side) (quantity : ℕ) (fields : List TagValue)
         → IfOk (price_of_order_type chosen side 44 fields >>= (λ price. message_life 59 fields >>= (λ l. no_quantity_condition fields >>= (λ _. Ok (record_of.New head.key head.time head.symbol side quantity price (life_of_order_type chosen l)))))) HasMarketPrice
     by-limits limits.Limit head side quantity fields =
         behind HasMarketPrice (message_price 44 fields) _ (λ price.

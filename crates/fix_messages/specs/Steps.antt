@@ -17,8 +17,8 @@ use Rattle.fix_framing.specs.Framing.{next_text, bytes_unframed}
 use Rattle.fix_framing.specs.declared.frames.FrameFault.TheVariants.{Truncated}
 use Rattle.fix_messages.specs.declared.meanings.MessageFault.{MessageFault}
 use Rattle.fix_messages.specs.declared.feeds.FixFeed.{FixFeed}
-use Rattle.fix_messages.specs.declared.heads.Head.{Head}
-use Rattle.fix_messages.specs.declared.writers.Terms.{Terms}
+use Rattle.fix_messages.specs.declared.heads.MessageHead.{MessageHead}
+use Rattle.fix_messages.specs.declared.writers.MessageTerms.{MessageTerms}
 use Rattle.fix_messages.specs.Bodies.{MessageMeaning}
 use Rattle.fix_messages.specs.Feeds.{HasReadMessages, AreFixFeedFields}
 
@@ -61,14 +61,14 @@ IsBadMessagePlace has_taken start why bad =
     → bad ≡ record { place = length entries + 1; offset = start; reason = why }
 
 -- the records of an order's parts
-abbrev pub fix_new_order : Head → Terms → Life → OrderRecord
+abbrev pub fix_new_order : MessageHead → MessageTerms → Life → OrderRecord
 fix_new_order head terms life =
     record_of.New head.key head.time head.symbol terms.side terms.quantity terms.price life
 
-abbrev pub fix_cancel_order : Head → List ℕ → OrderRecord
+abbrev pub fix_cancel_order : MessageHead → List ℕ → OrderRecord
 fix_cancel_order head target = record_of.Cancel head.key head.time head.symbol target
 
-abbrev pub fix_replace_order : Head → Terms → List ℕ → OrderRecord
+abbrev pub fix_replace_order : MessageHead → MessageTerms → List ℕ → OrderRecord
 fix_replace_order head terms target =
     record_of.Replace head.key head.time head.symbol target terms.side terms.quantity terms.price
 

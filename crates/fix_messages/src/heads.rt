@@ -8,7 +8,7 @@ use std::marker::Model;
 
 /// Which order a message speaks of, when, and of which symbol.
 #[derive(Clone, Copy)]
-pub(crate) struct Head {
+pub(crate) struct MessageHead {
     pub(crate) key: Key,
     pub(crate) time: Stamp,
     pub(crate) symbol: Name,
@@ -24,9 +24,9 @@ pub(crate) struct HeadText<'m> {
 }
 
 impl<'m> Model for HeadText<'m> {
-    ghost use Rattle.fix_messages.specs.declared.heads.Head.{Head};
+    ghost use Rattle.fix_messages.specs.declared.heads.MessageHead.{MessageHead};
 
-    ghost Value = { Head };
+    ghost Value = { MessageHead };
 
     ghost view = { λ text. record {
       key = record { firm = text.firm; id = text.id };
@@ -44,10 +44,10 @@ impl<'m> HeadText<'m> {
     }
 
     /// The head.
-    pub(crate) fn head(&self) -> Head
+    pub(crate) fn head(&self) -> MessageHead
         ensures { result ≡ self.now }
     {
-        Head {
+        MessageHead {
             key: Key {
                 firm: self.firm.name(),
                 id: self.id.name(),

@@ -2,7 +2,7 @@
 ghost use Rattle.std.specs.Prelude.{◌≡◌};
 ghost use Rattle.audit_base.specs.Histories.{symbol_of};
 
-use crate::heads::{Head, HeadText};
+use crate::heads::{HeadText, MessageHead};
 use crate::name_text::NameText;
 use audit_base::numbers::{Price, Quantity};
 use audit_base::records::OrderRecord;
@@ -11,7 +11,7 @@ use std::marker::Model;
 
 /// What only one kind of order says.
 #[derive(Drop)]
-pub(crate) enum OrderParts<'m> {
+pub(crate) enum InstructionParts<'m> {
     New {
         side: Side,
         quantity: Quantity,
@@ -34,7 +34,7 @@ pub(crate) enum OrderParts<'m> {
 #[derive(Drop)]
 pub(crate) struct OrderText<'m> {
     pub(crate) head: HeadText<'m>,
-    pub(crate) parts: OrderParts<'m>,
+    pub(crate) parts: InstructionParts<'m>,
 }
 
 impl<'m> Model for OrderText<'m> {
@@ -58,9 +58,9 @@ impl<'m> OrderText<'m> {
     pub(crate) fn record(&self) -> OrderRecord
         ensures { result ≡ self.now }
     {
-        let Head { key, time, symbol } = self.head.head();
+        let MessageHead { key, time, symbol } = self.head.head();
         match &self.parts {
-            OrderParts::New {
+            InstructionParts::New {
                 side,
                 quantity,
                 price,
@@ -74,13 +74,13 @@ impl<'m> OrderText<'m> {
                 price: *price,
                 life: *life,
             },
-            OrderParts::Cancel { target } => OrderRecord::Cancel {
+            InstructionParts::Cancel { target } => OrderRecord::Cancel {
                 key,
                 time,
                 symbol,
                 target: target.name(),
             },
-            OrderParts::Replace {
+            InstructionParts::Replace {
                 target,
                 side,
                 quantity,

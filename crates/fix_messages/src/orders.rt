@@ -6,7 +6,7 @@ ghost use Rattle.fix_messages.specs.OrderTables.{order_type_form, message_order_
 
 use crate::meanings::{MessageFault, OrderMeaning};
 use crate::message::Message;
-use crate::order_texts::{OrderParts, OrderText};
+use crate::order_texts::{InstructionParts, OrderText};
 use crate::rows::{
     absent_at, head_at, is_copy, is_word, name_at, price_at, quantity_at, required, side_at,
     supported, type_at,
@@ -165,7 +165,7 @@ fn new_order<'m>(
     let price = price_by(limits, side, 44, message)?;
     let life = life_by(limits, life_at(59, message)?);
     unconditional(message)?;
-    let parts = OrderParts::New {
+    let parts = InstructionParts::New {
         side,
         quantity,
         price,
@@ -185,7 +185,7 @@ fn cancel<'m>(
     type_at(b"F", message)?;
     let head = head_at(49, message, stamps)?;
     let target = name_at(41, message)?;
-    let parts = OrderParts::Cancel { target };
+    let parts = InstructionParts::Cancel { target };
     Ok(OrderText { head, parts })
 }
 
@@ -206,7 +206,7 @@ fn replacement<'m>(
     let price = price_at(44, message)?;
     resting_at(59, message)?;
     unconditional(message)?;
-    let parts = OrderParts::Replace {
+    let parts = InstructionParts::Replace {
         target,
         side,
         quantity,

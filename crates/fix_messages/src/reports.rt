@@ -3,7 +3,7 @@ ghost use Rattle.std.specs.Prelude.{◌≡◌};
 ghost use Rattle.fix_fields.specs.Ranges.{AreFieldsOf, tag_values_of};
 ghost use Rattle.fix_messages.specs.ReportTable.{trade_report, is_other, is_skipped_message, report_of_message, report_meaning};
 
-use crate::heads::{Head, HeadText};
+use crate::heads::{HeadText, MessageHead};
 use crate::meanings::{MessageFault, Report, ReportMeaning};
 use crate::message::Message;
 use crate::name_text::NameText;
@@ -56,7 +56,7 @@ impl<'m> ReportText<'m> {
     pub(crate) fn record(&self) -> Report
         ensures { result ≡ self.now }
     {
-        let Head { key, time, symbol } = self.head.head();
+        let MessageHead { key, time, symbol } = self.head.head();
         Report {
             trade: self.trade.name(),
             key,

@@ -11,7 +11,7 @@ ghost use Rattle.audit_base.specs.Histories.{HasMarketPrice};
 ghost use Rattle.trade_reports.specs.Reports.{reports_of};
 ghost use Rattle.fix_messages.specs.Written.{IsHead, IsOrderInForm, IsReportInForm, IsTradeInForm, field, head_fields, limit_fields, order_fields, order_message, report_fields, report_message, message_side_text, size_fields, trade_message_pair};
 
-use crate::heads::Head;
+use crate::heads::MessageHead;
 use crate::meanings::Report;
 use audit_base::faults::NoMemory;
 use audit_base::field_texts::{price_text, quantity_text, stamp_text};
@@ -61,14 +61,19 @@ fn side_bytes(side: Side) -> &'static [u8]
 
 /// What an order asks for.
 #[derive(Clone, Copy)]
-struct Terms {
+struct MessageTerms {
     side: Side,
     quantity: Quantity,
     price: Price,
 }
 
 /// The fields that the messages of an order log begin with.
-fn write_head(alloc: Global, kind: &[u8], head: &Head, body: &mut Vec<u8>) -> Result<(), NoMemory>
+fn write_head(
+    alloc: Global,
+    kind: &[u8],
+    head: &MessageHead,
+    body: &mut Vec<u8>,
+) -> Result<(), NoMemory>
     requires { IsTrue (is_name kind.now) }
     ensures appended { let entry = head.now in
         let fields = head_fields kind.now entry.key entry.time entry.symbol in
@@ -88,7 +93,7 @@ fn write_head(alloc: Global, kind: &[u8], head: &Head, body: &mut Vec<u8>) -> Re
 }
 
 /// The fields of a side and a quantity.
-fn write_size(alloc: Global, terms: &Terms, body: &mut Vec<u8>) -> Result<(), NoMemory>
+fn write_size(alloc: Global, terms: &MessageTerms, body: &mut Vec<u8>) -> Result<(), NoMemory>
     ensures appended { let fields = size_fields terms.now.side terms.now.quantity in
         OnOk result (body.new.items ≡ body.old.items ++ bytes_of fields) }
     ensures in_range { OnOk result (IsTrue (is_quantity terms.now.quantity)) }
@@ -134,8 +139,8 @@ fn write_target(alloc: Global, target: &Name, body: &mut Vec<u8>) -> Result<(), 
 /// The fields of a new order, type D.
 fn write_new(
     alloc: Global,
-    head: &Head,
-    terms: &Terms,
+    head: &MessageHead,
+    terms: &MessageTerms,
     life: Life,
     body: &mut Vec<u8>,
 ) -> Result<(), NoMemory>
@@ -151,7 +156,7 @@ fn write_new(
 /// The fields of a cancel, type F.
 fn write_cancel(
     alloc: Global,
-    head: &Head,
+    head: &MessageHead,
     target: &Name,
     body: &mut Vec<u8>,
 ) -> Result<(), NoMemory>
@@ -166,9 +171,9 @@ fn write_cancel(
 /// The fields of a replacement, type G, which always has a limit and rests.
 fn write_replace(
     alloc: Global,
-    head: &Head,
+    head: &MessageHead,
     target: &Name,
-    terms: &Terms,
+    terms: &MessageTerms,
     body: &mut Vec<u8>,
 ) -> Result<(), NoMemory>
     ensures appended { let fields = order_fields
@@ -203,19 +208,25 @@ fn write_order_fields(
             price,
             life,
         } => {
-            let terms = Terms {
+            let terms = MessageTerms {
                 side,
                 quantity,
                 price,
             };
-            write_new(alloc, &Head { key, time, symbol }, &terms, life, body)
+            write_new(
+                alloc,
+                &MessageHead { key, time, symbol },
+                &terms,
+                life,
+                body,
+            )
         }
         OrderRecord::Cancel {
             key,
             time,
             symbol,
             target,
-        } => write_cancel(alloc, &Head { key, time, symbol }, &target, body),
+        } => write_cancel(alloc, &MessageHead { key, time, symbol }, &target, body),
         OrderRecord::Replace {
             key,
             time,
@@ -225,12 +236,18 @@ fn write_order_fields(
             quantity,
             price,
         } => {
-            let terms = Terms {
+            let terms = MessageTerms {
                 side,
                 quantity,
                 price,
             };
-            write_replace(alloc, &Head { key, time, symbol }, &target, &terms, body)
+            write_replace(
+                alloc,
+                &MessageHead { key, time, symbol },
+                &target,
+                &terms,
+                body,
+            )
         }
     }
 }

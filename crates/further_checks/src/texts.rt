@@ -5,7 +5,7 @@ ghost use Rattle.further_checks.specs.FurtherTexts as text;
 use super::findings::FurtherFinding;
 use audit_base::faults::NoMemory;
 use audit_base::terms::Which;
-use audit_report::line_parts::{Part, append_line};
+use audit_report::line_parts::{LinePart, append_line};
 use audit_report::lines::append_order_line;
 use audit_report::words::log_word;
 use std::alloc::Global;
@@ -22,9 +22,9 @@ pub fn append_further_line(
         OnOk result (out.new.items ≡ out.old.items ++ line) }
 {
     let parts = [
-        Part::Word(finding.word()),
-        Part::Word(log_word(Which::Trades)),
-        Part::Number(u128::from(finding.place())),
+        LinePart::Word(finding.word()),
+        LinePart::Word(log_word(Which::Trades)),
+        LinePart::Number(u128::from(finding.place())),
     ];
     append_line(alloc, word, &parts, out)
 }

@@ -4,8 +4,8 @@ use crate::names::{key, name};
 use audit_base::numbers::{Price, Quantity};
 use audit_base::records::{LogRecord, TradeRecord};
 use audit_base::stamps::Stamp;
-use kept_records::orders::KeptOrders;
-use kept_records::trades::KeptTrades;
+use day_records::kept_orders::KeptOrders;
+use day_records::kept_trades::KeptTrades;
 use std::process::Abort;
 
 /// Order records of Z, and their places in a log.

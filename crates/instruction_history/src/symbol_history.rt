@@ -69,7 +69,7 @@ impl SymbolHistory {
             Some(flaw) => Err(flaw.finding()),
             None => {
                 // This call gives the proof the ranges of the numbers.
-                so_far.list().in_range();
+                so_far.list().numbers_are_in_range();
                 Ok(History::of(so_far))
             }
         }

@@ -8,3 +8,4 @@ pub mod SpanLemmas
 pub mod SumLemmas
 pub mod TextLemmas
 pub mod ValueLemmas
+mod ReadLemmas

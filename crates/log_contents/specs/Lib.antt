@@ -7,3 +7,6 @@ pub mod Laws
 pub mod MessageFeeds
 pub mod Summaries
 pub mod Texts
+-- What a reader must believe: what an order log and a trade log have, and what came of reading one.
+pub mod DayItems
+pub mod DayReading

@@ -14,7 +14,7 @@ use crate::time_spans::TimeSpan;
 use audit_base::faults::NoMemory;
 use audit_base::field_texts::stamp_text;
 use audit_base::terms::Which;
-use audit_report::line_parts::{Part, append_line};
+use audit_report::line_parts::{LinePart, append_line};
 use audit_report::words::log_word;
 use day_symbols::symbols::Symbols;
 use std::alloc::Global;
@@ -46,7 +46,7 @@ fn append_counted_line(
     ensures { OnOk result
         (out.new.items ≡ out.old.items ++ spec.counted_line log kind.now count) }
 {
-    let parts = [Part::Word(kind), Part::Number(u128::from(count))];
+    let parts = [LinePart::Word(kind), LinePart::Number(u128::from(count))];
     append_line(alloc, log_word(log), &parts, out)
 }
 
@@ -92,9 +92,9 @@ fn append_attention_line(
         return Ok(());
     }
     let parts = [
-        Part::Word(log_word(log)),
-        Part::Word(&kind[7..]),
-        Part::Number(u128::from(count)),
+        LinePart::Word(log_word(log)),
+        LinePart::Word(&kind[7..]),
+        LinePart::Number(u128::from(count)),
     ];
     append_line(alloc, b"attention", &parts, out)
 }
@@ -144,7 +144,7 @@ fn count_symbols(mut symbols: Symbols, others: &Symbols) -> Result<usize, NoMemo
 fn append_symbols_line(alloc: Global, count: usize, out: &mut Vec<u8>) -> Result<(), NoMemory>
     ensures { OnOk result (out.new.items ≡ out.old.items ++ spec.symbols_line count) }
 {
-    append_line(alloc, b"symbols", &[Part::Number(count as u128)], out)
+    append_line(alloc, b"symbols", &[LinePart::Number(count as u128)], out)
 }
 
 /// `FIRST,LAST`.
@@ -168,7 +168,7 @@ fn append_span(alloc: Global, log: Which, span: &[u8], out: &mut Vec<u8>) -> Res
     append_line(
         alloc,
         b"times",
-        &[Part::Word(log_word(log)), Part::Word(span)],
+        &[LinePart::Word(log_word(log)), LinePart::Word(span)],
         out,
     )
 }

@@ -10,11 +10,19 @@
 //! `contents_text` the text of two logs. `laws` says that nothing is left out or counted twice. In
 //! `specs/`, `Kinds` has the kind of a message and of a record, `Counts` and `Facts` what is counted
 //! and kept, `Texts` what is written, and `MessageFeeds` what a feed stands for.
+//!
+//! What is in the logs of a day: a log of a shelf is read in its form, and what is told of it is
+//! kept, how often each kind is there, its symbols and its times.
+//!
+//! `reading` hands a CSV log line by line to contents, and a FIX log message by message
+//! (`log_contents` has both); nothing else is kept of it. In `specs/`, `Items` says what an order
+//! log and a trade log have, in their order, and `Reading` what came of reading one.
 #![tactic(auto)]
 
 pub mod contents;
 pub mod contents_text;
 pub mod csv_contents;
+pub mod day_reading;
 pub mod kind_counts;
 pub mod laws;
 pub mod message_feed;

@@ -5,7 +5,7 @@ ghost use Rattle.log_digests.specs.DigestLines as text;
 use crate::digests::LogDigest;
 use audit_base::faults::NoMemory;
 use audit_base::terms::Which;
-use audit_report::line_parts::{Part, append_line};
+use audit_report::line_parts::{LinePart, append_line};
 use audit_report::words::log_word;
 use std::alloc::Global;
 
@@ -21,7 +21,7 @@ fn append_digits(
     append_line(
         alloc,
         b"sha256",
-        &[Part::Word(log_word(log)), Part::Word(digits)],
+        &[LinePart::Word(log_word(log)), LinePart::Word(digits)],
         out,
     )
 }

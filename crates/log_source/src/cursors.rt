@@ -9,7 +9,7 @@ use crate::shelf::{Failed, StartFault};
 
 /// A log and its name.
 #[derive(Drop)]
-pub(crate) struct Log {
+pub(crate) struct NamedLog {
     pub(crate) name: String,
     pub(crate) bytes: Vec<u8>,
 }
@@ -25,7 +25,7 @@ pub(crate) struct Cursor {
 }
 
 /// The index of the newest log of this name.
-fn newest_index(logs: &[Log], name: &str) -> Option<usize>
+fn newest_index(logs: &[NamedLog], name: &str) -> Option<usize>
     ensures within { IfSome result (λ i. i < length logs.now) }
     ensures found { IfSome result
         (λ i. newest_log_bytes logs.now name.now ≡ Some (log_bytes_at logs.now i)) }
@@ -42,7 +42,7 @@ fn newest_index(logs: &[Log], name: &str) -> Option<usize>
 
 /// Starts the newest log of this name at its first byte, unless the call is to fail.
 pub(crate) fn start_cursor(
-    logs: &[Log],
+    logs: &[NamedLog],
     cursor: &mut Cursor,
     fails: bool,
     name: &str,
@@ -69,7 +69,7 @@ pub(crate) fn start_cursor(
 }
 
 /// The bytes that are still to come.
-fn rest_of<'a>(logs: &'a [Log], cursor: &Cursor) -> &'a [u8]
+fn rest_of<'a>(logs: &'a [NamedLog], cursor: &Cursor) -> &'a [u8]
     ensures { result.now ≡ drop cursor.now.at (log_bytes_at logs.now cursor.now.log) }
 {
     match logs.get(cursor.log) {
@@ -80,7 +80,7 @@ fn rest_of<'a>(logs: &'a [Log], cursor: &Cursor) -> &'a [u8]
 
 /// Gives the next bytes of the started log, unless the call is to fail.
 pub(crate) fn read_cursor(
-    logs: &[Log],
+    logs: &[NamedLog],
     cursor: &mut Cursor,
     fails: bool,
     piece: usize,

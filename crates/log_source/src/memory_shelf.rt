@@ -4,7 +4,7 @@ ghost use Rattle.audit_base.specs.declared.terms.Which.{Which};
 ghost use Rattle.log_source.specs.Cursors.{IsCursorInside};
 ghost use Rattle.log_source.specs.Sources.{ChangesOneSlot, Starts, Reads, fresh_slot, longest_read};
 
-use crate::cursors::{Cursor, Log, read_cursor, start_cursor};
+use crate::cursors::{Cursor, NamedLog, read_cursor, start_cursor};
 use crate::in_memory::is_failing_number;
 use crate::shelf::{Failed, Shelf, StartFault};
 use audit_base::faults::NoMemory;
@@ -18,7 +18,7 @@ use std::alloc::Global;
 pub struct MemoryShelf {
     // A log is never changed, so that a slot that reads it keeps what is left: a name's newer bytes
     // are a log of their own.
-    logs: Vec<Log>,
+    logs: Vec<NamedLog>,
     orders: Cursor,
     trades: Cursor,
     piece: usize,
@@ -69,7 +69,7 @@ impl MemoryShelf {
         ensures calls { calls_made self.new ≡ calls_made self.old }
         ensures rules { KeepsShelfSettings self.old self.new }
     {
-        self.logs.push(Log { name, bytes })?;
+        self.logs.push(NamedLog { name, bytes })?;
         Ok(())
     }
 }

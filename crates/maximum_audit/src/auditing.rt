@@ -3,12 +3,12 @@ ghost use Rattle.std.specs.Prelude.{◌<◌, ◌-◌, ◌^◌, IfOk};
 ghost use Rattle.audit_base.specs.declared.terms.VolumeRule.TheVariants.{Maximum};
 ghost use Rattle.audit_base.specs.Orders.{IsOrderList};
 ghost use Rattle.audit_base.specs.Deals.{IsDealList};
-ghost use Rattle.call_auction.specs.Audits.{IsGreatestOf, IsCallOutcome};
+ghost use Rattle.call_audit.specs.Audits.{IsGreatestOf, IsCallOutcome};
 
 use audit_base::faults::NoMemory;
 use audit_base::orders::{Cut, Deal};
 use audit_base::terms::VolumeRule;
-use call_auction::auditing::audit_call;
+use call_audit::auditing::audit_against_greatest;
 use call_laws::optimum::greatest_matching_reaches_the_least_cut;
 use matching_core::outcomes::Outcome;
 use order_list::lists::OrderList;
@@ -41,5 +41,5 @@ pub fn audit_maximum(
     ensures { IfOk result (IsCallOutcome Maximum orders.now deals.now count) }
 {
     let most = greatest_of(alloc, orders)?;
-    audit_call(alloc, VolumeRule::Maximum, orders, deals, count, most)
+    audit_against_greatest(alloc, VolumeRule::Maximum, orders, deals, count, most)
 }

@@ -2,3 +2,4 @@ pub mod ListLemmas
 pub mod KindLemmas
 pub mod PlaceLemmas
 mod FirstLemmas
+mod TextLemmas

@@ -5,11 +5,11 @@ use Rattle.audit_base.specs.declared.flaws.Flaw.{Flaw}
 use Rattle.audit_base.specs.declared.findings.Finding.{Finding}
 use Rattle.audit_base.specs.declared.orders.Order.{Order}
 use Rattle.audit_base.specs.Flaws.{finding_of}
-use Rattle.offence_list.specs.declared.offences.Offence.{Offence}
-use Rattle.offence_list.specs.declared.offences.Offence.TheVariants as offence
+use Rattle.offence_list.specs.declared.offences.ListedOffence.{ListedOffence}
+use Rattle.offence_list.specs.declared.offences.ListedOffence.TheVariants as offence
 
 -- what is wrong with the record of an offence
-abbrev pub flaw_of_offence : Offence → Flaw
+abbrev pub flaw_of_offence : ListedOffence → Flaw
 flaw_of_offence (offence.Inactive place order) =
     record { place = place; evidence = evidence.Inactive order }
 flaw_of_offence (offence.Limit place bid ask) =
@@ -24,9 +24,9 @@ flaw_of_offence (offence.Spread place bid ask) =
     record { place = place; evidence = evidence.Spread bid ask }
 
 -- the finding of an offence, with the orders that its indices are of
-abbrev pub finding_of_offence : List Order → Offence → Finding
+abbrev pub finding_of_offence : List Order → ListedOffence → Finding
 finding_of_offence orders o = finding_of orders (flaw_of_offence o)
 
 -- the findings of the offences of a list
-abbrev pub findings_of_offences : List Order → List Offence → List Finding
+abbrev pub findings_of_offences : List Order → List ListedOffence → List Finding
 findings_of_offences orders found = map (finding_of_offence orders) found

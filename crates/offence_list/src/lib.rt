@@ -4,9 +4,14 @@
 //! The list begins with the finding of the verdict and is empty where the log is accepted: `laws`
 //! has that. Nothing is computed here but what kind a first finding is of; the lists are made by
 //! the crates above.
+//!
+//! How a list of offences is written: a line for each, and how many there are. The text of a
+//! rejected log stands before them, as an audit writes it.
 #![tactic(auto)]
 
 pub mod answers;
 pub mod kinds;
 pub mod laws;
+pub mod offence_lines;
 pub mod offences;
+pub mod text_laws;

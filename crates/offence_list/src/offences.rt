@@ -9,7 +9,7 @@ use audit_base::terms::Side;
 
 /// An offence under a rule, at the record of this place. The numbers are those of the properties.
 #[derive(Clone, Copy, Debug)]
-pub enum Offence {
+pub enum ListedOffence {
     /// 7: the trade's order is not there to trade.
     Inactive {
         place: u32,
@@ -47,29 +47,29 @@ pub enum Offence {
     },
 }
 
-impl Offence {
+impl ListedOffence {
     /// The same as what is wrong with its record, of which an order list makes the finding.
     pub fn flaw(self) -> Flaw
         ensures { result ≡ flaw_of_offence self }
     {
         match self {
-            Offence::Inactive { place, order } => Flaw {
+            ListedOffence::Inactive { place, order } => Flaw {
                 place,
                 evidence: Evidence::Inactive(order),
             },
-            Offence::Limit { place, bid, ask } => Flaw {
+            ListedOffence::Limit { place, bid, ask } => Flaw {
                 place,
                 evidence: Evidence::Limit(bid, ask),
             },
-            Offence::UniformPrice { place, first } => Flaw {
+            ListedOffence::UniformPrice { place, first } => Flaw {
                 place,
                 evidence: Evidence::UniformPrice(first),
             },
-            Offence::Quantity { place, side, order } => Flaw {
+            ListedOffence::Quantity { place, side, order } => Flaw {
                 place,
                 evidence: Evidence::Quantity(side, order),
             },
-            Offence::Priority {
+            ListedOffence::Priority {
                 place,
                 side,
                 ahead,
@@ -78,7 +78,7 @@ impl Offence {
                 place,
                 evidence: Evidence::Priority(side, ahead, own),
             },
-            Offence::Spread { place, bid, ask } => Flaw {
+            ListedOffence::Spread { place, bid, ask } => Flaw {
                 place,
                 evidence: Evidence::Spread(bid, ask),
             },

@@ -9,7 +9,7 @@ use audit_base::orders::Deal;
 use audit_base::terms::Side;
 use continuous_offences::listing::continuous_offences;
 use instruction_history::history::History;
-use offence_list::offences::Offence;
+use offence_list::offences::ListedOffence;
 use std::process::Abort;
 
 /// How many logs are tried.
@@ -37,18 +37,18 @@ impl Counts {
     }
 }
 
-fn told(offence: &Offence) -> Told {
+fn told(offence: &ListedOffence) -> Told {
     match *offence {
-        Offence::Inactive { place, order } => (7, place, (order.index, order.traded), NOBODY),
-        Offence::Limit { place, bid, ask } => {
+        ListedOffence::Inactive { place, order } => (7, place, (order.index, order.traded), NOBODY),
+        ListedOffence::Limit { place, bid, ask } => {
             (8, place, (bid.index, bid.traded), (ask.index, ask.traded))
         }
-        Offence::UniformPrice { place, first } => (9, place, NOBODY, (0, u128::from(first))),
-        Offence::Quantity { place, side, order } => {
+        ListedOffence::UniformPrice { place, first } => (9, place, NOBODY, (0, u128::from(first))),
+        ListedOffence::Quantity { place, side, order } => {
             let property = if side == Side::Buy { 10 } else { 11 };
             (property, place, (order.index, order.traded), NOBODY)
         }
-        Offence::Priority {
+        ListedOffence::Priority {
             place,
             side,
             ahead,
@@ -62,7 +62,7 @@ fn told(offence: &Offence) -> Told {
                 (own.index, own.traded),
             )
         }
-        Offence::Spread { place, bid, ask } => {
+        ListedOffence::Spread { place, bid, ask } => {
             (15, place, (bid.index, bid.traded), (ask.index, ask.traded))
         }
     }

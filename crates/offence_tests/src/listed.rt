@@ -4,7 +4,7 @@ use audit_base::findings::{Finding, Property};
 use audit_base::records::TradeRecord;
 use audit_base::terms::{CallRule, Side, VolumeRule, Which};
 use call_offences::listing::{Listing, call_offences};
-use offence_report::offence_lines::append_offences;
+use offence_list::offence_lines::append_offences;
 use std::process::Abort;
 
 /// A first finding of this property, at a place of the trade log.

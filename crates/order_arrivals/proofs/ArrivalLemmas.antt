@@ -17,12 +17,12 @@ use Rattle.continuous_audit.specs.declared.incoming_deals.IncomingDeal.{Incoming
 use Rattle.continuous_audit.specs.IncomingDeals.{AreIncomingDeals, incoming_deal_of, incoming_deals_below, running_total}
 use Rattle.std.proofs.lemmas.List.Sums.{sum_by-append, sum_by-cons}
 use Rattle.continuous_audit.specs.Scans.{deal_index_at, incoming_deal_past_end}
-use Rattle.chain_sums.specs.Sums.{AreNoAmounts, ChainAmounts, IsAmountAdded}
+use Rattle.order_arrivals.specs.Sums.{AreNoAmounts, ChainAmounts, IsAmountAdded}
 use Rattle.order_arrivals.specs.declared.arrivals.Arrivals.{Arrivals}
 use Rattle.order_arrivals.specs.declared.arrivals.TradedSums.{TradedSums}
-use Rattle.order_arrivals.specs.declared.market.Market.{Market}
+use Rattle.order_arrivals.specs.declared.dealt_orders.DealtOrders.{DealtOrders}
 use Rattle.order_arrivals.specs.Arrivals.{AreArrivals, AreTradedSums, enters_where, target_rests_with}
-use Rattle.order_arrivals.specs.Markets.{HaveTraded, IsMarket}
+use Rattle.order_arrivals.specs.DealtOrders.{HaveTraded, IsMarket}
 use Rattle.order_arrivals.specs.Resting.{rests_with}
 
 -- whether an order of an earlier record rests before a place
@@ -123,7 +123,7 @@ pub few-incoming : (orders : List Order) (deals : List Deal) (incoming_deals : L
 few-incoming orders deals incoming_deals are = omega (arith, are.sums (λ c. 1), ones incoming_deals, ones-upto orders deals (length deals))
 
 -- what is judged, in the words of the code
-pub market-read : (m : Market) (incoming_deals : List IncomingDeal) → IsOrderList m.orders.now → IsDealList m.orders.now m.deals.now → m.incoming_deals.now ≡ incoming_deals → AreIncomingDeals m.orders.now m.deals.now incoming_deals → IsMarket m
+pub market-read : (m : DealtOrders) (incoming_deals : List IncomingDeal) → IsOrderList m.orders.now → IsDealList m.orders.now m.deals.now → m.incoming_deals.now ≡ incoming_deals → AreIncomingDeals m.orders.now m.deals.now incoming_deals → IsMarket m
 market-read m incoming_deals list deal_list same are = record {
   order_list = list;
   deal_list = deal_list;
@@ -131,7 +131,7 @@ market-read m incoming_deals list deal_list same are = record {
 }
 
 -- before the first order
-pub traded-first : (m : Market) (added : ℕ) (xs : List ℕ) → added ≡ 0 → xs ≡ replicate (length m.orders.now) 0 → HaveTraded m 0 added xs
+pub traded-first : (m : DealtOrders) (added : ℕ) (xs : List ℕ) → added ≡ 0 → xs ≡ replicate (length m.orders.now) 0 → HaveTraded m 0 added xs
 traded-first m added xs none zeros =
     let n = length m.orders.now in
     let zero-at : (x : ℕ) → x < n → number_at xs x ≡ 0 = λ x lt. ap (λ (ys : List ℕ). number_at ys x) zeros ∙ get_or-replicate {A = ℕ} n x 0 0 lt in
@@ -145,7 +145,7 @@ traded-first m added xs none zeros =
       split = record { early = λ i lt below. absurd (omega arith); late = λ i le below. omega arith };
     }
 
-pub sums-first : (m : Market) (s : TradedSums) → AreNoAmounts m.orders.now s.sums → s.added ≡ 0 → AreTradedSums m 0 s
+pub sums-first : (m : DealtOrders) (s : TradedSums) → AreNoAmounts m.orders.now s.sums → s.added ≡ 0 → AreTradedSums m 0 s
 sums-first m s is none =
     let orders = m.orders.now in
     let n = length orders in

@@ -1,2 +1,5 @@
 pub mod ArrivalLemmas
 pub mod SplitLemmas
+mod FamilyLemmas
+mod PrefixLemmas
+mod SumLemmas

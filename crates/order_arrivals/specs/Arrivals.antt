@@ -7,10 +7,10 @@ use Rattle.audit_base.specs.Deals.{number_at}
 use Rattle.audit_base.specs.Orders.{order_at}
 use Rattle.order_arrivals.specs.declared.arrivals.Arrivals.{Arrivals}
 use Rattle.order_arrivals.specs.declared.arrivals.TradedSums.{TradedSums}
-use Rattle.order_arrivals.specs.declared.market.Market.{Market}
-use Rattle.chain_sums.specs.Sums.{amount_total}
-use Rattle.chain_sums.specs.Families.{AreFamilies}
-use Rattle.order_arrivals.specs.Markets.{HaveTraded}
+use Rattle.order_arrivals.specs.declared.dealt_orders.DealtOrders.{DealtOrders}
+use Rattle.order_arrivals.specs.Sums.{amount_total}
+use Rattle.order_arrivals.specs.Families.{AreFamilies}
+use Rattle.order_arrivals.specs.DealtOrders.{HaveTraded}
 use Rattle.order_arrivals.specs.Resting.{rests_with}
 
 -- the flag at an index of a list, or false past its end
@@ -43,7 +43,7 @@ enters_where order target_rests =
     not (is_cancelled_at_place order.cancelled order.place) && target_rests
 
 -- the sums of what each order has traded in the deals of the orders before this one
-pub record AreTradedSums (m : Market) (order : ℕ) (s : TradedSums) : Type 0 where
+pub record AreTradedSums (m : DealtOrders) (order : ℕ) (s : TradedSums) : Type 0 where
   pub families : AreFamilies m.orders.now s.sums.families
   pub traded : HaveTraded m order s.added s.sums.amounts
   pub total : amount_total s.sums.amounts ≤ s.added * (2 * 10 ^ 12)

@@ -4,16 +4,16 @@ ghost use Rattle.audit_base.specs.declared.orders.Order.{Order};
 ghost use Rattle.audit_base.specs.Continuous.{chain};
 ghost use Rattle.audit_base.specs.Deals.{number_at};
 ghost use Rattle.audit_base.specs.Orders.{IsOrderList, order_at};
-ghost use Rattle.chain_sums.specs.Families.{AreFamilies};
-ghost use Rattle.chain_sums.specs.Sums.{amount_total};
+ghost use Rattle.order_arrivals.specs.Families.{AreFamilies};
+ghost use Rattle.order_arrivals.specs.Sums.{amount_total};
 ghost use Rattle.order_arrivals.specs.Arrivals.{AreArrivals, AreTradedSums, enters_where, target_rests_with};
-ghost use Rattle.order_arrivals.specs.Markets.{IsMarket};
+ghost use Rattle.order_arrivals.specs.DealtOrders.{IsMarket};
 
-use crate::market::Market;
+use crate::dealt_orders::DealtOrders;
 use crate::resting::rests;
+use crate::sums::ChainSums;
 use audit_base::faults::NoMemory;
 use audit_base::numbers::Quantity;
-use chain_sums::sums::ChainSums;
 use matching_core::totals::left_of;
 use order_list::listed::ListedOrder;
 use order_list::lists::OrderList;
@@ -98,7 +98,7 @@ impl Arrivals {
     /// Notes the arrival of the order at `order`, by what each order has traded before it.
     fn arrive(
         &mut self,
-        market: &Market<'_>,
+        market: &DealtOrders<'_>,
         sums: &TradedSums,
         order: usize,
     ) -> Result<(), NoMemory>
@@ -124,7 +124,7 @@ impl Arrivals {
 
 impl TradedSums {
     /// Adds the deals of the order at `order`, where those of the orders before it are added.
-    fn add_deals_of(&mut self, market: &Market<'_>, order: usize)
+    fn add_deals_of(&mut self, market: &DealtOrders<'_>, order: usize)
         requires market { IsMarket market.now }
         requires order { order < length market.now.orders.now }
         requires before { AreTradedSums market.now order self.old }
@@ -146,7 +146,7 @@ impl TradedSums {
 }
 
 /// Before, Entered and Size of each order. In n log n steps for n orders and deals.
-pub fn arrivals_of(alloc: Global, market: &Market<'_>) -> Result<Arrivals, NoMemory>
+pub fn arrivals_of(alloc: Global, market: &DealtOrders<'_>) -> Result<Arrivals, NoMemory>
     requires { IsMarket market.now }
     ensures { IfOk result (AreArrivals market.now.orders.now market.now.deals.now
         (length market.now.orders.now)) }

@@ -1,7 +1,7 @@
 //! Whether an order rests, by its Size and what it has traded.
 ghost use Rattle.std.specs.Prelude.{◌≡◌};
 ghost use Rattle.audit_base.specs.Continuous.{uncancelled_before};
-ghost use Rattle.order_arrivals.specs.Resting.{rests_with, stands_with};
+ghost use Rattle.order_arrivals.specs.Resting.{rests_with, has_left_with};
 
 use order_list::listed::ListedOrder;
 
@@ -16,8 +16,8 @@ fn is_uncancelled(cancelled: Option<u32>, place: u64) -> bool
 }
 
 /// Whether an order has something left, and no record before a place ends it.
-pub fn stands(order: &ListedOrder<'_>, place: u64, size: u64, traded: u128) -> bool
-    ensures { result ≡ stands_with order.now place size traded }
+pub fn has_left_before(order: &ListedOrder<'_>, place: u64, size: u64, traded: u128) -> bool
+    ensures { result ≡ has_left_with order.now place size traded }
 {
     is_uncancelled(order.cancelled(), place) && traded < u128::from(size)
 }
@@ -26,5 +26,5 @@ pub fn stands(order: &ListedOrder<'_>, place: u64, size: u64, traded: u128) -> b
 pub fn rests(order: &ListedOrder<'_>, place: u64, size: u64, traded: u128) -> bool
     ensures { result ≡ rests_with order.now place size traded }
 {
-    order.life().rests() && stands(order, place, size, traded)
+    order.life().rests() && has_left_before(order, place, size, traded)
 }

@@ -115,7 +115,7 @@ impl<'a> ListedOrder<'a> {
 
     /// Its numbers are in their ranges. Nothing is computed here.
     #[inline(always)]
-    pub fn in_range(&self)
+    pub fn numbers_are_in_range(&self)
         ensures { spec.OrderInRange self.now }
     {
         let _quantity = self.quantity().value();
@@ -155,7 +155,7 @@ impl<'a> ListedOrder<'a> {
 
     /// Whether the order is of the side and no record cancels it, so that it takes part in a call.
     #[inline(always)]
-    pub fn stands_on(&self, side: Side) -> bool
+    pub fn is_uncancelled_on(&self, side: Side) -> bool
         ensures { result ≡ spec.is_uncancelled_on side self.now }
     {
         self.cancelled().is_none() && self.side() == side

@@ -66,11 +66,11 @@ impl<'a> OrderList<'a> {
     }
 
     /// The numbers of all orders are in their ranges. Nothing is computed here.
-    pub fn in_range(&self)
+    pub fn numbers_are_in_range(&self)
         ensures { OrdersInRange self.now }
     {
         for index in 0..self.len() {
-            self.at(index).in_range();
+            self.at(index).numbers_are_in_range();
         }
     }
 }

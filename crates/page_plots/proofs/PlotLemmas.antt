@@ -2,7 +2,7 @@
 use Rattle.std.proofs.Common.{◌<◌, ◌≤◌, ◌^◌, ℕ, refl, inl, inr, arith}
 use Rattle.std.proofs.Math.Nat.{one-le-pow}
 use Rattle.std.proofs.lemmas.Nat.{mul-le}
-use Rattle.page_layout.specs.Rounds.{IsLeastRound, IsRound}
+use Rattle.page_plots.specs.Rounds.{IsLeastRound, IsRound}
 
 ten-power : (power : ℕ) → 0 < 10 ^ power
 ten-power power = omega (arith, one-le-pow power 10 (omega arith))

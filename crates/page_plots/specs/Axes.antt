@@ -1,33 +1,20 @@
--- The axes of a plot of prices: a line for each marked price, a mark for each marked number.
-use Rattle.std.specs.Prelude.{ℕ, List, ◌+◌, ◌++◌, codes, decimal}
-use Rattle.std.specs.List.{flat_map}
-use Rattle.audit_base.specs.Numbers.{price_text}
-use Rattle.page_plots.specs.declared.axes.Axes.{Axes}
-use Rattle.page_plots.specs.declared.axes.NumberTick.{NumberTick}
-use Rattle.page_plots.specs.declared.axes.PriceTick.{PriceTick}
-use Rattle.page_plots.specs.declared.shapes.Anchor.TheVariants.{Middle, End}
-use Rattle.page_plots.specs.Shapes.{label, straight_line}
+-- Where numbers lie on a straight axis.
+use Rattle.std.specs.Prelude.{◌<◌, ◌≤◌, ◌*◌, ◌-◌, ◌/◌, ◌^◌, ◌||◌, ◌==◌, ℕ, nat_le, if◌then◌else◌}
+use Rattle.page_plots.specs.declared.axes.Axis.{Axis}
 
--- a line at a price, with the price beside it
-abbrev pub price_tick : PriceTick → List ℕ
-price_tick tick =
-    straight_line (codes "grid") (record { x = 68; y = tick.y }) (record { x = 468; y = tick.y })
-    ++ label (codes "tick") (record { x = 60; y = tick.y + 4 }) End (price_text tick.price)
+-- the numbers and the length of an axis are not too great
+pub record IsAxis (axis : Axis) : Type 0 where
+  pub numbers : axis.last < 2 ^ 112
+  pub length : axis.length ≤ 10000
 
--- a mark at a number, with the number below it
-abbrev pub number_tick : NumberTick → List ℕ
-number_tick tick =
-    straight_line (codes "axis") (record { x = tick.x; y = 304 }) (record { x = tick.x; y = 308 })
-    ++ label (codes "tick") (record { x = tick.x; y = 320 }) Middle (decimal tick.number)
+-- the same share of a length that a part is of a whole, rounded down
+abbrev pub share_of : ℕ → ℕ → ℕ → ℕ
+share_of part whole length = if whole == 0 then 0 else part * length / whole
 
--- what each axis shows
-abbrev pub axis_words : List ℕ → List ℕ
-axis_words across =
-    straight_line (codes "axis") (record { x = 68; y = 304 }) (record { x = 468; y = 304 })
-    ++ label (codes "tick") (record { x = 468; y = 340 }) End across
-    ++ label (codes "tick") (record { x = 60; y = 32 }) End (codes "price")
-
--- the axes, with what the one from the left shows
-abbrev pub axes_shapes : Axes → List ℕ → List ℕ
-axes_shapes axes across = flat_map price_tick axes.prices.items
-    ++ flat_map number_tick axes.numbers.items ++ axis_words across
+-- how far from its start a number lies on an axis: at the start up to its first number, at the end
+-- from its last number on, and evenly between them
+abbrev pub point_of : Axis → ℕ → ℕ
+point_of axis number =
+    if nat_le number axis.first || nat_le axis.last axis.first then 0
+    else (if nat_le axis.last number then axis.length
+    else share_of (number - axis.first) (axis.last - axis.first) axis.length)

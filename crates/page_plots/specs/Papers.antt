@@ -2,9 +2,9 @@
 use Rattle.std.specs.Prelude.{ℕ, Bool, true, false, nat_lt, nat_le, ◌^◌, List, ◌++◌, codes, decimal, length}
 use Rattle.std.specs.List.{list_any}
 use Rattle.audit_base.specs.Numbers.{price_text}
-use Rattle.page_plots.specs.declared.axes.Axes.{Axes}
-use Rattle.page_plots.specs.declared.axes.NumberTick.{NumberTick}
-use Rattle.page_plots.specs.declared.axes.PriceTick.{PriceTick}
+use Rattle.page_plots.specs.declared.plot_axes.Axes.{Axes}
+use Rattle.page_plots.specs.declared.plot_axes.NumberTick.{NumberTick}
+use Rattle.page_plots.specs.declared.plot_axes.PriceTick.{PriceTick}
 
 -- the text of a price has more than eight characters
 abbrev pub is_long : ℕ → Bool

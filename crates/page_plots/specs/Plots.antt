@@ -1,13 +1,13 @@
 -- Where the numbers and prices of a plot lie on its paper, and what is marked on its axes.
 use Rattle.std.specs.Prelude.{◌≡◌, ◌≤◌, ◌+◌, ◌-◌, ◌/◌, ◌^◌, ℕ, List, [], ◌∷◌, map, max, min, nat_lt, if◌then◌else◌}
 use Rattle.std.specs.List.{flat_map}
-use Rattle.page_layout.specs.Axes.{IsAxis, point_of}
-use Rattle.page_layout.specs.Rounds.{IsLeastRound}
-use Rattle.page_layout.specs.Ticks.{AreTicks}
-use Rattle.page_layout.specs.declared.axes.Axis.{Axis}
-use Rattle.page_plots.specs.declared.axes.Axes.{Axes}
-use Rattle.page_plots.specs.declared.axes.NumberTick.{NumberTick}
-use Rattle.page_plots.specs.declared.axes.PriceTick.{PriceTick}
+use Rattle.page_plots.specs.Axes.{IsAxis, point_of}
+use Rattle.page_plots.specs.Rounds.{IsLeastRound}
+use Rattle.page_plots.specs.Ticks.{AreTicks}
+use Rattle.page_plots.specs.declared.axes.Axis.{Axis}
+use Rattle.page_plots.specs.declared.plot_axes.Axes.{Axes}
+use Rattle.page_plots.specs.declared.plot_axes.NumberTick.{NumberTick}
+use Rattle.page_plots.specs.declared.plot_axes.PriceTick.{PriceTick}
 use Rattle.page_plots.specs.declared.plots.Plot.{Plot}
 
 -- the two axes can be computed with, none ends before it begins, and the plot is 400 wide and 260

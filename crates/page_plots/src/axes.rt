@@ -1,141 +1,47 @@
-//! The axes of a plot of prices, drawn.
-ghost use Rattle.std.specs.Prelude.{◌≡◌, ◌++◌, IfOk, decimal};
-ghost use Rattle.std.specs.List.{flat_map};
+//! A straight axis.
+ghost use Rattle.std.specs.Prelude.{◌≡◌, ◌<◌, ◌≤◌, ◌^◌};
 ghost use Rattle.page_plots.specs.Axes as spec;
+ghost use Rattle.page_plots.specs.Axes.{IsAxis, point_of};
 
-use crate::papers::price_words;
-use crate::shapes::{Anchor, Point, with_label, with_line};
-use audit_base::faults::NoMemory;
-use audit_base::numbers::Price;
-use audit_base::texts::write_number;
-use page_markup::markup::Markup;
-use std::alloc::Global;
-
-/// The plot on its paper, which is 500 wide and 346 high.
-pub const LEFT: u32 = 68;
-
-pub const RIGHT: u32 = 468;
-
-pub const TOP: u32 = 44;
-
-pub const BOTTOM: u32 = 304;
-
-/// A marked price, and how far from the top of the paper it lies.
-#[derive(Clone, Copy, Debug)]
-pub struct PriceTick {
-    pub price: Price,
-    pub y: u16,
+/// A straight axis: numbers lie evenly on it, from its first to its last.
+#[derive(Clone, Copy, Debug, PartialEq, Eq)]
+pub struct Axis {
+    /// The number at its start.
+    pub first: u128,
+    /// The number at its end, below 2^112.
+    pub last: u128,
+    /// How long it is on the paper, at most 10,000.
+    pub length: u32,
 }
 
-/// A marked number, and how far from the left of the paper it lies.
-#[derive(Clone, Copy, Debug)]
-pub struct NumberTick {
-    pub number: u128,
-    pub x: u16,
-}
-
-/// What is marked on the axes of a plot of prices.
-#[derive(Debug, Drop)]
-pub struct Axes {
-    pub prices: Vec<PriceTick>,
-    pub numbers: Vec<NumberTick>,
-}
-
-/// The text of a number.
-fn number_words(alloc: Global, number: u128) -> Result<Vec<u8>, NoMemory>
-    ensures { IfOk result (λ text. text.items ≡ decimal number) }
+/// How far a number is from the start of a whole, in parts of a length.
+fn share_of(part: u128, whole: u128, length: u32) -> u32
+    requires part { part ≤ whole }
+    requires whole { whole < 2 ^ 112 }
+    requires length { length ≤ 10000 }
+    ensures share { result ≡ spec.share_of part whole length }
+    ensures inside { result ≤ length }
 {
-    let mut text = Vec::new(alloc);
-    write_number(alloc, number, &mut text)?;
-    Ok(text)
-}
-
-/// With the line of a price behind it.
-fn with_price_tick(alloc: Global, made: Markup, tick: &PriceTick) -> Result<Markup, NoMemory>
-    ensures { IfOk result (λ more. more ≡ made ++ spec.price_tick tick.now) }
-{
-    let y = u32::from(tick.y);
-    let (from, to) = (Point { x: LEFT, y }, Point { x: RIGHT, y });
-    let made = with_line(alloc, made, b"grid", from, to)?;
-    let text = price_words(alloc, tick.price)?;
-    let at = Point { x: 60, y: y + 4 };
-    with_label(alloc, made, b"tick", at, Anchor::End, &text)
-}
-
-/// With the mark of a number behind it.
-fn with_number_tick(alloc: Global, made: Markup, tick: &NumberTick) -> Result<Markup, NoMemory>
-    ensures { IfOk result (λ more. more ≡ made ++ spec.number_tick tick.now) }
-{
-    let x = u32::from(tick.x);
-    let (from, to) = (Point { x, y: BOTTOM }, Point { x, y: 308 });
-    let made = with_line(alloc, made, b"axis", from, to)?;
-    let text = number_words(alloc, tick.number)?;
-    let at = Point { x, y: 320 };
-    with_label(alloc, made, b"tick", at, Anchor::Middle, &text)
-}
-
-/// With the lines of prices behind it.
-fn with_price_ticks(alloc: Global, made: Markup, ticks: &[PriceTick]) -> Result<Markup, NoMemory>
-    ensures { IfOk result (λ more. more ≡ made ++ flat_map spec.price_tick ticks.now) }
-{
-    let mut made = made;
-    for tick in ticks {
-        made = with_price_tick(alloc, made, tick)?;
+    if whole == 0 {
+        return 0;
     }
-    Ok(made)
+    (part * u128::from(length) / whole) as u32
 }
 
-/// With the marks of numbers behind it.
-fn with_number_ticks(alloc: Global, made: Markup, ticks: &[NumberTick]) -> Result<Markup, NoMemory>
-    ensures { IfOk result (λ more. more ≡ made ++ flat_map spec.number_tick ticks.now) }
-{
-    let mut made = made;
-    for tick in ticks {
-        made = with_number_tick(alloc, made, tick)?;
+impl Axis {
+    /// How far from the start of the axis a number lies on the paper: rounded down, at the start
+    /// where it is below the first number, and at the end where it is above the last.
+    pub fn point(self, number: u128) -> u32
+        requires axis { IsAxis self }
+        ensures point { result ≡ point_of self number }
+        ensures inside { result ≤ self.length }
+    {
+        if number <= self.first || self.last <= self.first {
+            return 0;
+        }
+        if self.last <= number {
+            return self.length;
+        }
+        share_of(number - self.first, self.last - self.first, self.length)
     }
-    Ok(made)
-}
-
-/// With the line of the axis from the left behind it, and what each axis shows.
-fn with_axis_words(alloc: Global, made: Markup, across: &[u8]) -> Result<Markup, NoMemory>
-    ensures { IfOk result (λ more. more ≡ made ++ spec.axis_words across.now) }
-{
-    let (from, to) = (
-        Point { x: LEFT, y: BOTTOM },
-        Point {
-            x: RIGHT,
-            y: BOTTOM,
-        },
-    );
-    let made = with_line(alloc, made, b"axis", from, to)?;
-    let made = with_label(
-        alloc,
-        made,
-        b"tick",
-        Point { x: RIGHT, y: 340 },
-        Anchor::End,
-        across,
-    )?;
-    with_label(
-        alloc,
-        made,
-        b"tick",
-        Point { x: 60, y: 32 },
-        Anchor::End,
-        b"price",
-    )
-}
-
-/// With the axes of a plot behind it, and what the one from the left shows.
-pub fn with_axes(
-    alloc: Global,
-    made: Markup,
-    axes: &Axes,
-    across: &[u8],
-) -> Result<Markup, NoMemory>
-    ensures { IfOk result (λ more. more ≡ made ++ spec.axes_shapes axes.now across.now) }
-{
-    let made = with_price_ticks(alloc, made, &axes.prices)?;
-    let made = with_number_ticks(alloc, made, &axes.numbers)?;
-    with_axis_words(alloc, made, across)
 }

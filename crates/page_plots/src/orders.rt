@@ -7,7 +7,7 @@ use crate::shapes::{Anchor, Point, with_circle, with_label};
 use audit_base::faults::NoMemory;
 use audit_base::findings::{OrderLine, Shown};
 use audit_base::texts::write_number;
-use audit_report::line_parts::{Part, append_joined};
+use audit_report::line_parts::{LinePart, append_joined};
 use audit_report::words::side_word;
 use order_list::lists::OrderList;
 use page_markup::markup::Markup;
@@ -20,12 +20,12 @@ fn line_title(alloc: Global, line: &OrderLine) -> Result<Vec<u8>, NoMemory>
     let mut place = Vec::new(alloc);
     write_number(alloc, u128::from(line.place), &mut place)?;
     let parts = [
-        Part::Word(side_word(line.side)),
-        Part::Word(line.key.firm.bytes()),
-        Part::Word(line.key.id.bytes()),
-        Part::Number(u128::from(line.quantity.value())),
-        Part::Price(line.limit),
-        Part::Number(line.traded),
+        LinePart::Word(side_word(line.side)),
+        LinePart::Word(line.key.firm.bytes()),
+        LinePart::Word(line.key.id.bytes()),
+        LinePart::Number(u128::from(line.quantity.value())),
+        LinePart::Price(line.limit),
+        LinePart::Number(line.traded),
     ];
     let mut text = Vec::new(alloc);
     append_joined(alloc, &place, &parts, &mut text)?;

@@ -7,7 +7,7 @@ ghost use Rattle.std.specs.List.{list_any};
 ghost use Rattle.audit_base.specs.Numbers.{price_text};
 ghost use Rattle.page_plots.specs.Papers as spec;
 
-use crate::axes::{Axes, NumberTick, PriceTick};
+use crate::plot_axes::{Axes, NumberTick, PriceTick};
 use audit_base::faults::NoMemory;
 use audit_base::numbers::Price;
 use audit_base::texts::{write_number, write_price};

@@ -2,16 +2,16 @@
 //! lower end, as they lie from the start of their axis. A number beyond an axis lies at its end.
 ghost use Rattle.std.specs.Prelude.{◌≡◌, ◌<◌, ◌≤◌, ◌-◌, ◌^◌, ◌++◌, ◌∷◌, [], IfOk, OnOk, map, nat_lt, if◌then◌else◌, Some, None};
 ghost use Rattle.std.specs.List.{flat_map};
-ghost use Rattle.page_layout.specs.Axes.{IsAxis};
+ghost use Rattle.page_plots.specs.Axes.{IsAxis};
 ghost use Rattle.page_plots.specs.Plots as spec;
 ghost use Rattle.page_plots.specs.Plots.{AreAxesOf, AreMarks, AreNumberTicks, ArePriceTicks, IsPlot};
 
-use crate::axes::{Axes, BOTTOM, LEFT, NumberTick, PriceTick};
+use crate::axes::Axis;
+use crate::plot_axes::{Axes, BOTTOM, LEFT, NumberTick, PriceTick};
+use crate::rounds::round_step;
+use crate::ticks::ticks_of;
 use audit_base::faults::NoMemory;
 use audit_base::numbers::Price;
-use page_layout::axes::Axis;
-use page_layout::rounds::round_step;
-use page_layout::ticks::ticks_of;
 use std::alloc::Global;
 
 /// The greatest number that lies on an axis by itself.

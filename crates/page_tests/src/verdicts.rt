@@ -5,11 +5,11 @@ use audit_base::names::Key;
 use audit_base::numbers::{Price, Quantity};
 use audit_base::terms::{Form, Rule, Side, Which};
 use page_markup::markup::Markup;
+use page_parts::repeats::PageLogs;
+use page_parts::sentences::{SymbolTotals, VerdictInWords};
+use page_parts::verdict_pages::verdict_page;
 use std::process::Abort;
 use std::test::Fail;
-use verdict_page::pages::verdict_page;
-use verdict_page::repeats::PageLogs;
-use verdict_page::sentences::{SymbolTotals, VerdictInWords};
 
 /// The digests of `abc` and of no bytes.
 const OF_ABC: &[u8] = b"ba7816bf8f01cfea414140de5dae2223b00361a396177a9cb410ff61f20015ad";

@@ -3,8 +3,8 @@ use crate::continuous_rows::{small_deals, small_history};
 use crate::records::{deals_of, history_of, order};
 use audit_base::findings::Property;
 use audit_base::terms::Side;
-use continuous_drawing::offending::Offence;
-use continuous_drawing::sections::{Marked, continuous_sections};
+use continuous_drawing::offending::OffendingPlace;
+use continuous_drawing::sections::{MarkedTrading, continuous_sections};
 use std::process::Abort;
 
 /// What is written of the paper and the legend of the plot, of the trade, of the best limits after
@@ -28,8 +28,8 @@ const WRITTEN: [&str; 12] = [
 const WIDE: [&str; 2] = ["viewBox=\"-76 0 576 346\"", "viewBox=\"-76 0 576 54\""];
 
 /// An offence at the fourth record.
-const MARKED: Marked = Marked {
-    offence: Some(Offence {
+const MARKED: MarkedTrading = MarkedTrading {
+    offence: Some(OffendingPlace {
         place: 4,
         property: Property::BuyPriority,
     }),

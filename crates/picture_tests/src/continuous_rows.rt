@@ -4,7 +4,7 @@ ghost use Rattle.audit_base.specs.Deals.{IsDealList};
 use crate::records::{cancel, deals_of, history_of, order, trade};
 use audit_base::orders::Deal;
 use audit_base::terms::Side;
-use continuous_picture::columns::Column;
+use continuous_picture::columns::PlaceColumn;
 use continuous_picture::pictures::{BookBefore, ContinuousPicture, continuous_picture};
 use continuous_picture::ranges::LimitRange;
 use instruction_history::history::History;
@@ -54,14 +54,14 @@ fn whole(rt: &impl Abort, range: Option<LimitRange>) -> u64 {
     }
 }
 
-fn check_column(rt: &impl Abort, column: &Column, wanted: (u64, u64, u64, u64)) {
+fn check_column(rt: &impl Abort, column: &PlaceColumn, wanted: (u64, u64, u64, u64)) {
     let (bid, ask) = (whole(rt, column.bids), whole(rt, column.asks));
     let traded = whole(rt, column.trades);
     assert_eq!(rt; (column.first, bid, ask, traded), wanted);
     assert_eq!(rt; column.next, column.first.saturating_add(1));
 }
 
-fn check_columns(rt: &impl Abort, columns: &[Column]) {
+fn check_columns(rt: &impl Abort, columns: &[PlaceColumn]) {
     assert_eq!(rt; columns.len(), PLACES.len());
     for (column, wanted) in columns.iter().zip(PLACES.iter()) {
         check_column(rt, column, *wanted);

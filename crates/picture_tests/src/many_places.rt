@@ -3,7 +3,7 @@ use crate::records::{deals_of, history_of, order, price};
 use audit_base::records::OrderRecord;
 use audit_base::terms::Side;
 use audit_base::texts::write_number;
-use continuous_picture::columns::Column;
+use continuous_picture::columns::PlaceColumn;
 use continuous_picture::pictures::{ContinuousPicture, continuous_picture};
 use continuous_picture::ranges::LimitRange;
 use order_book::books::Resting;
@@ -30,7 +30,7 @@ fn bids<R: AllocGlobal + Abort>(rt: &R) -> Vec<OrderRecord> {
 }
 
 /// Each column has two places, and the limits of both bids.
-fn check_column(rt: &impl Abort, column: &Column, index: usize) {
+fn check_column(rt: &impl Abort, column: &PlaceColumn, index: usize) {
     assert!(rt; index < 600);
     let first = 1 + 2 * index as u32;
     let limits = LimitRange {
@@ -44,7 +44,7 @@ fn check_column(rt: &impl Abort, column: &Column, index: usize) {
     assert_eq!(rt; column.trades, None);
 }
 
-fn check_columns(rt: &impl Abort, columns: &[Column]) {
+fn check_columns(rt: &impl Abort, columns: &[PlaceColumn]) {
     assert_eq!(rt; columns.len(), 600);
     for (index, column) in columns.iter().enumerate() {
         check_column(rt, column, index);

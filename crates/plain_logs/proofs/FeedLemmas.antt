@@ -2,19 +2,19 @@
 use Rattle.std.proofs.Common.{◌≡◌, ℕ, ◌≤◌, List, [], ◌∷◌, ◌++◌, drop, length, Option, None, ap, refl, sym, subst, ◌∙◌, arith}
 use Rattle.std.specs.Prelude.{All, IsTrue}
 use Rattle.std.proofs.lemmas.List.{append-nil, drop_all, drop_at}
-use Rattle.dressed_logs.specs.declared.faults.BadMessage.{BadMessage}
-use Rattle.dressed_logs.specs.declared.framed.FramedFeed.{FramedFeed}
-use Rattle.dressed_logs.specs.declared.lines.LineFeed.{LineFeed}
-use Rattle.dressed_logs.specs.Answers.{HasReadBodies}
-use Rattle.dressed_logs.specs.Feeds.{IsFramedFeedOf, IsFramedFeedWithinLimit}
-use Rattle.dressed_logs.specs.Framed.{IsFramedReading}
-use Rattle.dressed_logs.specs.Fronts.{BeginsReadings, framed_count, HasReadFramed, HasReadLines, line_count}
-use Rattle.dressed_logs.specs.Laws.{FitsMessage, FramedDaysAreReadOnce, LineDaysAreReadOnce}
-use Rattle.dressed_logs.specs.LineFeeds.{IsLineFeedOf, IsLineFeedWithinLimit}
-use Rattle.dressed_logs.specs.Lines.{is_soh_text, IsLineReading}
-use Rattle.dressed_logs.proofs.FrontLemmas.{framed-begins, framed-counted, framed-join, framed-split}
-use Rattle.dressed_logs.proofs.LineFrontLemmas.{lines-begins, lines-counted, lines-join, lines-split}
-use Rattle.dressed_logs.proofs.LineLemmas.{soh-some}
+use Rattle.fix_days.specs.declared.faults.BadMessage.{BadMessage}
+use Rattle.fix_days.specs.declared.framed.FramedFeed.{FramedFeed}
+use Rattle.fix_days.specs.declared.lines.LineFeed.{LineFeed}
+use Rattle.fix_days.specs.Answers.{HasReadBodies}
+use Rattle.fix_days.specs.Feeds.{IsFramedFeedOf, IsFramedFeedWithinLimit}
+use Rattle.fix_days.specs.Framed.{IsFramedReading}
+use Rattle.fix_days.specs.Fronts.{BeginsReadings, framed_count, HasReadFramed, HasReadLines, line_count}
+use Rattle.fix_days.specs.Laws.{FitsMessage, FramedDaysAreReadOnce, LineDaysAreReadOnce}
+use Rattle.fix_days.specs.LineFeeds.{IsLineFeedOf, IsLineFeedWithinLimit}
+use Rattle.fix_days.specs.Lines.{is_soh_text, IsLineReading}
+use Rattle.fix_days.proofs.FrontLemmas.{framed-begins, framed-counted, framed-join, framed-split}
+use Rattle.fix_days.proofs.LineFrontLemmas.{lines-begins, lines-counted, lines-join, lines-split}
+use Rattle.fix_days.proofs.LineLemmas.{soh-some}
 use Rattle.log_source.specs.Feeds.{HasRoom}
 use Rattle.log_source.specs.Handing.{HandsOnMore}
 use Rattle.plain_logs.specs.declared.day_ends.DayEnd.{DayEnd}

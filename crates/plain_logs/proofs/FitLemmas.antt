@@ -7,11 +7,11 @@ use Rattle.fix_framing.specs.Frames.{body_of_with, IsFrameWith}
 use Rattle.fix_framing.specs.Framing.{IsFramedWith}
 use Rattle.fix_framing.specs.Headers.{any_version}
 use Rattle.fix_framing.proofs.MessageLemmas.{IsFrameWith-body_of}
-use Rattle.dressed_logs.specs.declared.faults.BadMessage.{BadMessage}
-use Rattle.dressed_logs.specs.Framed.{bodies_of, HasBodies, IsTextReading}
-use Rattle.dressed_logs.specs.Laws.{FitsMessage}
-use Rattle.dressed_logs.specs.Lines.{IsLeftAfter}
-use Rattle.dressed_logs.proofs.TextLemmas.{any-headers}
+use Rattle.fix_days.specs.declared.faults.BadMessage.{BadMessage}
+use Rattle.fix_days.specs.Framed.{bodies_of, HasBodies, IsTextReading}
+use Rattle.fix_days.specs.Laws.{FitsMessage}
+use Rattle.fix_days.specs.Lines.{IsLeftAfter}
+use Rattle.fix_days.proofs.TextLemmas.{any-headers}
 use Rattle.plain_logs.specs.Laws.{FramedBodiesFit, LineBodiesFit}
 
 own-fits : (frame body : List ℕ) → IsFrameWith any_version frame body → FitsMessage (body_of_with any_version frame)

@@ -8,9 +8,9 @@ use Rattle.std.proofs.Math.Seq.{take-append-add}
 use Rattle.std.proofs.lemmas.Grind.{flat_map-append}
 use Rattle.std.proofs.lemmas.List.{length-append, length-take, take_at}
 use Rattle.audit_base.specs.declared.terms.Which.{Which}
-use Rattle.dressed_logs.specs.declared.faults.BadMessage.{BadMessage}
-use Rattle.dressed_logs.specs.Fronts.{BeginsReadings}
-use Rattle.dressed_logs.specs.Laws.{written_line}
+use Rattle.fix_days.specs.declared.faults.BadMessage.{BadMessage}
+use Rattle.fix_days.specs.Fronts.{BeginsReadings}
+use Rattle.fix_days.specs.Laws.{written_line}
 use Rattle.log_source.specs.Calls.{count_after}
 use Rattle.log_source.specs.Sinks.{AppendsPart, HasFailureCause, SinkState, SinkStays}
 use Rattle.log_source.specs.Sources.{ChangesOneSlot, RoseOrIsFull}

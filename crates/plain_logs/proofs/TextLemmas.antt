@@ -5,9 +5,9 @@ use Rattle.std.proofs.lemmas.Grind.{flat_map-append}
 use Rattle.std.proofs.lemmas.List.{append-nil, drop-append-le, length-append}
 use Rattle.audit_base.specs.Sizes.{longest_body}
 use Rattle.fix_framing.specs.Frames.{body_of, frame_text}
-use Rattle.dressed_logs.specs.declared.faults.BadMessage.{BadMessage}
-use Rattle.dressed_logs.specs.Framed.{IsFramedReading}
-use Rattle.dressed_logs.specs.Laws.{FitsMessage, FixLogsAreDays, FramedDaysAreReadOnce, WrittenDaysAreRead, written_line}
+use Rattle.fix_days.specs.declared.faults.BadMessage.{BadMessage}
+use Rattle.fix_days.specs.Framed.{IsFramedReading}
+use Rattle.fix_days.specs.Laws.{FitsMessage, FixLogsAreDays, FramedDaysAreReadOnce, WrittenDaysAreRead, written_line}
 use Rattle.plain_logs.specs.Laws.{FramedBodiesFit, LineBodiesFit, PlainIsRead, PlainOfFixLogs, PlainOfPlain}
 use Rattle.plain_logs.specs.PlainTexts.{IsPlainText, IsTextBehind, plain_text}
 use Rattle.plain_logs.proofs.ListLemmas.{All-front, All-last}

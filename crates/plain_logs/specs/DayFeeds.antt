@@ -1,10 +1,10 @@
 -- What a feed of a day is handed, and the plain text that it gives for that.
 use Rattle.std.specs.Prelude.{◌≡◌, ◌≤◌, ◌+◌, ℕ, IsTrue, List, [], ◌++◌, Option, length}
-use Rattle.dressed_logs.specs.declared.faults.BadMessage.{BadMessage}
-use Rattle.dressed_logs.specs.declared.framed.FramedFeed.{FramedFeed}
-use Rattle.dressed_logs.specs.declared.lines.LineFeed.{LineFeed}
-use Rattle.dressed_logs.specs.Fronts.{BeginsReadings, HasReadFramed, HasReadLines}
-use Rattle.dressed_logs.specs.Lines.{is_soh_text}
+use Rattle.fix_days.specs.declared.faults.BadMessage.{BadMessage}
+use Rattle.fix_days.specs.declared.framed.FramedFeed.{FramedFeed}
+use Rattle.fix_days.specs.declared.lines.LineFeed.{LineFeed}
+use Rattle.fix_days.specs.Fronts.{BeginsReadings, HasReadFramed, HasReadLines}
+use Rattle.fix_days.specs.Lines.{is_soh_text}
 use Rattle.log_source.specs.Sources.{longest_read}
 use Rattle.plain_logs.specs.declared.day_ends.DayEnd.{DayEnd}
 use Rattle.plain_logs.specs.declared.lines.PlainLines.{PlainLines}

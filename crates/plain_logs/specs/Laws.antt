@@ -1,9 +1,9 @@
 -- The laws of plain days, in one sentence each.
 use Rattle.std.specs.Prelude.{◌≡◌, ℕ, All, List, map, None, Option}
-use Rattle.dressed_logs.specs.declared.faults.BadMessage.{BadMessage}
-use Rattle.dressed_logs.specs.Framed.{IsFramedReading}
-use Rattle.dressed_logs.specs.Laws.{FitsMessage}
-use Rattle.dressed_logs.specs.Lines.{IsLineReading}
+use Rattle.fix_days.specs.declared.faults.BadMessage.{BadMessage}
+use Rattle.fix_days.specs.Framed.{IsFramedReading}
+use Rattle.fix_days.specs.Laws.{FitsMessage}
+use Rattle.fix_days.specs.Lines.{IsLineReading}
 use Rattle.fix_framing.specs.Frames.{body_of}
 use Rattle.fix_framing.specs.Framing.{IsFramed}
 use Rattle.plain_logs.specs.PlainTexts.{IsPlainText, plain_text}

@@ -1,8 +1,8 @@
 -- What is passed on of one piece of a day.
 use Rattle.std.specs.Prelude.{◌≡◌, ℕ, List, ◌++◌, Option, Result, Ok, Err}
 use Rattle.std.specs.Io.KnownBytes.{Appends}
-use Rattle.dressed_logs.specs.declared.faults.BadMessage.{BadMessage}
-use Rattle.dressed_logs.specs.Fronts.{BeginsReadings}
+use Rattle.fix_days.specs.declared.faults.BadMessage.{BadMessage}
+use Rattle.fix_days.specs.Fronts.{BeginsReadings}
 use Rattle.log_source.specs.Sinks.{AppendsPart, HasFailureCause, SinkState}
 use Rattle.log_source.specs.declared.take.TakeFault.TheVariants.{Memory}
 use Rattle.plain_logs.specs.declared.day_ends.PlainFault.{PlainFault}

@@ -2,8 +2,8 @@
 use Rattle.std.specs.Prelude.{◌≡◌, ◌≤◌, ℕ, List, Option, Result, Ok, Err, length}
 use Rattle.std.specs.Io.KnownBytes.{Appends}
 use Rattle.audit_base.specs.declared.terms.Which.{Which}
-use Rattle.dressed_logs.specs.declared.faults.BadMessage.{BadMessage}
-use Rattle.dressed_logs.specs.Fronts.{BeginsReadings}
+use Rattle.fix_days.specs.declared.faults.BadMessage.{BadMessage}
+use Rattle.fix_days.specs.Fronts.{BeginsReadings}
 use Rattle.log_source.specs.Calls.{count_after}
 use Rattle.log_source.specs.Pumping.{IsFront}
 use Rattle.log_source.specs.Sinks.{AppendsPart, HasFailureCause, SinkState}

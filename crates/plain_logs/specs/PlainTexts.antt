@@ -1,8 +1,8 @@
 -- The plain text of a day: each message that is read of it, as a line of a FIX log.
 use Rattle.std.specs.Prelude.{◌≡◌, ◌≤◌, ℕ, All, List, Option, drop, length}
 use Rattle.std.specs.List.{flat_map}
-use Rattle.dressed_logs.specs.declared.faults.BadMessage.{BadMessage}
-use Rattle.dressed_logs.specs.Laws.{FitsMessage, written_line}
+use Rattle.fix_days.specs.declared.faults.BadMessage.{BadMessage}
+use Rattle.fix_days.specs.Laws.{FitsMessage, written_line}
 
 -- the messages of FIX 4.4 with these bodies, one on a line
 abbrev pub plain_text : List (List ℕ) → List ℕ

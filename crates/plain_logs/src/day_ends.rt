@@ -1,7 +1,7 @@
 //! How the writing of a day ends.
 ghost use Rattle.std.specs.Prelude.{◌≡◌};
 
-use dressed_logs::faults::BadMessage;
+use fix_days::faults::BadMessage;
 use log_source::shelf::{Failed, StartFault};
 use log_source::take::TakeFault;
 

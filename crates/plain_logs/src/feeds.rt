@@ -1,18 +1,18 @@
 //! Feeds of a day that give the plain text of its messages as they are handed its bytes.
 ghost use Rattle.std.specs.Prelude.{◌≡◌, [], ℕ, List, Option, IfOk, IsTrue};
-ghost use Rattle.dressed_logs.specs.declared.faults.BadMessage.{BadMessage as ABadMessage};
-ghost use Rattle.dressed_logs.specs.Framed.{IsFramedReading};
-ghost use Rattle.dressed_logs.specs.Fronts.{framed_count, line_count};
-ghost use Rattle.dressed_logs.specs.Lines.{IsLineReading, is_soh_text};
+ghost use Rattle.fix_days.specs.declared.faults.BadMessage.{BadMessage as ABadMessage};
+ghost use Rattle.fix_days.specs.Framed.{IsFramedReading};
+ghost use Rattle.fix_days.specs.Fronts.{framed_count, line_count};
+ghost use Rattle.fix_days.specs.Lines.{IsLineReading, is_soh_text};
 ghost use Rattle.plain_logs.specs.DayFeeds.{EndsDay, HasGivenFramed, HasGivenLines, HasReadWithinLimit, HasRoomForPiece, ReadsPiece};
 
 use crate::day_ends::DayEnd;
 use crate::laws::bodies_fit_messages;
 use crate::lines::{PlainLines, Skipped};
 use audit_base::faults::NoMemory;
-use dressed_logs::framed::FramedFeed;
-use dressed_logs::laws::{days_have_one_reading, days_on_lines_have_one_reading};
-use dressed_logs::lines::{LineFeed, SohText};
+use fix_days::framed::FramedFeed;
+use fix_days::laws::{days_have_one_reading, days_on_lines_have_one_reading};
+use fix_days::lines::{LineFeed, SohText};
 use log_source::feed::Feed;
 use std::alloc::Global;
 use std::marker::Brand;

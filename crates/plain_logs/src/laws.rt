@@ -2,7 +2,7 @@
 //! contract, so that the check proves it.
 ghost use Rattle.plain_logs.specs.Laws.{FramedBodiesFit, LineBodiesFit, PlainIsRead, PlainOfFixLogs, PlainOfPlain};
 
-use dressed_logs::laws::{days_have_one_reading, fix_logs_are_days, written_days_are_read_again};
+use fix_days::laws::{days_have_one_reading, fix_logs_are_days, written_days_are_read_again};
 
 /// Each body that is read of a day fits a message.
 pub fn bodies_fit_messages()

@@ -3,7 +3,7 @@ ghost use Rattle.std.specs.Prelude.{◌≡◌, [], ℕ};
 
 use audit_base::faults::NoMemory;
 use audit_base::sizes::LONGEST_BODY;
-use dressed_logs::bodies::Bodies;
+use fix_days::bodies::Bodies;
 use fix_framing::writing::write_frame;
 use std::alloc::Global;
 use std::marker::{Brand, PhantomData};

@@ -1,7 +1,7 @@
 //! A day of a shelf, made plain: its text is written to a sink while it is read.
 ghost use Rattle.std.specs.Prelude.{◌≡◌, ◌≤◌, [], IfErr, IfOk, OnOk, IsTrue};
-ghost use Rattle.dressed_logs.specs.Framed.{IsFramedReading};
-ghost use Rattle.dressed_logs.specs.Lines.{IsLineReading, is_soh_text};
+ghost use Rattle.fix_days.specs.Framed.{IsFramedReading};
+ghost use Rattle.fix_days.specs.Lines.{IsLineReading, is_soh_text};
 ghost use Rattle.log_source.specs.Sinks.{SinkStays};
 ghost use Rattle.log_source.specs.Sources.{ChangesOneSlot, longest_read};
 ghost use Rattle.plain_logs.specs.DayFeeds.{HasRoomForPiece};
@@ -11,7 +11,7 @@ ghost use Rattle.plain_logs.specs.PlainLogs.{StopsWriting, TakesUpTo, WritesUpTo
 use crate::day_ends::{DayEnd, PlainFault};
 use crate::feeds::{DayFeed, framed_feed, line_feed};
 use audit_base::terms::Which;
-use dressed_logs::lines::SohText;
+use fix_days::lines::SohText;
 use log_source::put::put_all;
 use log_source::shelf::Shelf;
 use log_source::sink::Sink;

@@ -25,7 +25,7 @@ fn add_rank(
     ensures priced { order.now.limit < 10 ^ 18 }
 {
     let rank = Rank::of(order.side(), index, order.limit());
-    if order.stands_on(side) {
+    if order.is_uncancelled_on(side) {
         ranks.push(rank)?;
     }
     Ok(())

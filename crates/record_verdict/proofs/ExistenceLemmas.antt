@@ -28,7 +28,7 @@ use Rattle.audit_base.proofs.TradeLemmas.{deals-ranges}
 use Rattle.audit_base.proofs.VerdictLemmas.{one-greatest}
 use Rattle.audit_report.specs.declared.verdicts.Verdict.{Verdict}
 use Rattle.audit_report.specs.declared.verdicts.Verdict.TheVariants as verdict
-use Rattle.call_auction.specs.Audits.{IsReachedBound}
+use Rattle.call_audit.specs.Audits.{IsReachedBound}
 use Rattle.call_laws.specs.Existence.{GreatestExecutableVolumeExists, LeastCutExists}
 use Rattle.call_laws.specs.Laws.{OnlyQuantities}
 use Rattle.call_laws.specs.Optimum.{MaximumTradesAreExpected, UniformTradesAreExpected}

@@ -5,7 +5,7 @@ use Rattle.std.specs.Option.{ForSome}
 use Rattle.audit_base.specs.declared.terms.VolumeRule.{VolumeRule}
 use Rattle.audit_base.specs.declared.terms.VolumeRule.TheVariants as of_volume
 use Rattle.audit_base.specs.RuleKinds.{volume_rule}
-use Rattle.call_auction.specs.Audits.{IsReachedBound}
+use Rattle.call_audit.specs.Audits.{IsReachedBound}
 use Rattle.audit_base.specs.declared.terms.Which.TheVariants as which
 use Rattle.audit_base.specs.declared.findings.Property.TheVariants as property
 use Rattle.audit_base.specs.declared.records.OrderRecord.{OrderRecord}

@@ -19,7 +19,7 @@ use Rattle.audit_report.specs.declared.tables.Line.{Line}
 use Rattle.audit_report.specs.declared.verdicts.Accepted.{Accepted}
 use Rattle.audit_report.specs.declared.verdicts.Verdict.{Verdict}
 use Rattle.audit_report.specs.declared.verdicts.Verdict.TheVariants as verdict
-use Rattle.call_auction.specs.Audits.{IsReachedBound}
+use Rattle.call_audit.specs.Audits.{IsReachedBound}
 use Rattle.record_verdict.specs.declared.questions.Question.{Question}
 use Rattle.record_verdict.specs.RecordVerdicts.{IsAcceptance, IsAcceptedLog, IsRecordVerdict, IsOutcomeByFinding}
 

@@ -26,7 +26,7 @@ use Rattle.matching_core.specs.declared.outcomes.Outcome.{Outcome}
 use Rattle.matching_core.specs.declared.outcomes.Outcome.TheVariants as outcome
 use Rattle.matching_core.specs.declared.outcomes.Reached.{Reached}
 use Rattle.call_laws.proofs.VolumeLemmas.{early-offence, first-of_call}
-use Rattle.call_auction.specs.Audits.{IsCallOutcome, IsReachedBound}
+use Rattle.call_audit.specs.Audits.{IsCallOutcome, IsReachedBound}
 use Rattle.continuous_audit.specs.Audits as continuous
 use Rattle.record_verdict.specs.declared.questions.Question.{Question}
 use Rattle.record_verdict.specs.RecordVerdicts.{order_line_at, order_table_lines, AreOnlyQuantities, EachOnly, IsReportedBound}

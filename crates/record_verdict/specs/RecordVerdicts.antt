@@ -24,7 +24,7 @@ use Rattle.audit_report.specs.declared.tables.Line.TheVariants as line
 use Rattle.audit_report.specs.declared.verdicts.Accepted.{Accepted}
 use Rattle.audit_report.specs.declared.verdicts.Verdict.{Verdict}
 use Rattle.audit_report.specs.declared.verdicts.Verdict.TheVariants as verdict
-use Rattle.call_auction.specs.Audits.{IsReachedBound}
+use Rattle.call_audit.specs.Audits.{IsReachedBound}
 use Rattle.record_verdict.specs.declared.questions.Question.{Question}
 
 -- what is asked of two logs: the rule, the symbol, and whether a table is wanted

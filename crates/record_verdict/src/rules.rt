@@ -6,7 +6,7 @@ ghost use Rattle.audit_base.specs.RuleKinds.{rule_of_call};
 ghost use Rattle.audit_base.specs.Histories.{Regular};
 ghost use Rattle.audit_base.specs.Orders.{IsOrderList};
 ghost use Rattle.audit_base.specs.Deals.{AreTotals, IsDealList};
-ghost use Rattle.call_auction.specs.Audits.{IsCallOutcome};
+ghost use Rattle.call_audit.specs.Audits.{IsCallOutcome};
 ghost use Rattle.record_verdict.specs.Stages.{VerdictFollowsDeals};
 ghost use Rattle.record_verdict.specs.Tables.{accepted_verdict, conforming_outcome, IsCallOutcomeForAnyCount, IsOutcomeOfFault, IsRuleOutcome};
 
@@ -16,7 +16,7 @@ use audit_base::faults::NoMemory;
 use audit_base::orders::Deal;
 use audit_base::terms::{CallRule, Rule, VolumeRule};
 use audit_report::verdicts::{Accepted, Verdict};
-use call_auction::fair_matchings::fair_matching;
+use call_audit::fair_matchings::fair_matching;
 use continuous_audit::auditing::audit_continuous;
 use matching_core::checking::check_matching;
 use matching_core::outcomes::{CheckFault, Outcome, Reached};

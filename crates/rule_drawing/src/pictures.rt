@@ -10,8 +10,8 @@ use audit_base::findings::Finding;
 use audit_base::numbers::Price;
 use audit_base::orders::Deal;
 use audit_base::terms::{CallRule, Rule, VolumeRule};
-use call_drawing::sections::{Marked, call_section};
-use continuous_drawing::sections::{Marked as MarkedPlaces, continuous_sections};
+use call_drawing::sections::{MarkedCall, call_section};
+use continuous_drawing::sections::{MarkedTrading, continuous_sections};
 use order_list::lists::OrderList;
 use page_markup::markup::Markup;
 use std::alloc::Global;
@@ -50,7 +50,7 @@ fn picture_of_call(
     requires deal_list { IsDealList orders.now deals.now }
     ensures { IfOk result (spec.IsPictureOfCall rule orders.now deals.now finding.now) }
 {
-    let marked = Marked::by(finding, price_of_rule(rule, deals));
+    let marked = MarkedCall::by(finding, price_of_rule(rule, deals));
     call_section(alloc, orders, deals, &marked)
 }
 
@@ -65,7 +65,7 @@ fn picture_of_continuous(
     requires deal_list { IsDealList orders.now deals.now }
     ensures { IfOk result (spec.IsPictureOfContinuous orders.now deals.now finding.now) }
 {
-    let marked = MarkedPlaces::by(finding, offending_place(orders, deals, finding));
+    let marked = MarkedTrading::by(finding, offending_place(orders, deals, finding));
     continuous_sections(alloc, orders, deals, end_of(orders), &marked)
 }
 

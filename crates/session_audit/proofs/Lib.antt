@@ -17,3 +17,5 @@ pub mod OneOffenceLemmas
 pub mod TotalLemmas
 pub mod UniqueLemmas
 pub mod TextLemmas
+mod SessionLemmas
+mod LawLemmas

@@ -15,3 +15,6 @@ pub mod Judging
 pub mod Leaving
 pub mod Progress
 pub mod Instants
+-- What a reader must believe: the session of one symbol, and that it is one.
+pub mod SessionVerdicts
+pub mod VerdictLaws

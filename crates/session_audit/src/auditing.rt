@@ -76,7 +76,7 @@ pub fn audit_session(
     requires fits_places { count < 2 ^ 32 - 1 }
     ensures { IfOk result (IsDayOutcome phases.now orders.now deals.now count) }
 {
-    orders.in_range();
+    orders.numbers_are_in_range();
     if let Some(finding) = first_instant_of_day(phases, orders) {
         return Ok(Day::Broken(finding));
     }

@@ -151,7 +151,7 @@ fn phase_terms(order: &ListedOrder<'_>, first: u32, last: u32, amount: u64) -> C
         ≡ spec.phase_order last order.now (entering.role_of_amount first amount order.now) }
     ensures small { IfSome result.target (λ t. t < 4294967295) }
 {
-    order.in_range();
+    order.numbers_are_in_range();
     match Quantity::of(amount) {
         Some(quantity) => ChangedTerms {
             quantity,

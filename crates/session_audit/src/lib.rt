@@ -9,6 +9,12 @@
 //! `entering` makes the order list of a phase, `dealing` picks its deals, `judging` calls the
 //! audit of its rule, `leaving` says what is left of each order, and `progress` joins these;
 //! `chains` adds up what the chain of each order has traded.
+//!
+//! The session of one symbol: what `session` says of it by the phases of a trading day, once all
+//! that comes before the phases is known.
+//!
+//! It is what `record_verdict` is for a rule. Nothing here reads a log: one log of a symbol and the
+//! logs of a whole day are read elsewhere, and both are judged by `sessions::session_after`.
 #![tactic(auto)]
 
 pub mod auditing;
@@ -23,3 +29,5 @@ mod leaving;
 pub mod phases;
 mod progress;
 pub mod texts;
+pub mod verdict_laws;
+pub mod verdicts;

@@ -9,7 +9,7 @@ use super::phases::Phase;
 use audit_base::faults::NoMemory;
 use audit_base::names::Name;
 use audit_base::texts::write_number;
-use audit_report::line_parts::{Part, append, append_joined, append_line};
+use audit_report::line_parts::{LinePart, append, append_joined, append_line};
 use audit_report::lines::append_totals_line;
 use order_list::lists::OrderList;
 use std::alloc::Global;
@@ -66,7 +66,7 @@ fn append_session_line(
     ensures { let line = text.session_line symbol.now phases.now in
         OnOk result (out.new.items ≡ out.old.items ++ line) }
 {
-    append_joined(alloc, b"session", &[Part::Word(symbol.bytes())], out)?;
+    append_joined(alloc, b"session", &[LinePart::Word(symbol.bytes())], out)?;
     append(b",", out)?;
     append_phases(alloc, phases, out)?;
     append(b"\n", out)
@@ -81,7 +81,10 @@ fn append_total_line(
 ) -> Result<(), NoMemory>
     ensures { OnOk result (out.new.items ≡ out.old.items ++ text.total_line place traded) }
 {
-    let parts = [Part::Number(u128::from(place)), Part::Number(traded)];
+    let parts = [
+        LinePart::Number(u128::from(place)),
+        LinePart::Number(traded),
+    ];
     append_line(alloc, b"order", &parts, out)
 }
 

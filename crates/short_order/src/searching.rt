@@ -18,7 +18,7 @@ fn is_short_on(orders: &OrderList<'_>, traded: &[u128], side: Side, index: usize
     ensures { result ≡ is_short_on orders.now traded.now side index }
 {
     let order = orders.at(index);
-    order.stands_on(side) && traded[index] < order.quantity().value() as u128
+    order.is_uncancelled_on(side) && traded[index] < order.quantity().value() as u128
 }
 
 /// The better of an order and the one that was the best so far, if there is one.

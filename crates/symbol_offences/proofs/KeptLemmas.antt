@@ -12,7 +12,7 @@ use Rattle.audit_base.specs.Trades.{trades_of_symbol}
 use Rattle.audit_base.proofs.HistoryLemmas.{enumerated-places}
 use Rattle.audit_base.proofs.SumLemmas.{AllPairs-head, AllPairs-tail, AllPairs-cons}
 use Rattle.further_checks.specs.FurtherRules.{times_of_symbol}
-use Rattle.kept_records.proofs.NumberedLemmas.{left-more, left-same}
+use Rattle.day_records.proofs.NumberedLemmas.{left-more, left-same}
 use Rattle.symbol_offences.specs.OrderLog.{with_entry_if}
 use Rattle.symbol_offences.specs.Questions.{kept_if}
 use Rattle.symbol_offences.specs.SymbolLogs.{ArePlacesRising, kept_history, kept_trades, places_of_records}

@@ -10,12 +10,12 @@ use Rattle.audit_base.specs.declared.terms.Which.TheVariants.{Orders, Trades}
 use Rattle.audit_base.specs.Histories.{order_list}
 use Rattle.audit_base.specs.Trades.{deal_of_trade, deals_of_symbol, trades_of_symbol}
 use Rattle.audit_base.specs.Verdicts.{paired_trades}
-use Rattle.day_trades.specs.declared.symbol_trades.SymbolTrades.{SymbolTrades}
-use Rattle.day_trades.specs.declared.symbol_trades.SymbolTrades.TheVariants as known
-use Rattle.day_trades.specs.SymbolTrades.{IsSymbolTrades}
+use Rattle.day_records.specs.declared.symbol_trades.SymbolTrades.{SymbolTrades}
+use Rattle.day_records.specs.declared.symbol_trades.SymbolTrades.TheVariants as known
+use Rattle.day_records.specs.SymbolTrades.{IsSymbolTrades}
 use Rattle.further_checks.specs.FurtherRules.{times_of_symbol}
-use Rattle.kept_records.specs.KeptOrders.{KeptEntries}
-use Rattle.kept_records.specs.KeptTrades.{KeptDeals}
+use Rattle.day_records.specs.KeptOrders.{KeptEntries}
+use Rattle.day_records.specs.KeptTrades.{KeptDeals}
 use Rattle.log_verdict.specs.declared.reading.Unread.{Unread}
 use Rattle.log_verdict.specs.declared.reading.Unread.TheVariants as unread
 use Rattle.log_verdict.specs.declared.sources.Source.{Source}

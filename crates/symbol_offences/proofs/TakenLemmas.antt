@@ -5,14 +5,14 @@ use Rattle.audit_base.specs.declared.records.OrderRecord.{OrderRecord}
 use Rattle.audit_base.specs.declared.records.TradeRecord.{TradeRecord}
 use Rattle.audit_base.specs.Histories.{symbol_of}
 use Rattle.audit_base.specs.Orders.{same_name}
-use Rattle.day_trades.specs.declared.symbol_trades.SymbolTrades.{SymbolTrades}
-use Rattle.day_trades.specs.declared.symbol_trades.SymbolTrades.TheVariants as known
-use Rattle.day_trades.specs.SymbolTrades.{IsSymbolTrades, TakesTradeOf}
+use Rattle.day_records.specs.declared.symbol_trades.SymbolTrades.{SymbolTrades}
+use Rattle.day_records.specs.declared.symbol_trades.SymbolTrades.TheVariants as known
+use Rattle.day_records.specs.SymbolTrades.{IsSymbolTrades, TakesTradeOf}
 use Rattle.instruction_history.specs.declared.symbol_history.SymbolHistory.{SymbolHistory}
 use Rattle.instruction_history.specs.SymbolHistory.{IsSymbolHistory, TakesOwnRecord}
 use Rattle.instruction_history.proofs.SymbolHistoryLemmas.{other-more}
-use Rattle.kept_records.specs.KeptOrders.{KeptEntries}
-use Rattle.kept_records.specs.KeptTrades.{KeptDeals}
+use Rattle.day_records.specs.KeptOrders.{KeptEntries}
+use Rattle.day_records.specs.KeptTrades.{KeptDeals}
 use Rattle.matching_core.proofs.SymbolDealsLemmas.{other-trade as other-deal}
 use Rattle.record_verdict.specs.declared.scopes.Admission.{Admission}
 use Rattle.record_verdict.specs.declared.scopes.Scope.{Scope}

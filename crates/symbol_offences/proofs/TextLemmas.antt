@@ -9,25 +9,25 @@ use Rattle.audit_report.specs.Lines.{line_text}
 use Rattle.audit_report.proofs.LineLemmas.{joined_parts}
 use Rattle.audit_base.specs.declared.findings.Finding.{Finding}
 use Rattle.audit_base.specs.declared.orders.Order.{Order}
-use Rattle.offence_list.specs.declared.offences.Offence.{Offence}
+use Rattle.offence_list.specs.declared.offences.ListedOffence.{ListedOffence}
 use Rattle.offence_list.specs.ListedOffences.{finding_of_offence, findings_of_offences}
-use Rattle.offence_report.specs.OffenceTexts.{count_line, offence_line}
+use Rattle.offence_list.specs.OffenceTexts.{count_line, offence_line}
 use Rattle.symbol_offences.specs.declared.symbol_logs.QuotedRecords.{QuotedRecords}
 use Rattle.symbol_offences.specs.OffenceLines.{offence_lines, quoted_offence}
 use Rattle.symbol_offences.specs.Quotes.{ending_at, ending_place, is_inactive, quotes_with, shown_order_place}
 use Rattle.symbol_offences.specs.Telling.{offences_quoted}
 
 module _ (orders : List Order) (quoted : QuotedRecords) where
-  quoted-same : (found : List Offence) → offences_quoted orders quoted found ≡ flat_map (quoted_offence orders quoted) (findings_of_offences orders found)
+  quoted-same : (found : List ListedOffence) → offences_quoted orders quoted found ≡ flat_map (quoted_offence orders quoted) (findings_of_offences orders found)
   quoted-same [] = refl
   quoted-same (o ∷ found) = ap (λ (t : List ℕ). quoted_offence orders quoted (finding_of_offence orders o) ++ t) (quoted-same found)
 
-  length-same : (found : List Offence) → length found ≡ length (findings_of_offences orders found)
+  length-same : (found : List ListedOffence) → length found ≡ length (findings_of_offences orders found)
   length-same [] = refl
   length-same (o ∷ found) = ap (λ (n : ℕ). suc n) (length-same found)
 
   -- the lines of the offences and their number are those of the findings
-  pub list_lines : (found : List Offence) → offences_quoted orders quoted found ++ count_line (length found) ≡ offence_lines orders quoted (findings_of_offences orders found)
+  pub list_lines : (found : List ListedOffence) → offences_quoted orders quoted found ++ count_line (length found) ≡ offence_lines orders quoted (findings_of_offences orders found)
   list_lines found = λ i. quoted-same found i ++ count_line (length-same found i)
 
 -- about no orders a finding has no record that ended one
@@ -49,7 +49,7 @@ module _ (orders : List Order) (quoted : QuotedRecords) where
       ∙ ap (λ (t : List ℕ). old ++ (t ++ count_line 1)) (sym (append-nil (quoted_offence orders quoted f)))
 
   -- of the offences of a list
-  pub listed_lines : (found : List Offence) (old : List ℕ) → (old ++ offences_quoted orders quoted found) ++ count_line (length found) ≡ old ++ offence_lines orders quoted (findings_of_offences orders found)
+  pub listed_lines : (found : List ListedOffence) (old : List ℕ) → (old ++ offences_quoted orders quoted found) ++ count_line (length found) ≡ old ++ offence_lines orders quoted (findings_of_offences orders found)
   listed_lines found old = append_assoc old (offences_quoted orders quoted found) (count_line (length found)) ∙ ap (λ (t : List ℕ). old ++ t) (list_lines orders quoted found)
 
 -- of a finding before the rule

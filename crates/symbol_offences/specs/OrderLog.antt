@@ -2,7 +2,7 @@
 use Rattle.std.specs.Prelude.{◌≡◌, ℕ, Bool, List, length, if◌then◌else◌}
 use Rattle.audit_base.specs.declared.records.OrderRecord.{OrderRecord}
 use Rattle.instruction_history.specs.SymbolHistory.{IsSymbolHistory}
-use Rattle.kept_records.specs.KeptOrders.{KeptEntries, with_entry}
+use Rattle.day_records.specs.KeptOrders.{KeptEntries, with_entry}
 use Rattle.symbol_offences.specs.declared.order_log.OrdersOfSymbol.{OrdersOfSymbol}
 use Rattle.symbol_offences.specs.SymbolLogs.{kept_history}
 

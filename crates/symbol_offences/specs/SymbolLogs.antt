@@ -7,8 +7,8 @@ use Rattle.audit_base.specs.Histories.{history}
 use Rattle.audit_base.specs.Trades.{trades_of_symbol}
 use Rattle.audit_base.specs.Verdicts.{paired_trades}
 use Rattle.further_checks.specs.FurtherRules.{times_of_symbol}
-use Rattle.kept_records.specs.KeptOrders.{KeptEntries}
-use Rattle.kept_records.specs.KeptTrades.{KeptDeals}
+use Rattle.day_records.specs.KeptOrders.{KeptEntries}
+use Rattle.day_records.specs.KeptTrades.{KeptDeals}
 use Rattle.matching_core.specs.declared.deals_draft.ResolvedTrades.{ResolvedTrades}
 use Rattle.record_verdict.specs.declared.before_rule.BeforeRule.TheVariants as before_rule
 use Rattle.record_verdict.specs.declared.scopes.Scope.{Scope}

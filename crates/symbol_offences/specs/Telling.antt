@@ -20,7 +20,7 @@ use Rattle.command_run.specs.declared.answers.Answer.{Answer}
 use Rattle.command_run.specs.Deciding.{IsAnswerOfKind}
 use Rattle.command_run.specs.VerdictAnswers.{IsAnswerWith, IsVerdictAnswer}
 use Rattle.further_checks.specs.FurtherRules.{further_findings}
-use Rattle.offence_list.specs.declared.offences.Offence.{Offence}
+use Rattle.offence_list.specs.declared.offences.ListedOffence.{ListedOffence}
 use Rattle.offence_list.specs.ListedOffences.{finding_of_offence}
 use Rattle.offence_list.specs.Offences.{offences_of}
 use Rattle.record_verdict.specs.declared.before_rule.BeforeRule.TheVariants as before_rule
@@ -39,7 +39,7 @@ IsListingUnder the_rule orders deals first listing =
     findings_of_listing orders first listing ≡ offences_of the_rule orders deals first
 
 -- the lines of the offences of a list about these orders
-abbrev pub offences_quoted : List Order → QuotedRecords → List Offence → List ℕ
+abbrev pub offences_quoted : List Order → QuotedRecords → List ListedOffence → List ℕ
 offences_quoted orders quoted found =
     flat_map (λ o. quoted_offence orders quoted (finding_of_offence orders o)) found
 

@@ -4,12 +4,12 @@ use Rattle.audit_base.specs.Moments.{Moment}
 use Rattle.audit_base.specs.declared.findings.Finding.{Finding}
 use Rattle.audit_base.specs.declared.records.OrderRecord.{OrderRecord}
 use Rattle.audit_base.specs.declared.records.TradeRecord.{TradeRecord}
-use Rattle.day_trades.specs.declared.symbol_trades.SymbolTrades.{SymbolTrades}
-use Rattle.day_trades.specs.declared.symbol_trades.SymbolTrades.TheVariants as known
-use Rattle.day_trades.specs.SymbolTrades.{IsSymbolTrades}
+use Rattle.day_records.specs.declared.symbol_trades.SymbolTrades.{SymbolTrades}
+use Rattle.day_records.specs.declared.symbol_trades.SymbolTrades.TheVariants as known
+use Rattle.day_records.specs.SymbolTrades.{IsSymbolTrades}
 use Rattle.further_checks.specs.FurtherRules.{times_of_symbol}
-use Rattle.kept_records.specs.KeptOrders.{KeptEntries}
-use Rattle.kept_records.specs.KeptTrades.{KeptDeals, with_trade}
+use Rattle.day_records.specs.KeptOrders.{KeptEntries}
+use Rattle.day_records.specs.KeptTrades.{KeptDeals, with_trade}
 use Rattle.record_verdict.specs.declared.scopes.Scope.{Scope}
 use Rattle.symbol_offences.specs.declared.questions.Keeping.{Keeping}
 use Rattle.symbol_offences.specs.declared.symbol_logs.SymbolLogs.{SymbolLogs}

@@ -22,7 +22,7 @@ use crate::verdict_answers::{answer_before_rule, answer_by_verdict, rejecting};
 use audit_base::faults::NoMemory;
 use audit_base::names::Name;
 use audit_base::stamps::Stamp;
-use audit_report::line_parts::{Part, append_line};
+use audit_report::line_parts::{LinePart, append_line};
 use audit_report::verdicts::Verdict;
 use command_run::answers::{Answer, verdict_answer};
 use log_source::shelf::Shelf;
@@ -40,7 +40,12 @@ pub fn absent_answer(alloc: Global, symbol: &Name) -> Result<Answer, NoMemory>
         (IsAnswerOfKind (IsAnswerWith status.Rejected (absent_line symbol.now))) }
 {
     let mut text = Vec::new(alloc);
-    append_line(alloc, b"absent", &[Part::Word(symbol.bytes())], &mut text)?;
+    append_line(
+        alloc,
+        b"absent",
+        &[LinePart::Word(symbol.bytes())],
+        &mut text,
+    )?;
     Ok(rejecting(text))
 }
 

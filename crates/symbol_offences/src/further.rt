@@ -10,7 +10,7 @@ use crate::symbol_logs::QuotedRecords;
 use audit_base::faults::NoMemory;
 use further_checks::findings::FurtherFinding;
 use further_checks::texts::append_further_line;
-use offence_report::offence_lines::append_count_line;
+use offence_list::offence_lines::append_count_line;
 use std::alloc::Global;
 
 /// The line of a finding, and the records that it quotes.

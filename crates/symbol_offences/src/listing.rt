@@ -6,7 +6,7 @@ ghost use Rattle.call_offences.specs.Inside.{AreOffencesInside, IsListingInside,
 ghost use Rattle.call_offences.specs.Listings.{findings_of_listing};
 ghost use Rattle.offence_list.specs.ListedOffences.{finding_of_offence, findings_of_offences};
 ghost use Rattle.offence_list.specs.Offences.{continuous_offences_of, offence_kind};
-ghost use Rattle.offence_report.specs.OffenceTexts.{offence_line};
+ghost use Rattle.offence_list.specs.OffenceTexts.{offence_line};
 ghost use Rattle.symbol_offences.specs.OffenceLines.{offence_lines, quoted_offence};
 ghost use Rattle.symbol_offences.specs.Quotes.{quotes_with};
 ghost use Rattle.symbol_offences.specs.SymbolLogs.{AreInLogOrder};
@@ -21,8 +21,8 @@ use audit_base::terms::Rule;
 use call_offences::listing::{Listing, call_offences};
 use continuous_offences::listing::continuous_offences;
 use offence_list::kinds::OffenceKind;
-use offence_list::offences::Offence;
-use offence_report::offence_lines::{append_count_line, append_offence_line};
+use offence_list::offence_lines::{append_count_line, append_offence_line};
+use offence_list::offences::ListedOffence;
 use order_list::lists::OrderList;
 use std::alloc::Global;
 
@@ -105,7 +105,7 @@ fn append_offence(
     alloc: Global,
     orders: &OrderList<'_>,
     quoted: &QuotedRecords,
-    offence: &Offence,
+    offence: &ListedOffence,
     out: &mut Vec<u8>,
 ) -> Result<(), NoMemory>
     requires order_list { IsOrderList orders.now }
@@ -124,7 +124,7 @@ fn append_each(
     alloc: Global,
     orders: &OrderList<'_>,
     quoted: &QuotedRecords,
-    found: &[Offence],
+    found: &[ListedOffence],
     out: &mut Vec<u8>,
 ) -> Result<(), NoMemory>
     requires order_list { IsOrderList orders.now }
@@ -145,7 +145,7 @@ fn append_list(
     alloc: Global,
     orders: &OrderList<'_>,
     quoted: &QuotedRecords,
-    found: &[Offence],
+    found: &[ListedOffence],
     out: &mut Vec<u8>,
 ) -> Result<(), NoMemory>
     requires order_list { IsOrderList orders.now }

@@ -9,8 +9,8 @@ ghost use Rattle.symbol_offences.specs.OrderLog.{IsOrdersOfSymbol, with_entry_if
 use audit_base::faults::NoMemory;
 use audit_base::names::Name;
 use audit_base::records::{LogRecord, OrderRecord};
+use day_records::kept_orders::KeptOrders;
 use instruction_history::symbol_history::SymbolHistory;
-use kept_records::orders::KeptOrders;
 use log_source::collector::Collector;
 use seeded_hash::seed::HashSeed;
 use std::alloc::Global;

@@ -3,8 +3,8 @@ ghost use Rattle.std.specs.Prelude.{◌≡◌, ◌<◌, ℕ, List, length, slice
 ghost use Rattle.symbol_offences.specs.Quotes.{index_with_place};
 ghost use Rattle.symbol_offences.specs.SymbolLogs.{ArePlacesRising};
 
-use kept_records::orders::KeptOrders;
-use kept_records::trades::KeptTrades;
+use day_records::kept_orders::KeptOrders;
+use day_records::kept_trades::KeptTrades;
 use order_list::lists::OrderList;
 
 /// A list whose members have places.

@@ -13,7 +13,7 @@ use audit_base::records::{OrderRecord, TradeRecord};
 use audit_base::stamps::Stamp;
 use audit_base::terms::{Life, Side, Which};
 use audit_base::texts::write_stamp;
-use audit_report::line_parts::{Part, append, append_joined, append_rest};
+use audit_report::line_parts::{LinePart, append, append_joined, append_rest};
 use audit_report::words::log_word;
 use std::alloc::Global;
 
@@ -39,12 +39,12 @@ fn side_letter(side: Side) -> &'static [u8]
 }
 
 /// The price column, which a market order leaves empty.
-fn limit_part(life: Life, price: Price) -> Part<'static>
+fn limit_part(life: Life, price: Price) -> LinePart<'static>
     ensures { part_text result ≡ csv.limit_text life price }
 {
     match life {
-        Life::Rests | Life::Immediate => Part::Price(price),
-        Life::Market => Part::Word(b""),
+        Life::Rests | Life::Immediate => LinePart::Price(price),
+        Life::Market => LinePart::Word(b""),
     }
 }
 
@@ -54,16 +54,19 @@ fn append_record(
     alloc: Global,
     log: Which,
     place: u32,
-    front: &[Part<'_>],
+    front: &[LinePart<'_>],
     time: Stamp,
-    back: &[Part<'_>],
+    back: &[LinePart<'_>],
     out: &mut Vec<u8>,
 ) -> Result<(), NoMemory>
     ensures { let behind = stamp_text time ∷ map part_text back.now in
         let line = record_line log place (map part_text front.now ++ behind) in
         OnOk result (out.new.items ≡ out.old.items ++ line) }
 {
-    let head = [Part::Word(log_word(log)), Part::Number(u128::from(place))];
+    let head = [
+        LinePart::Word(log_word(log)),
+        LinePart::Number(u128::from(place)),
+    ];
     append_joined(alloc, b"record", &head, out)?;
     append_rest(alloc, front, out)?;
     append(b",", out)?;
@@ -93,16 +96,16 @@ pub(crate) fn append_order_record(
             life,
         } => {
             let front = [
-                Part::Word(kind_word(*life)),
-                Part::Word(key.firm.bytes()),
-                Part::Word(key.id.bytes()),
+                LinePart::Word(kind_word(*life)),
+                LinePart::Word(key.firm.bytes()),
+                LinePart::Word(key.id.bytes()),
             ];
             let back = [
-                Part::Word(symbol.bytes()),
-                Part::Word(side_letter(*side)),
-                Part::Number(u128::from(quantity.value())),
+                LinePart::Word(symbol.bytes()),
+                LinePart::Word(side_letter(*side)),
+                LinePart::Number(u128::from(quantity.value())),
                 limit_part(*life, *price),
-                Part::Word(b""),
+                LinePart::Word(b""),
             ];
             append_record(alloc, Which::Orders, place, &front, *time, &back, out)
         }
@@ -113,16 +116,16 @@ pub(crate) fn append_order_record(
             target,
         } => {
             let front = [
-                Part::Word(b"X"),
-                Part::Word(key.firm.bytes()),
-                Part::Word(key.id.bytes()),
+                LinePart::Word(b"X"),
+                LinePart::Word(key.firm.bytes()),
+                LinePart::Word(key.id.bytes()),
             ];
             let back = [
-                Part::Word(symbol.bytes()),
-                Part::Word(b""),
-                Part::Word(b""),
-                Part::Word(b""),
-                Part::Word(target.bytes()),
+                LinePart::Word(symbol.bytes()),
+                LinePart::Word(b""),
+                LinePart::Word(b""),
+                LinePart::Word(b""),
+                LinePart::Word(target.bytes()),
             ];
             append_record(alloc, Which::Orders, place, &front, *time, &back, out)
         }
@@ -136,16 +139,16 @@ pub(crate) fn append_order_record(
             price,
         } => {
             let front = [
-                Part::Word(b"R"),
-                Part::Word(key.firm.bytes()),
-                Part::Word(key.id.bytes()),
+                LinePart::Word(b"R"),
+                LinePart::Word(key.firm.bytes()),
+                LinePart::Word(key.id.bytes()),
             ];
             let back = [
-                Part::Word(symbol.bytes()),
-                Part::Word(side_letter(*side)),
-                Part::Number(u128::from(quantity.value())),
-                Part::Price(*price),
-                Part::Word(target.bytes()),
+                LinePart::Word(symbol.bytes()),
+                LinePart::Word(side_letter(*side)),
+                LinePart::Number(u128::from(quantity.value())),
+                LinePart::Price(*price),
+                LinePart::Word(target.bytes()),
             ];
             append_record(alloc, Which::Orders, place, &front, *time, &back, out)
         }
@@ -162,15 +165,15 @@ pub(crate) fn append_trade_record(
     ensures { let line = record_line Trades place (csv.trade_row trade.now) in
         OnOk result (out.new.items ≡ out.old.items ++ line) }
 {
-    let front = [Part::Word(trade.trade.bytes())];
+    let front = [LinePart::Word(trade.trade.bytes())];
     let back = [
-        Part::Word(trade.symbol.bytes()),
-        Part::Word(trade.buy.firm.bytes()),
-        Part::Word(trade.buy.id.bytes()),
-        Part::Word(trade.sell.firm.bytes()),
-        Part::Word(trade.sell.id.bytes()),
-        Part::Number(u128::from(trade.quantity.value())),
-        Part::Price(trade.price),
+        LinePart::Word(trade.symbol.bytes()),
+        LinePart::Word(trade.buy.firm.bytes()),
+        LinePart::Word(trade.buy.id.bytes()),
+        LinePart::Word(trade.sell.firm.bytes()),
+        LinePart::Word(trade.sell.id.bytes()),
+        LinePart::Number(u128::from(trade.quantity.value())),
+        LinePart::Price(trade.price),
     ];
     append_record(alloc, Which::Trades, place, &front, trade.time, &back, out)
 }

@@ -1,7 +1,7 @@
 //! What two logs give of one symbol.
 use audit_base::stamps::Stamp;
-use kept_records::orders::KeptOrders;
-use kept_records::trades::KeptTrades;
+use day_records::kept_orders::KeptOrders;
+use day_records::kept_trades::KeptTrades;
 use record_verdict::before_rule::BeforeRule;
 
 /// The records of a symbol that a letter may quote; none where none are to be quoted.

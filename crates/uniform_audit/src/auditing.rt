@@ -3,12 +3,12 @@ ghost use Rattle.std.specs.Prelude.{◌<◌, ◌-◌, ◌^◌, IfOk};
 ghost use Rattle.audit_base.specs.declared.terms.VolumeRule.TheVariants.{Uniform};
 ghost use Rattle.audit_base.specs.Orders.{IsOrderList};
 ghost use Rattle.audit_base.specs.Deals.{IsDealList};
-ghost use Rattle.call_auction.specs.Audits.{IsGreatestOf, IsCallOutcome};
+ghost use Rattle.call_audit.specs.Audits.{IsGreatestOf, IsCallOutcome};
 
 use audit_base::faults::NoMemory;
 use audit_base::orders::{Cut, Deal};
 use audit_base::terms::VolumeRule;
-use call_auction::auditing::audit_call;
+use call_audit::auditing::audit_against_greatest;
 use call_laws::optimum::uniform_optimum;
 use matching_core::outcomes::Outcome;
 use order_list::lists::OrderList;
@@ -43,5 +43,5 @@ pub fn audit_uniform(
     ensures { IfOk result (IsCallOutcome Uniform orders.now deals.now count) }
 {
     let most = greatest_of(alloc, orders)?;
-    audit_call(alloc, VolumeRule::Uniform, orders, deals, count, most)
+    audit_against_greatest(alloc, VolumeRule::Uniform, orders, deals, count, most)
 }

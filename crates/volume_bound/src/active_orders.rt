@@ -27,7 +27,7 @@ fn add(limits: &mut Vec<LimitQuantity>, order: &ListedOrder<'_>, side: Side) -> 
         limit: order.limit(),
         quantity: order.quantity(),
     };
-    if order.stands_on(side) {
+    if order.is_uncancelled_on(side) {
         limits.push(limit_quantity)?;
     }
     Ok(())
@@ -42,7 +42,7 @@ impl ActiveOrders {
             IfOk result (λ active. active.asks.items ≡ asks) }
         ensures numbers { OnOk result (OrdersInRange orders.now) }
     {
-        orders.in_range();
+        orders.numbers_are_in_range();
         let mut bids = Vec::with_capacity(alloc, orders.len())?;
         let mut asks = Vec::with_capacity(alloc, orders.len())?;
         for index in 0..orders.len() {

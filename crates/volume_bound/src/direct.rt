@@ -10,7 +10,7 @@ use order_list::lists::OrderList;
 fn wanted(order: &ListedOrder<'_>, price: u64) -> u64
     ensures { result ≡ demand_of_order price order.now }
 {
-    if order.stands_on(Side::Buy) && price <= order.limit().units() {
+    if order.is_uncancelled_on(Side::Buy) && price <= order.limit().units() {
         order.quantity().value()
     } else {
         0
@@ -21,7 +21,7 @@ fn wanted(order: &ListedOrder<'_>, price: u64) -> u64
 fn offered(order: &ListedOrder<'_>, price: u64) -> u64
     ensures { result ≡ supply_of_order price order.now }
 {
-    if order.stands_on(Side::Sell) && order.limit().units() <= price {
+    if order.is_uncancelled_on(Side::Sell) && order.limit().units() <= price {
         order.quantity().value()
     } else {
         0
@@ -32,7 +32,7 @@ fn offered(order: &ListedOrder<'_>, price: u64) -> u64
 fn offered_below(order: &ListedOrder<'_>, price: u64) -> u64
     ensures { result ≡ supply_below_of_order price order.now }
 {
-    if order.stands_on(Side::Sell) && order.limit().units() < price {
+    if order.is_uncancelled_on(Side::Sell) && order.limit().units() < price {
         order.quantity().value()
     } else {
         0

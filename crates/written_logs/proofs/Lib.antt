@@ -1,3 +1,6 @@
 mod ConvertLemmas
 mod LawLemmas
 mod RowLemmas
+mod FormLemmas
+mod TextLemmas
+mod WriteLemmas

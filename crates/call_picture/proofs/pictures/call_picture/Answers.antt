@@ -29,7 +29,7 @@ returns-clause-in_range c =
     let deals = c.args.deals.now in
     let traded = c.in_ok-traded.traded.items in
     let ranks = c.in_ok-ranks.ranks in
-    picture-in-range orders deals _ c.requires.order_list c.in_range.ensures c.requires.deal_list c.deals_in_range.ensures (record {
+    picture-in-range orders deals _ c.requires.order_list c.numbers_are_in_range.ensures c.requires.deal_list c.deals_in_range.ensures (record {
       bids = subst (λ (v : ℕ). IsSidePicture orders deals Buy v c.in_ok-side_picture.field-0) c.volume_of-volume.ensures (c.in_ok-side_picture.ensures deals Buy (subst (AreTotals orders deals) (sym c.deref.ensures.value) c.in_ok-traded.ensures) (subst (IsRanked orders Buy) (sym c.deref-2.ensures.value) c.in_ok-ranks.ensures.bids));
       asks = subst (λ (v : ℕ). IsSidePicture orders deals Sell v c.in_ok-side_picture-2.field-0) c.volume_of-volume.ensures (c.in_ok-side_picture-2.ensures deals Sell (subst (AreTotals orders deals) (sym c.deref-3.ensures.value) c.in_ok-traded.ensures) (subst (IsRanked orders Sell) (sym c.deref-4.ensures.value) c.in_ok-ranks.ensures.asks));
       volume_is = c.volume_of-volume.ensures;

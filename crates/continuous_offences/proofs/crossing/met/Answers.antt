@@ -3,7 +3,7 @@ use Rattle.std.proofs.lemmas.Bool.{cond-false, cond-true}
 use Rattle.audit_base.specs.declared.orders.Order.{Order}
 use Rattle.audit_base.specs.Expected.{limits_meet}
 use Rattle.audit_base.specs.Orders.{limit_at, order_at}
-use Rattle.offence_list.specs.declared.offences.Offence.{Offence}
+use Rattle.offence_list.specs.declared.offences.ListedOffence.{ListedOffence}
 use Rattle.continuous_offences.specs.Crossing.{best_of_side, spread_of}
 use Rattle.continuous_offences.specs.Dealt.{orders_of, place_of, shown_after}
 use Rattle.continuous_offences.specs.Passing.{own_side}
@@ -22,7 +22,7 @@ returns-then-limits_meet c =
     let on : meet ≡ true = sym (λ i. limits_meet (side i) (limit i) (against i)) ∙ sym c.limits_meet.ensures ∙ c.if-limits_meet.true in
     let best : c.shown-best_shown.result ≡ shown_after d (best_of_side orders d.order c.args.same) = c.shown-best_shown.ensures ∙ ap (shown_after d) c.best_of_side-best.ensures.same in
     let spread = spread_of (own_side d) (place_of d) (shown_after d (best_of_side orders d.order c.args.same)) (shown_after d c.args.other) in
-    ap (λ (o : Offence). Some o) (c.spread_of.ensures ∙ (λ i. spread_of (side i) (place i) (best i) (c.shown-other_shown.ensures i))) ∙ sym (cond-true meet (Some spread) None on)
+    ap (λ (o : ListedOffence). Some o) (c.spread_of.ensures ∙ (λ i. spread_of (side i) (place i) (best i) (c.shown-other_shown.ensures i))) ∙ sym (cond-true meet (Some spread) None on)
 
 pub returns-else-limits_meet : goal.returns-else-limits_meet
 returns-else-limits_meet c =

@@ -2,7 +2,7 @@ use Rattle.std.proofs.Common.{◌≡◌, ◌+◌, ◌∙◌, ℕ, suc, sym, ap, 
 use Rattle.std.specs.Prelude.{replicate}
 use Rattle.std.proofs.lemmas.Bool.{cases_eq, leb-false, leb-true}
 use Rattle.audit_base.specs.Orders.{place_at}
-use Rattle.order_arrivals.specs.Markets.{HaveTraded}
+use Rattle.order_arrivals.specs.DealtOrders.{HaveTraded}
 use Rattle.order_arrivals.proofs.ArrivalLemmas.{traded-first}
 use Rattle.continuous_picture.proofs.BookAtLemmas.{before-known, coming-from}
 use Rattle.continuous_picture.proofs.books_at.totals_before.Goals as goal

@@ -1,6 +1,6 @@
 use Rattle.std.proofs.Common.{◌<◌, ℕ}
 use Rattle.audit_base.specs.Orders.{place_at}
-use Rattle.order_arrivals.specs.Markets.{HaveTraded}
+use Rattle.order_arrivals.specs.DealtOrders.{HaveTraded}
 use Rattle.continuous_picture.proofs.books_at.totals_before.Given as goal
 
 abbrev pub invariant-loop-order : goal.invariant-loop-order

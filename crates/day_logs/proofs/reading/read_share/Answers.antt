@@ -1,5 +1,5 @@
 use Rattle.std.proofs.Common.{◌≡◌, sym, subst}
-use Rattle.day_orders.specs.DayOrders.{HasOrders}
+use Rattle.day_records.specs.DayOrders.{HasOrders}
 use Rattle.day_symbols.specs.Shares.{DayShare}
 use Rattle.log_verdict.specs.Steps.{reading_by}
 use Rattle.day_logs.specs.declared.before_rule.DayBeforeRule.TheVariants as before_rule

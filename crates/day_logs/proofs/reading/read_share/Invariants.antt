@@ -1,4 +1,4 @@
-use Rattle.day_orders.specs.DayOrders.{HasOrders}
+use Rattle.day_records.specs.DayOrders.{HasOrders}
 use Rattle.day_logs.proofs.reading.read_share.Given as goal
 
 -- it is read after whatever order records these are of

@@ -1,4 +1,4 @@
-use Rattle.day_trades.specs.DayTrades.{IsDayTrades}
+use Rattle.day_records.specs.DayTrades.{IsDayTrades}
 use Rattle.log_verdict.specs.Steps.{reading_by}
 use Rattle.day_logs.proofs.TradeLogLemmas.{day-ended, day-unpaired, trades-unread}
 use Rattle.day_logs.proofs.reading.read_trades.Goals as goal

@@ -3,7 +3,7 @@ use Rattle.std.specs.Prelude.{option_map, slice_get}
 use Rattle.std.proofs.lemmas.List.{append_assoc}
 use Rattle.std.proofs.lemmas.Option.{slice_get_within}
 use Rattle.day_symbols.specs.Shares.{symbols_in}
-use Rattle.day_trades.specs.declared.symbol_records.SymbolRecords.{SymbolRecords}
+use Rattle.day_records.specs.declared.symbol_records.SymbolRecords.{SymbolRecords}
 use Rattle.day_verdicts.proofs.VerdictSteps.{next-at}
 use Rattle.day_sessions.proofs.SessionSteps.{next-few-records, next-timed, room-for-session, sessions-all, sessions-next}
 use Rattle.day_sessions.proofs.judged_sessions.judge_sessions.Goals as goal

@@ -3,7 +3,7 @@ use Rattle.std.specs.Prelude.{option_map, slice_get}
 use Rattle.std.proofs.lemmas.List.{append_assoc}
 use Rattle.std.proofs.lemmas.Option.{slice_get_within}
 use Rattle.day_symbols.specs.Shares.{symbols_in}
-use Rattle.day_trades.specs.declared.symbol_records.SymbolRecords.{SymbolRecords}
+use Rattle.day_records.specs.declared.symbol_records.SymbolRecords.{SymbolRecords}
 use Rattle.day_verdicts.proofs.VerdictSteps.{judged-all, judged-next, next-at, next-few-records, next-timed, room-for}
 use Rattle.day_verdicts.proofs.day_verdicts.judge_day.Goals as goal
 

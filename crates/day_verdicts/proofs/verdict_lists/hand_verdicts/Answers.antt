@@ -1,7 +1,7 @@
 use Rattle.std.proofs.Common.{◌≡◌, ◌++◌, ◌∷◌, List, Some, length, sym, ap, ◌∙◌, arith}
 use Rattle.std.specs.Prelude.{option_map, slice_get}
 use Rattle.day_symbols.specs.Shares.{symbols_in}
-use Rattle.day_trades.specs.declared.symbol_records.SymbolRecords.{SymbolRecords}
+use Rattle.day_records.specs.declared.symbol_records.SymbolRecords.{SymbolRecords}
 use Rattle.day_verdicts.proofs.ListSteps.{taken-all, taken-on}
 use Rattle.day_verdicts.proofs.VerdictSteps.{next-at, next-few, next-few-records}
 use Rattle.day_verdicts.proofs.verdict_lists.hand_verdicts.Goals as goal

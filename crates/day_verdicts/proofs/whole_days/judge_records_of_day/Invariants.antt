@@ -1,4 +1,4 @@
-use Rattle.day_orders.specs.DayOrders.{HasOrders}
+use Rattle.day_records.specs.DayOrders.{HasOrders}
 use Rattle.day_verdicts.proofs.whole_days.judge_records_of_day.Given as goal
 
 -- the day is the share that is asked for

@@ -1,7 +1,7 @@
 use Rattle.std.proofs.Common.{◌≡◌, ◌+◌, ◌++◌, ◌∷◌, [], List, take, sym, ap, subst, ◌∙◌}
 use Rattle.std.proofs.lemmas.List.{take_more}
 use Rattle.audit_base.specs.declared.records.OrderRecord.{OrderRecord}
-use Rattle.day_orders.specs.DayOrders.{IsDayOrders}
+use Rattle.day_records.specs.DayOrders.{IsDayOrders}
 use Rattle.day_verdicts.proofs.whole_days.orders_handed.Goals as goal
 
 pub loop-entry-preserved : goal.loop-entry-preserved

@@ -1,5 +1,5 @@
 use Rattle.std.proofs.Common.{take}
-use Rattle.day_orders.specs.DayOrders.{IsDayOrders}
+use Rattle.day_records.specs.DayOrders.{IsDayOrders}
 use Rattle.day_verdicts.proofs.whole_days.orders_handed.Given as goal
 
 -- the day has been handed the records so far

@@ -1,7 +1,7 @@
 use Rattle.std.proofs.Common.{◌≡◌, ◌+◌, ◌++◌, ◌∷◌, [], List, take, sym, ap, subst, ◌∙◌}
 use Rattle.std.proofs.lemmas.List.{take_more}
 use Rattle.audit_base.specs.declared.records.TradeRecord.{TradeRecord}
-use Rattle.day_trades.specs.DayTrades.{IsDayTrades}
+use Rattle.day_records.specs.DayTrades.{IsDayTrades}
 use Rattle.day_verdicts.proofs.whole_days.trades_handed.Goals as goal
 
 pub loop-trade-preserved : goal.loop-trade-preserved

@@ -1,5 +1,5 @@
 use Rattle.std.proofs.Common.{take}
-use Rattle.day_trades.specs.DayTrades.{IsDayTrades}
+use Rattle.day_records.specs.DayTrades.{IsDayTrades}
 use Rattle.day_verdicts.proofs.whole_days.trades_handed.Given as goal
 
 -- the day has been handed the trades so far

@@ -1,4 +1,4 @@
-use Rattle.day_contents.specs.Items.{trade_log_items}
+use Rattle.log_contents.specs.DayItems.{trade_log_items}
 use Rattle.desk_run.specs.Contents.{IsAnswerAfterOrders}
 use Rattle.desk_run.proofs.ContentsLemmas.{unread_decides, unread_within}
 use Rattle.log_verdict.specs.Steps.{reading_by}

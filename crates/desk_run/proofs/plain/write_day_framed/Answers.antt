@@ -1,4 +1,4 @@
-use Rattle.dressed_logs.specs.Framed.{IsFramedReading}
+use Rattle.fix_days.specs.Framed.{IsFramedReading}
 use Rattle.desk_run.proofs.PlainLemmas.{takes-later, writes-day, writes-within}
 use Rattle.desk_run.proofs.plain.write_day_framed.Goals as goal
 

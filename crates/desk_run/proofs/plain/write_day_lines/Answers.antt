@@ -1,4 +1,4 @@
-use Rattle.dressed_logs.specs.Lines.{IsLineReading}
+use Rattle.fix_days.specs.Lines.{IsLineReading}
 use Rattle.desk_run.proofs.PlainLemmas.{takes-later, writes-day, writes-within}
 use Rattle.desk_run.proofs.plain.write_day_lines.Goals as goal
 

@@ -1,5 +1,5 @@
 use Rattle.std.proofs.Common.{refl, sym, ◌∙◌, subst, arith, ℕ, suc}
-use Rattle.order_arrivals.specs.Markets.{HaveTraded}
+use Rattle.order_arrivals.specs.DealtOrders.{HaveTraded}
 use Rattle.continuous_picture.proofs.WalkLemmas.{next-at, walk-passed, walk-taken}
 use Rattle.continuous_picture.proofs.walks.Walk.take.Goals as goal
 

@@ -10,7 +10,7 @@ use Rattle.instruction_history.proofs.symbol_history.SymbolHistory.end.Goals as 
 
 pub of-requires : goal.of-requires
 of-requires c =
-    history-is c.requires.symbol c.requires.entries c.args.self.so_far c.requires.fits_indices (so_far-known _ _ (flaw_finding c.args.self.flaw) (ap flaw_finding c.in-None.is) c.requires.is.known) (subst (λ (orders : List Order). OrdersInRange orders) c.list.ensures.same c.in_range.ensures)
+    history-is c.requires.symbol c.requires.entries c.args.self.so_far c.requires.fits_indices (so_far-known _ _ (flaw_finding c.args.self.flaw) (ap flaw_finding c.in-None.is) c.requires.is.known) (subst (λ (orders : List Order). OrdersInRange orders) c.list.ensures.same c.numbers_are_in_range.ensures)
 
 pub returns-in-None-clause-market : goal.returns-in-None-clause-market
 returns-in-None-clause-market c = λ symbol entries has priced.

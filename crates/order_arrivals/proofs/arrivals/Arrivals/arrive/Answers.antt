@@ -3,7 +3,7 @@ use Rattle.audit_base.specs.declared.orders.Order.{Order}
 use Rattle.audit_base.specs.Continuous.{chain_traded_quantity, has_entered}
 use Rattle.audit_base.specs.Orders.{order_at, place_at}
 use Rattle.audit_base.proofs.ContinuousLemmas.{target-below}
-use Rattle.chain_sums.specs.Sums.{amount_total}
+use Rattle.order_arrivals.specs.Sums.{amount_total}
 use Rattle.continuous_audit.proofs.KeptLemmas.{before-walked}
 use Rattle.continuous_audit.proofs.NumberLemmas.{traded-then}
 use Rattle.order_arrivals.specs.declared.arrivals.Arrivals.{Arrivals}

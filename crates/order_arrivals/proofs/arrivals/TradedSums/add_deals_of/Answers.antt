@@ -1,6 +1,6 @@
 use Rattle.std.proofs.Common.{inl, inr, ◌∙◌, ap, arith, subst, sym}
 use Rattle.std.proofs.lemmas.Bool.{cases_eq}
-use Rattle.chain_sums.specs.Families.{AreFamilies}
+use Rattle.order_arrivals.specs.Families.{AreFamilies}
 use Rattle.continuous_audit.specs.Scans.{incoming_order_at}
 use Rattle.continuous_audit.proofs.ScanLemmas.{running-read}
 use Rattle.order_arrivals.proofs.ArrivalLemmas.{added-both, named-read}

@@ -1,7 +1,7 @@
 use Rattle.std.proofs.Common.{◌≡◌, ◌≤◌, ◌<◌, ◌-◌, ◌*◌, ◌^◌, ℕ, length}
 use Rattle.continuous_audit.specs.Scans.{AreRunningTotals, incoming_order_at}
-use Rattle.chain_sums.specs.Families.{AreFamilies}
-use Rattle.chain_sums.specs.Sums.{amount_total}
+use Rattle.order_arrivals.specs.Families.{AreFamilies}
+use Rattle.order_arrivals.specs.Sums.{amount_total}
 use Rattle.order_arrivals.proofs.arrivals.TradedSums.add_deals_of.Given as goal
 
 abbrev pub invariant-loop-self : goal.invariant-loop-self

@@ -1,5 +1,5 @@
 -- what the feed has handed on before is skipped
-use Rattle.dressed_logs.specs.Fronts.{line_count}
+use Rattle.fix_days.specs.Fronts.{line_count}
 use Rattle.plain_logs.proofs.feeds.LineFeedPlainLinesBrandDayFeed.feed.Given as goal
 
 abbrev pub ghosts-feed_lines : goal.ghosts-feed_lines

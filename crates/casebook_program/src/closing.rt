@@ -1,0 +1,47 @@
+//! The run of the commands, and the close of the database after it.
+//!
+//! The database's log is removed while the files are still locked, and only under the name that was
+//! opened. A close that fails removes nothing.
+ghost use Rattle.std.specs.Prelude.{map};
+ghost use Rattle.std.specs.String.{string_bytes};
+ghost use Rattle.casebook_program.specs.ClosedRuns.{RunsThenCloses};
+
+use case_run::books::{Ended, run_book_seeded};
+use case_run::opener::Opener;
+use case_run::statuses::CaseStatus;
+use log_source::shelf::Shelf;
+use log_source::sink::Sink;
+use seeded_hash::seed::HashSeed;
+use std::alloc::Global;
+
+/// An opener that closes what it has opened, once nothing more is asked of it.
+///
+/// What handles a keeper by this knows nothing of what it is made of. A function that has a
+/// database by its own type is proved by way of all that the database is made of, which takes
+/// half a minute or more.
+pub trait Closing: Opener {
+    /// Closes the keeper that was opened last. What it has kept stays kept, also where the
+    /// close fails.
+    fn close(&self, keeper: Self::Book);
+}
+
+/// Runs the commands over the casebook that the first word names, as `run_book_seeded` does,
+/// and closes it. The answer is that of the commands.
+pub fn run_and_close<F: Shelf, K: Sink, O: Closing>(
+    alloc: Global,
+    seed: HashSeed,
+    words: &[String],
+    shelf: &mut F,
+    out: &mut K,
+    opener: &mut O,
+) -> CaseStatus
+    ensures { RunsThenCloses F.Shelf shelf.old shelf.new
+        (O.state opener.old) (O.state opener.new) (map string_bytes words.now)
+        (K.state out.old) (K.state out.new) result }
+{
+    let Ended { status, book } = run_book_seeded(alloc, seed, words, shelf, out, opener);
+    if let Some(book) = book {
+        opener.close(book.into_keeper());
+    }
+    status
+}

@@ -1,3 +1,0 @@
-mod FamilyLemmas
-mod PrefixLemmas
-mod SumLemmas

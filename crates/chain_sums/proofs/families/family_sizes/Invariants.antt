@@ -1,8 +1,0 @@
-use Rattle.chain_sums.specs.Families.{AreFamilySizesFrom}
-use Rattle.chain_sums.proofs.families.family_sizes.Given as goal
-
-abbrev pub invariant-loop-order : goal.invariant-loop-order
-invariant-loop-order l = AreFamilySizesFrom l.orders l.order l.sizes.items
-
-abbrev pub decreases-loop-order : goal.decreases-loop-order
-decreases-loop-order l = l.order

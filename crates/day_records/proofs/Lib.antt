@@ -1,0 +1,9 @@
+pub mod SymbolTradesLemmas
+pub mod ReplayLemmas
+pub mod DayTradesLemmas
+pub mod DayOrderLemmas
+-- Lemmas about what is kept.
+pub mod NameRowLemmas
+pub mod KeptLemmas
+pub mod TradeLemmas
+pub mod NumberedLemmas

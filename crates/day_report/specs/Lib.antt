@@ -1,2 +1,0 @@
--- What a reader must believe: how the text of a day is made of counts and reports.
-pub mod DayTexts

@@ -1,3 +1,0 @@
-pub mod SymbolTradesLemmas
-pub mod ReplayLemmas
-pub mod DayTradesLemmas

@@ -1,0 +1,169 @@
+-- What a day of two logs that were read comes to.
+use Rattle.std.proofs.Common.{◌≡◌, ◌∙◌, sym, ap, ap₂, subst, refl, ◌⊎◌, ⊎_elim, ℕ, Bool, true, List, Option, Some, Result, Ok, Err}
+use Rattle.std.specs.Prelude.{option_map, IsOkAnd}
+use Rattle.std.proofs.lemmas.Option.{same_Some}
+use Rattle.audit_base.specs.declared.faults.BadPlace.{BadPlace}
+use Rattle.audit_base.specs.declared.findings.Finding.{Finding}
+use Rattle.audit_base.specs.declared.records.OrderRecord.{OrderRecord}
+use Rattle.audit_base.specs.declared.records.TradeRecord.{TradeRecord}
+use Rattle.audit_base.specs.declared.terms.Rule.{Rule}
+use Rattle.audit_base.specs.declared.terms.Which.{Which}
+use Rattle.audit_base.specs.declared.terms.Which.TheVariants.{Orders, Trades}
+use Rattle.audit_report.specs.declared.verdicts.Verdict.TheVariants as verdict
+use Rattle.case_run.specs.declared.statuses.CaseStatus.TheVariants as status
+use Rattle.day_logs.specs.DayBeforeRule.{IsDayBeforeRule, ReadsDayUpToRule}
+use Rattle.day_logs.specs.declared.before_rule.DayBeforeRule.{DayBeforeRule}
+use Rattle.day_logs.specs.declared.before_rule.DayBeforeRule.TheVariants as before_rule
+use Rattle.day_symbols.specs.Shares.{whole_day}
+use Rattle.day_records.specs.DayTrades.{HasTradesOf}
+use Rattle.day_records.specs.declared.day_trades.EndedTrades.{EndedTrades}
+use Rattle.desk_words.specs.declared.requests.DayLogs.{DayLogs}
+use Rattle.digest_keeper.specs.declared.digested.CaseDigests.{CaseDigests}
+use Rattle.digest_keeper.specs.declared.digested.KeptCase.{KeptCase}
+use Rattle.desk_filing.specs.Causes.{ReadsLogsFor}
+use Rattle.desk_filing.specs.Days.{JudgesDay, JudgesGiven, TellsUnpaired}
+use Rattle.desk_filing.specs.Judging.{TellsBadPlace}
+use Rattle.desk_filing.specs.Steps.{NamesLogs, ReadsJudged, ReadsBadPlace, ReadsRecords, ReadsRefusal}
+use Rattle.desk_filing.specs.Turns.{FilesDayOrNone, FilingTurn, IsFilingTurn, IsTurnOfRecords, cases_of_day, day_turn, filed_turn, symbols_of_whole_day, unfiled_turn}
+use Rattle.desk_filing.specs.declared.answers.FilingAnswer.{FilingAnswer}
+use Rattle.desk_filing.specs.declared.answers.Judged.{Judged}
+use Rattle.desk_filing.specs.declared.answers.Judged.TheVariants as judged
+use Rattle.desk_filing.specs.declared.requests.FilingCommand.{FilingCommand}
+use Rattle.desk_filing.specs.declared.requests.FilingCommand.TheVariants as command
+use Rattle.desk_filing.specs.declared.requests.FilingRequest.{FilingRequest}
+use Rattle.desk_filing.proofs.LogLemmas.{reads_either, turn_of_records}
+use Rattle.desk_filing.proofs.JudgeLemmas.{refuses}
+use Rattle.log_digests.specs.Digests.{digest_of}
+use Rattle.log_digests.specs.DigestShelves.{IsDigestAtEnd}
+use Rattle.log_verdict.specs.Steps.{Reading}
+use Rattle.log_verdict.specs.declared.sources.Source.{Source}
+use Rattle.record_verdict.specs.Scopes.{admission_of}
+
+-- The digests are those that the shelf took of both logs.
+pub record TakesDigests (r : Reading) (logs : DayLogs) (digests : CaseDigests) : Type 0 where
+  pub of_orders : IsDigestAtEnd r.tells (r.log_of Orders logs.orders) (r.after Orders) digests.orders
+  pub of_trades : IsDigestAtEnd r.tells (r.log_of Trades logs.trades) (r.after Trades) digests.trades
+
+-- they were taken after the reading, of a shelf that tells as before and has the same logs
+pub takes_digests : (r : Reading) (logs : DayLogs) (digests : CaseDigests) (told : Bool) (log_of : Which → List ℕ → Option (List ℕ)) → told ≡ r.tells → ((w : Which) (n : List ℕ) → log_of w n ≡ r.log_of w n)
+    → IsDigestAtEnd told (log_of Orders logs.orders) (r.after Orders) digests.orders → IsDigestAtEnd told (log_of Trades logs.trades) (r.after Trades) digests.trades → TakesDigests r logs digests
+takes_digests r logs digests told log_of is_told same first second = record {
+  of_orders = λ tells started at_end. ap (option_map digest_of) (sym (same Orders logs.orders)) ∙ first (is_told ∙ tells) started at_end;
+  of_trades = λ tells started at_end. ap (option_map digest_of) (sym (same Trades logs.trades)) ∙ second (is_told ∙ tells) started at_end;
+}
+
+one_digest : (log : Option (List ℕ)) (bytes digest : List ℕ) → log ≡ Some bytes → option_map digest_of log ≡ Some digest → digest ≡ digest_of bytes
+one_digest log bytes digest is has = sym (same_Some (digest_of bytes) digest (sym (ap (option_map digest_of) is) ∙ has))
+
+refused_not_done : status.Refused ≡ status.Done → ⊥
+refused_not_done e = cc
+
+no_place : (ended : EndedTrades) (log : Which) (bad : BadPlace) → before_rule.Read ended ≡ before_rule.Malformed log bad → ⊥
+no_place ended log bad e = cc
+
+not_unpaired : (finding : Finding) (log : Which) (bad : BadPlace) → before_rule.Unpaired finding ≡ before_rule.Malformed log bad → ⊥
+not_unpaired finding log bad e = cc
+
+same_place : (log log' : Which) (bad bad' : BadPlace) → before_rule.Malformed log bad ≡ before_rule.Malformed log' bad' → verdict.Malformed log bad ≡ verdict.Malformed log' bad'
+same_place log log' bad bad' e = cc
+
+module _ (r : Reading) (request : FilingRequest) (orders trades : Source) (names : NamesLogs request.logs orders trades) (the_rule : Rule) (asked : request.command ≡ command.FileAll the_rule) where
+  abbrev On : DayBeforeRule → List OrderRecord → Result (List TradeRecord) Finding → Type 0
+  On given entries paired = IsDayBeforeRule whole_day (admission_of the_rule) entries paired given
+
+  abbrev Bad : DayBeforeRule → Which → BadPlace → Type 0
+  Bad given log bad = given ≡ before_rule.Malformed log bad
+
+  either : (given : DayBeforeRule) → ReadsDayUpToRule r whole_day (admission_of the_rule) orders trades given → ReadsRecords r request.logs (On given) ⊎ ReadsBadPlace r request.logs (Bad given)
+  either given reads = reads_either r request.logs orders trades names (On given) (Bad given) reads
+
+  -- what the command leaves of records that are paired so
+  turns : (given : DayBeforeRule) (reads : ReadsRecords r request.logs (On given)) → r.tells ≡ true → (kept : List KeptCase) (turn : FilingTurn) (paired : Result (List TradeRecord) Finding) → reads.paired ≡ paired
+      → FilesDayOrNone (record { orders = digest_of reads.orders; trades = digest_of reads.trades }) kept request.label the_rule reads.entries paired turn → IsFilingTurn r.log_of kept request turn
+  turns given reads tells kept turn paired same is =
+      turn_of_records r request.logs (On given) reads tells kept request refl turn
+      (subst (λ (c : FilingCommand). IsTurnOfRecords (record { orders = digest_of reads.orders; trades = digest_of reads.trades }) kept request.label c turn reads.entries reads.paired) (sym asked)
+      (subst (λ (p : Result (List TradeRecord) Finding). FilesDayOrNone (record { orders = digest_of reads.orders; trades = digest_of reads.trades }) kept request.label the_rule reads.entries p turn) (sym same) is))
+
+  module _ (ended : EndedTrades) (reads : ReadsRecords r request.logs (On (before_rule.Read ended))) (digests : CaseDigests) (takes : TakesDigests r request.logs digests) where
+    same_digests : r.tells ≡ true → digests ≡ record { orders = digest_of reads.orders; trades = digest_of reads.trades }
+    same_digests tells =
+        let first : digests.orders ≡ digest_of reads.orders = one_digest (r.log_of Orders request.logs.orders) reads.orders digests.orders (reads.orders_known tells) (takes.of_orders tells (reads.good Orders).started (reads.good Orders).at_end) in
+        let second : digests.trades ≡ digest_of reads.trades = one_digest (r.log_of Trades request.logs.trades) reads.trades digests.trades (reads.trades_known tells) (takes.of_trades tells (reads.good Trades).started (reads.good Trades).at_end) in
+        ap₂ {C = CaseDigests} (λ a b. record { orders = a; trades = b }) first second
+
+    -- the cases of the records that the day has
+    by_records : (given : Judged) → JudgesDay request.label the_rule digests ended given → (records : List TradeRecord) → reads.paired ≡ Ok records → HasTradesOf whole_day (admission_of the_rule) reads.entries ended records → ReadsJudged r request given
+    by_records (judged.Cases cases) judges records same has =
+        let is = judges reads.entries records has in
+        record {
+          read = reads.good;
+          turn = λ tells kept.
+              turns (before_rule.Read ended) reads tells kept (filed_turn kept cases.items) (Ok records) same (record {
+                verdicts = is.verdicts;
+                are = is.are;
+                is =
+                    ap (filed_turn kept) (is.is.1 ∙ ap (λ (d : CaseDigests). cases_of_day request.label the_rule d (symbols_of_whole_day reads.entries records) is.verdicts) (same_digests tells))
+                    ∙ ap (λ (long : Option (List ℕ)). day_turn kept long (cases_of_day request.label the_rule (record { orders = digest_of reads.orders; trades = digest_of reads.trades }) (symbols_of_whole_day reads.entries records) is.verdicts)) (sym is.is.0);
+              });
+        }
+    by_records (judged.Refused answer) judges records same has =
+        let is = judges reads.entries records has in
+        record {
+          read = subst (ReadsLogsFor r request.logs) (sym is.is.status_is) reads.good;
+          not_done = λ e. refused_not_done (sym is.is.status_is ∙ e);
+          turn = λ tells kept.
+              turns (before_rule.Read ended) reads tells kept (unfiled_turn kept answer.status answer.text.items) (Ok records) same (record {
+                verdicts = is.verdicts;
+                are = is.are;
+                is =
+                    ap₂ (unfiled_turn kept) is.is.status_is is.is.text_is
+                    ∙ ap (λ (long : Option (List ℕ)). day_turn kept long (cases_of_day request.label the_rule (record { orders = digest_of reads.orders; trades = digest_of reads.trades }) (symbols_of_whole_day reads.entries records) is.verdicts)) (sym is.is.is);
+              });
+        }
+
+    by_paired : (given : Judged) → JudgesDay request.label the_rule digests ended given → (paired : Result (List TradeRecord) Finding) → reads.paired ≡ paired → IsOkAnd paired (HasTradesOf whole_day (admission_of the_rule) reads.entries ended) → ReadsJudged r request given
+    by_paired given judges (Ok records) same has = by_records given judges records same has
+    by_paired given judges (Err finding) same has = absurd has
+
+  -- the verdicts on its symbols
+  judges_read : (ended : EndedTrades) (digests : CaseDigests) → TakesDigests r request.logs digests → (given : Judged) → JudgesDay request.label the_rule digests ended given
+      → ReadsDayUpToRule r whole_day (admission_of the_rule) orders trades (before_rule.Read ended) → ReadsJudged r request given
+  judges_read ended digests takes given judges reads = ⊎_elim
+      (λ records. by_paired ended records digests takes given judges records.paired refl records.holds)
+      (λ place. absurd (no_place ended place.log place.bad place.holds))
+      (either (before_rule.Read ended) reads)
+
+  -- its reports do not pair
+  judges_unpaired : (finding : Finding) (answer : FilingAnswer) → TellsUnpaired finding answer → ReadsDayUpToRule r whole_day (admission_of the_rule) orders trades (before_rule.Unpaired finding) → ReadsRefusal r request answer
+  judges_unpaired finding answer tells_finding reads = ⊎_elim
+      (λ records. record {
+        read = subst (ReadsLogsFor r request.logs) (sym tells_finding.status_is) records.good;
+        not_done = λ e. refused_not_done (sym tells_finding.status_is ∙ e);
+        turn = λ tells kept.
+            turns (before_rule.Unpaired finding) records tells kept (unfiled_turn kept answer.status answer.text.items) (Err finding) records.holds (ap₂ (unfiled_turn kept) tells_finding.status_is tells_finding.text_is);
+      })
+      (λ place. absurd (not_unpaired finding place.log place.bad place.holds))
+      (either (before_rule.Unpaired finding) reads)
+
+  -- a log is not in its grammar
+  judges_bad : (log : Which) (bad : BadPlace) (answer : FilingAnswer) → TellsBadPlace (verdict.Malformed log bad) answer → ReadsDayUpToRule r whole_day (admission_of the_rule) orders trades (before_rule.Malformed log bad) → ReadsRefusal r request answer
+  judges_bad log bad answer tells_bad reads = ⊎_elim
+      (λ records. absurd records.holds)
+      (λ place. refuses r request (verdict.Malformed log bad) answer tells_bad (record {
+        log = place.log;
+        bad = place.bad;
+        holds = same_place log place.log bad place.bad place.holds;
+        read = place.read;
+        turn = place.turn;
+      }))
+      (either (before_rule.Malformed log bad) reads)
+
+  -- what the logs come to
+  pub judges_given : (given : DayBeforeRule) (digests : CaseDigests) → TakesDigests r request.logs digests → (made : Judged) → JudgesGiven request.label the_rule digests given made → ReadsDayUpToRule r whole_day (admission_of the_rule) orders trades given
+      → ReadsJudged r request made
+  judges_given (before_rule.Read ended) digests takes made judges reads = judges_read ended digests takes made judges reads
+  judges_given (before_rule.Unpaired finding) digests takes (judged.Cases cases) judges reads = absurd judges
+  judges_given (before_rule.Unpaired finding) digests takes (judged.Refused answer) judges reads = judges_unpaired finding answer judges reads
+  judges_given (before_rule.Malformed log bad) digests takes (judged.Cases cases) judges reads = absurd judges
+  judges_given (before_rule.Malformed log bad) digests takes (judged.Refused answer) judges reads = judges_bad log bad answer judges reads

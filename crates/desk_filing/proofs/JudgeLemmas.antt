@@ -1,0 +1,181 @@
+-- What a verdict on two logs that were read comes to.
+use Rattle.std.proofs.Common.{◌≡◌, ◌∙◌, sym, ap, ap₂, subst, refl, inl, inr, ◌⊎◌, ⊎_elim, ℕ, Bool, true, false, List, [], ◌∷◌, Option, None, Some, Result}
+use Rattle.std.specs.Prelude.{option_map}
+use Rattle.std.proofs.lemmas.Option.{same_Some}
+use Rattle.audit_base.specs.declared.faults.BadPlace.{BadPlace}
+use Rattle.audit_base.specs.declared.findings.Finding.{Finding}
+use Rattle.audit_base.specs.declared.orders.Deal.{Deal}
+use Rattle.audit_base.specs.declared.orders.Order.{Order}
+use Rattle.audit_base.specs.declared.records.OrderRecord.{OrderRecord}
+use Rattle.audit_base.specs.declared.records.TradeRecord.{TradeRecord}
+use Rattle.audit_base.specs.declared.terms.Which.{Which}
+use Rattle.audit_base.specs.declared.terms.Which.TheVariants.{Orders, Trades}
+use Rattle.audit_base.specs.Histories.{order_list}
+use Rattle.audit_base.specs.Trades.{deals_of_symbol}
+use Rattle.audit_base.specs.Verdicts.{paired_trades}
+use Rattle.audit_report.specs.Lines.{malformed_line}
+use Rattle.audit_report.specs.declared.verdicts.Verdict.{Verdict}
+use Rattle.audit_report.specs.declared.verdicts.Verdict.TheVariants as verdict
+use Rattle.case_keeper.specs.declared.case.Case.{Case}
+use Rattle.case_run.specs.declared.statuses.CaseStatus.{CaseStatus}
+use Rattle.case_run.specs.declared.statuses.CaseStatus.TheVariants as status
+use Rattle.digest_keeper.specs.declared.digested.CaseDigests.{CaseDigests}
+use Rattle.digest_keeper.specs.declared.digested.KeptCase.{KeptCase}
+use Rattle.desk_filing.specs.DigestedVerdicts.{HasDigestsOfLogs}
+use Rattle.desk_filing.specs.declared.digested_verdicts.DigestedVerdict.{DigestedVerdict}
+use Rattle.desk_filing.specs.Causes.{ReadsGoodLogs, ReadsLogsFor}
+use Rattle.desk_filing.specs.Lines.{comparison_line}
+use Rattle.desk_filing.specs.Judging.{IsComparedVerdict, IsJudgedVerdict, IsRefusalIn, TellsBadPlace}
+use Rattle.desk_filing.specs.Steps.{AnyRecords, LooksAtLogs, NamesLogs, ReadsBadPlace, ReadsJudged, ReadsRecords, ReadsRefusal, TellsOfKept}
+use Rattle.desk_filing.specs.Turns.{ChecksCase, FilingTurn, IsFilingTurn, IsFirstDifference, IsTurnOfRecords, comparison_status, digested_case, filed_turn, offence_in, unfiled_turn}
+use Rattle.desk_filing.specs.declared.answers.FilingAnswer.{FilingAnswer}
+use Rattle.desk_filing.specs.declared.answers.Judged.{Judged}
+use Rattle.desk_filing.specs.declared.answers.Judged.TheVariants as judged
+use Rattle.desk_filing.specs.declared.differences.CaseDifference.{CaseDifference}
+use Rattle.desk_filing.specs.declared.requests.FilingCommand.{FilingCommand}
+use Rattle.desk_filing.specs.declared.requests.FilingCommand.TheVariants as command
+use Rattle.desk_filing.specs.declared.requests.FilingRequest.{FilingRequest}
+use Rattle.desk_filing.proofs.LogLemmas.{reads_either, turn_of_records}
+use Rattle.log_digests.specs.Digests.{digest_of}
+use Rattle.log_verdict.specs.BothLogs.{ReadsVerdict}
+use Rattle.log_verdict.specs.Steps.{Reading}
+use Rattle.log_verdict.specs.declared.sources.Source.{Source}
+use Rattle.record_verdict.specs.declared.questions.Question.{Question}
+use Rattle.record_verdict.specs.RecordVerdicts.{question, IsRecordVerdict, IsOutcomeByFinding}
+
+-- a verdict on records is no bad place
+pub judged_sound : (q : Question) (entries : List OrderRecord) (paired : Result (List TradeRecord) Finding) (log : Which) (bad : BadPlace) → IsRecordVerdict q entries paired (verdict.Malformed log bad) → ⊥
+judged_sound q entries paired log bad is =
+    by_found (order_list q.symbol entries) (deals_of_symbol (order_list q.symbol entries) q.symbol (paired_trades paired)) is.found is.outcome
+  where
+    by_found : (orders : List Order) (deals : List Deal) (found : Option Finding) → IsOutcomeByFinding q orders deals found (verdict.Malformed log bad) → ⊥
+    by_found orders deals None is = absurd is
+    by_found orders deals (Some finding) is = cc
+
+one_digest : (log : Option (List ℕ)) (bytes digest : List ℕ) → log ≡ Some bytes → option_map digest_of log ≡ Some digest → digest ≡ digest_of bytes
+one_digest log bytes digest is has = sym (same_Some (digest_of bytes) digest (sym (ap (option_map digest_of) is) ∙ has))
+
+-- what was read of the logs, by the bad place that is answered
+pub refuses : (r : Reading) (request : FilingRequest) (v : Verdict) (answer : FilingAnswer) → TellsBadPlace v answer → ReadsBadPlace r request.logs (λ log bad. v ≡ verdict.Malformed log bad) → ReadsRefusal r request answer
+refuses r request v answer bad_tells reads =
+    let line : malformed_line reads.log reads.bad ≡ answer.text.items = same_line reads.log bad_tells.log reads.bad bad_tells.bad (sym reads.holds ∙ bad_tells.is) ∙ sym bad_tells.text_is in
+    record {
+      read = subst (ReadsLogsFor r request.logs) (sym bad_tells.status_is) reads.read;
+      not_done = λ e. not_done (sym bad_tells.status_is ∙ e);
+      turn = λ tells kept.
+          subst (λ (s : CaseStatus). IsFilingTurn r.log_of kept request (unfiled_turn kept s answer.text.items)) (sym bad_tells.status_is)
+          (subst (λ (t : List ℕ). IsFilingTurn r.log_of kept request (unfiled_turn kept status.Malformed t)) line (reads.turn tells kept request refl));
+    }
+  where
+    not_done : status.Malformed ≡ status.Done → ⊥
+    not_done e = cc
+
+    same_line : (log log' : Which) (bad bad' : BadPlace) → verdict.Malformed log bad ≡ verdict.Malformed log' bad' → malformed_line log bad ≡ malformed_line log' bad'
+    same_line log log' bad bad' e = cc
+
+module _ (r : Reading) (request : FilingRequest) (orders trades : Source) (names : NamesLogs request.logs orders trades) (q : Question) where
+  abbrev Bad : Verdict → Which → BadPlace → Type 0
+  Bad v log bad = v ≡ verdict.Malformed log bad
+
+  abbrev On : Verdict → List OrderRecord → Result (List TradeRecord) Finding → Type 0
+  On v entries paired = IsRecordVerdict q entries paired v
+
+  either : (v : Verdict) → ReadsVerdict r q orders trades v → ReadsRecords r request.logs (On v) ⊎ ReadsBadPlace r request.logs (Bad v)
+  either v reads = reads_either r request.logs orders trades names (On v) (Bad v) reads
+
+  no_bad : (v : Verdict) → ReadsRecords r request.logs (On v) → (log : Which) (bad : BadPlace) → v ≡ verdict.Malformed log bad → ⊥
+  no_bad v reads log bad e = judged_sound q reads.entries reads.paired log bad (subst (λ (w : Verdict). IsRecordVerdict q reads.entries reads.paired w) e reads.holds)
+
+  same_digests : (made : DigestedVerdict) (reads : ReadsRecords r request.logs (On made.verdict)) → r.tells ≡ true → HasDigestsOfLogs r.tells r.log_of orders trades made
+      → made.digests ≡ record { orders = digest_of reads.orders; trades = digest_of reads.trades }
+  same_digests made reads tells has =
+      let first : made.digests.orders ≡ digest_of reads.orders =
+      one_digest (r.log_of Orders orders.name.now) reads.orders made.digests.orders (ap (λ (n : List ℕ). r.log_of Orders n) names.orders_name ∙ reads.orders_known tells) (has.of_orders tells) in
+      let second : made.digests.trades ≡ digest_of reads.trades =
+      one_digest (r.log_of Trades trades.name.now) reads.trades made.digests.trades (ap (λ (n : List ℕ). r.log_of Trades n) names.trades_name ∙ reads.trades_known tells) (has.of_trades tells (no_bad made.verdict reads Orders)) in
+      ap₂ {C = CaseDigests} (λ a b. record { orders = a; trades = b }) first second
+
+  module _ (table : q.table ≡ false) where
+    -- the same question, without a table
+    plain : (entries : List OrderRecord) (paired : Result (List TradeRecord) Finding) (v : Verdict) → IsRecordVerdict q entries paired v → IsRecordVerdict (question q.rule q.symbol false) entries paired v
+    plain entries paired v is = subst (λ (t : Bool). IsRecordVerdict (question q.rule q.symbol t) entries paired v) table is
+
+    -- `file`: a case, or a refusal
+    pub judges_symbol : request.command ≡ command.File q.rule q.symbol → (made : DigestedVerdict) (given : Judged) → ReadsVerdict r q orders trades made.verdict → HasDigestsOfLogs r.tells r.log_of orders trades made
+        → IsJudgedVerdict made.digests request.label q made.verdict given → ReadsJudged r request given
+    judges_symbol asked made (judged.Cases cases) reads has is = ⊎_elim
+        (λ records. record {
+          read = records.good;
+          turn = λ tells kept.
+              turn_of_records r request.logs (On made.verdict) records tells kept request refl (filed_turn kept cases.items)
+              (subst (λ (c : FilingCommand). IsTurnOfRecords (record { orders = digest_of records.orders; trades = digest_of records.trades }) kept request.label c (filed_turn kept cases.items) records.entries records.paired) (sym asked)
+              (record {
+                the_verdict = made.verdict;
+                on = plain records.entries records.paired made.verdict records.holds;
+                is = ap (filed_turn kept) (is.0 ∙ ap (λ (d : CaseDigests). digested_case request.label q.rule d q.symbol made.verdict ∷ []) (same_digests made records tells has));
+              }));
+        })
+        (λ place. absurd (is.1 place.log place.bad place.holds))
+        (either made.verdict reads)
+    judges_symbol asked made (judged.Refused answer) reads has is = ⊎_elim
+        (λ records. absurd (no_bad made.verdict records is.log is.bad is.is))
+        (λ place. refuses r request made.verdict answer is place)
+        (either made.verdict reads)
+
+    -- what is left where the comparison ends so
+    abbrev compared : List KeptCase → Option CaseDifference → FilingTurn
+    compared kept difference = unfiled_turn kept (comparison_status difference) (comparison_line request.label difference)
+
+    -- `check`: a comparison, or a refusal
+    pub compares_logs : request.command ≡ command.Check → (case : Case) → case.rule ≡ q.rule → case.symbol ≡ q.symbol → (filed : CaseDigests) (made : DigestedVerdict) (answer : FilingAnswer) → ReadsVerdict r q orders trades made.verdict
+        → HasDigestsOfLogs r.tells r.log_of orders trades made → IsComparedVerdict request.label case filed made.digests made.verdict answer → TellsOfKept r request (Some (record { case = case; digests = Some filed })) answer
+    compares_logs asked case rule symbol filed made answer reads has (inl is) = ⊎_elim
+        (λ records. record {
+          read = going answer.status is.tells.difference is.tells.status_is records.good;
+          turn = λ tells kept found.
+              subst (λ (s : CaseStatus). IsFilingTurn r.log_of kept request (unfiled_turn kept s answer.text.items)) (sym is.tells.status_is)
+              (subst (λ (t : List ℕ). IsFilingTurn r.log_of kept request (unfiled_turn kept (comparison_status is.tells.difference) t)) (sym is.tells.text_is)
+              (turn_of_records r request.logs (On made.verdict) records tells kept request refl (compared kept is.tells.difference)
+              (subst (λ (c : FilingCommand). IsTurnOfRecords (record { orders = digest_of records.orders; trades = digest_of records.trades }) kept request.label c (compared kept is.tells.difference) records.entries records.paired) (sym asked)
+              (subst (λ (k : Option KeptCase). ChecksCase (record { orders = digest_of records.orders; trades = digest_of records.trades }) kept request.label records.entries records.paired (compared kept is.tells.difference) k) (sym found)
+              (record {
+                difference = is.tells.difference;
+                compares = record {
+                  the_verdict = made.verdict;
+                  is = rw (rule, symbol) (plain records.entries records.paired made.verdict records.holds);
+                  first = subst (λ (d : CaseDigests). IsFirstDifference (record { digests = filed; offence = case.offence }) (record { digests = d; offence = offence_in made.verdict }) is.tells.difference) (same_digests made records tells has) is.tells.first;
+                };
+                is = refl;
+              })))));
+        })
+        (λ place. absurd (is.no_bad_place place.log place.bad place.holds))
+        (either made.verdict reads)
+      where
+        going : (s : CaseStatus) (d : Option CaseDifference) → s ≡ comparison_status d → ReadsGoodLogs r request.logs → ReadsLogsFor r request.logs s
+        going s None e good = subst (ReadsLogsFor r request.logs) (sym e) good
+        going s (Some what) e good = subst (ReadsLogsFor r request.logs) (sym e) good
+    compares_logs asked case rule symbol filed made answer reads has (inr is) = ⊎_elim
+        (λ records. absurd (no_bad made.verdict records is.log is.bad is.is))
+        (λ place.
+        let refusal = refuses r request made.verdict answer is place in
+        record { read = refusal.read; turn = λ tells kept found. refusal.turn tells kept })
+        (either made.verdict reads)
+
+  any : (v : Verdict) → ReadsRecords r request.logs (On v) → ReadsRecords r request.logs AnyRecords
+  any v reads = record {
+    orders = reads.orders;
+    trades = reads.trades;
+    entries = reads.entries;
+    paired = reads.paired;
+    orders_say = reads.orders_say;
+    trades_say = reads.trades_say;
+    orders_known = reads.orders_known;
+    trades_known = reads.trades_known;
+    holds = tt;
+    good = reads.good;
+  }
+
+  -- both logs are good where their verdict is no bad place, and else refused
+  pub looks : (v : Verdict) (found : Option FilingAnswer) → IsRefusalIn v found → ReadsVerdict r q orders trades v → LooksAtLogs r request found
+  looks v None sound reads = ⊎_elim (λ records. any v records) (λ place. absurd (sound place.log place.bad place.holds)) (either v reads)
+  looks v (Some answer) is reads = ⊎_elim (λ records. absurd (no_bad v records is.log is.bad is.is)) (λ place. refuses r request v answer is place) (either v reads)

@@ -1,0 +1,12 @@
+mod LogLemmas
+mod JudgeLemmas
+mod FilingLemmas
+mod CheckLemmas
+mod ReadyLemmas
+mod WritingLemmas
+mod KeeperLemmas
+mod TopLemmas
+mod DayCaseLemmas
+mod DayLemmas
+mod OneTurnLemmas
+mod DigestedLemmas

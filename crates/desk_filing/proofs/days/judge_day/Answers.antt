@@ -1,0 +1,23 @@
+use Rattle.std.proofs.Common.{refl}
+use Rattle.day_logs.specs.declared.before_rule.DayBeforeRule.{DayBeforeRule}
+use Rattle.desk_filing.specs.declared.answers.Judged.{Judged}
+use Rattle.desk_filing.proofs.DayLemmas.{judges_given, takes_digests}
+use Rattle.desk_filing.proofs.LogLemmas.{stops_reading}
+use Rattle.desk_filing.proofs.WritingLemmas.{ends_stopped}
+use Rattle.desk_filing.proofs.days.judge_day.Goals as goal
+
+pub returns-in_ok-judged_logs-in-Ok-clause-judges : goal.returns-in_ok-judged_logs-in-Ok-clause-judges
+returns-in_ok-judged_logs-in-Ok-clause-judges g c =
+    judges_given _ c.args.request.now c.args.orders.now c.args.trades.now c.requires.names c.args.rule c.requires.asked c.in-Ok.given _
+    (takes_digests _ c.args.request.now.logs _ _ _ c.read_day.ensures.logs.tells c.read_day.ensures.logs.logs (c.digest.ensures c.args.request.now.logs.orders) (c.digest-in-Ok.ensures c.args.request.now.logs.trades))
+    _ c.in_ok-judged_logs-in-Ok.ensures (rw (c.whole.ensures, c.of.ensures) at c.in-Ok.ensures.decides)
+
+pub returns-in-Err-clause-judges : goal.returns-in-Err-clause-judges
+returns-in-Err-clause-judges g c =
+    rw c.from.ensures (stops_reading _ c.args.request.now.logs c.args.orders.now c.args.trades.now c.requires.names c.args.request.now refl c.in-Err.stop c.in-Err.ensures.decides)
+
+pub returns-in_ok-judged_logs-in-Ok-clause-within : goal.returns-in_ok-judged_logs-in-Ok-clause-within
+returns-in_ok-judged_logs-in-Ok-clause-within g c = c.in-Ok.ensures.within
+
+pub returns-in-Err-clause-within : goal.returns-in-Err-clause-within
+returns-in-Err-clause-within g c = rw c.from.ensures (ends_stopped DayBeforeRule Judged c.in-Err.stop c.in-Err.ensures.within)

@@ -1,0 +1,61 @@
+-- What a verdict comes to, as the functions of `file` and `check` pass it on.
+use Rattle.std.specs.Prelude.{◌≡◌, ◌≢◌, ◌⊎◌, ℕ, List, [], ◌∷◌, Option, None, Some}
+use Rattle.audit_base.specs.declared.faults.BadPlace.{BadPlace}
+use Rattle.audit_base.specs.declared.terms.Which.{Which}
+use Rattle.audit_report.specs.Lines.{malformed_line}
+use Rattle.audit_report.specs.declared.verdicts.Verdict.{Verdict}
+use Rattle.audit_report.specs.declared.verdicts.Verdict.TheVariants.{Malformed}
+use Rattle.case_keeper.specs.declared.case.Case.{Case}
+use Rattle.case_run.specs.declared.statuses.CaseStatus.TheVariants as status
+use Rattle.digest_keeper.specs.declared.digested.CaseDigests.{CaseDigests}
+use Rattle.desk_filing.specs.Lines.{comparison_line}
+use Rattle.desk_filing.specs.Turns.{IsFirstDifference, comparison_status, digested_case, offence_in}
+use Rattle.desk_filing.specs.declared.answers.FilingAnswer.{FilingAnswer}
+use Rattle.desk_filing.specs.declared.answers.Judged.{Judged}
+use Rattle.desk_filing.specs.declared.answers.Judged.TheVariants as judged
+use Rattle.desk_filing.specs.declared.differences.AuditedLogs.{AuditedLogs}
+use Rattle.desk_filing.specs.declared.differences.CaseDifference.{CaseDifference}
+use Rattle.record_verdict.specs.declared.questions.Question.{Question}
+
+-- both logs are in their grammar
+abbrev pub IsNoBadPlace : Verdict → Type 0
+IsNoBadPlace v = (log : Which) (bad : BadPlace) → v ≢ Malformed log bad
+
+-- The verdict is a first bad place, and the answer tells it.
+pub record TellsBadPlace (v : Verdict) (answer : FilingAnswer) : Type 0 where
+  pub log : Which
+  pub bad : BadPlace
+  pub is : v ≡ Malformed log bad
+  pub status_is : answer.status ≡ status.Malformed
+  pub text_is : answer.text.items ≡ malformed_line log bad
+
+-- the answer that a verdict is a first bad place, if it is one
+abbrev pub IsRefusalIn : Verdict → Option FilingAnswer → Type 0
+IsRefusalIn v None = IsNoBadPlace v
+IsRefusalIn v (Some answer) = TellsBadPlace v answer
+
+-- what a verdict comes to: its case, or the answer that a log is not in its grammar
+abbrev pub IsJudgedVerdict : CaseDigests → List ℕ → Question → Verdict → Judged → Type 0
+IsJudgedVerdict digests label q v (judged.Cases cases) =
+    (cases.items ≡ digested_case label q.rule digests q.symbol v ∷ []) × IsNoBadPlace v
+IsJudgedVerdict digests label q v (judged.Refused answer) = TellsBadPlace v answer
+
+-- The answer tells what differs first of two audits.
+pub record TellsFirst (label : List ℕ) (filed now : AuditedLogs) (answer : FilingAnswer) : Type 0 where
+  pub difference : Option CaseDifference
+  pub first : IsFirstDifference filed now difference
+  pub status_is : answer.status ≡ comparison_status difference
+  pub text_is : answer.text.items ≡ comparison_line label difference
+
+-- The answer tells how the audit of a case, on logs of these digests, compares with a verdict on
+-- logs of those.
+pub record TellsDifference (label : List ℕ) (case : Case) (filed now : CaseDigests) (v : Verdict)
+    (answer : FilingAnswer) : Type 0 where
+  pub no_bad_place : IsNoBadPlace v
+  pub tells : TellsFirst label (record { digests = filed; offence = case.offence })
+      (record { digests = now; offence = offence_in v }) answer
+
+-- what a verdict comes to beside a case
+abbrev pub IsComparedVerdict : List ℕ → Case → CaseDigests → CaseDigests → Verdict → FilingAnswer → Type 0
+IsComparedVerdict label case filed now v answer =
+    TellsDifference label case filed now v answer ⊎ TellsBadPlace v answer

@@ -1,0 +1,68 @@
+-- The words of `file`, `file-all` and `check`, and what they ask for.
+use Rattle.std.specs.Prelude.{ℕ, ◌&&◌, ◌+◌, Option, None, Some, List, [], ◌∷◌, codes, drop, length, nat_le, if◌then◌else◌}
+use Rattle.audit_base.specs.Least.{first_answer}
+use Rattle.command_words.specs.WordForms.{is_path, nth_word, rule_named, symbol_named, word_equals}
+use Rattle.command_words.specs.Words.{names_logs, when_some}
+use Rattle.desk_words.specs.Words.{day_logs, form_options_in}
+use Rattle.desk_filing.specs.declared.requests.FilingCommand.{FilingCommand}
+use Rattle.desk_filing.specs.declared.requests.FilingCommand.TheVariants as command
+use Rattle.desk_filing.specs.declared.requests.FilingRequest.{FilingRequest}
+
+-- LABEL is a name that does not begin with `-`, and is not the word that stands between two
+-- commands of a casebook
+abbrev pub label_named : List ℕ → Option (List ℕ)
+label_named word = if word_equals word (codes "then") then None else symbol_named word
+
+-- `file DATABASE LABEL RULE SYMBOL`, and ORDERS and TRADES behind them
+abbrev pub file_named : List (List ℕ) → Option FilingCommand
+file_named words =
+    if nat_le 7 (length words) && word_equals (nth_word words 0) (codes "file") then
+    when_some (rule_named (nth_word words 3)) (λ the_rule.
+    when_some (symbol_named (nth_word words 4)) (λ symbol.
+    Some (command.File the_rule symbol)))
+    else None
+
+-- `file-all DATABASE LABEL RULE`, and ORDERS and TRADES behind them
+abbrev pub file_all_named : List (List ℕ) → Option FilingCommand
+file_all_named words =
+    if nat_le 6 (length words) && word_equals (nth_word words 0) (codes "file-all") then
+    when_some (rule_named (nth_word words 3)) (λ the_rule. Some (command.FileAll the_rule))
+    else None
+
+-- `check DATABASE LABEL`, and ORDERS and TRADES behind them
+abbrev pub check_named : List (List ℕ) → Option FilingCommand
+check_named words =
+    if nat_le 5 (length words) && word_equals (nth_word words 0) (codes "check")
+    then Some command.Check else None
+
+-- the command that words name
+abbrev pub filing_named : List (List ℕ) → Option FilingCommand
+filing_named words =
+    first_answer (file_named words ∷ file_all_named words ∷ check_named words ∷ [])
+
+-- the place of ORDERS among the words of a command, from 0
+abbrev pub index_of_logs : FilingCommand → ℕ
+index_of_logs (command.File the_rule symbol) = 5
+index_of_logs (command.FileAll the_rule) = 4
+index_of_logs command.Check = 3
+
+-- the request for a command: DATABASE, LABEL, the logs at this place, and behind them, in any order
+-- and each at most once, `--orders-form FORM` and `--trades-form FORM`
+abbrev pub request_for : FilingCommand → ℕ → List (List ℕ) → Option FilingRequest
+request_for the_command place words =
+    if is_path (nth_word words 1) && names_logs words place then
+    when_some (label_named (nth_word words 2)) (λ label.
+    when_some (form_options_in (drop (place + 2) words)) (λ said.
+    Some (record {
+      command = the_command;
+      database = nth_word words 1;
+      label = label;
+      logs = day_logs words place said;
+    })))
+    else None
+
+-- what words ask for; nothing where they are not well-formed
+abbrev pub filing_request_of : List (List ℕ) → Option FilingRequest
+filing_request_of words =
+    when_some (filing_named words) (λ the_command.
+    request_for the_command (index_of_logs the_command) words)

@@ -1,0 +1,228 @@
+//! What `check` answers: whether two logs are those of a case on file.
+//!
+//! The rule and the symbol of the case are known only when the database is open, which is after
+//! both logs were read. So each log is read once to see that it can be read, and once more to
+//! audit it and to take its digest: those of the very bytes that were judged.
+ghost use Rattle.std.specs.Prelude.{◌≡◌, ◌≤◌, Some, IfOk, MatchResult};
+ghost use Rattle.case_run.specs.Turns.{EndsWithinOrHalts};
+ghost use Rattle.desk_filing.specs.Judging.{IsComparedVerdict, IsRefusalIn, TellsFirst};
+ghost use Rattle.desk_filing.specs.Steps.{ChecksKept, ChecksOrStops, ComparesOrStops, GoesOn};
+ghost use Rattle.desk_filing.specs.Steps.{LooksAtLogs, NamesLogs};
+ghost use Rattle.desk_filing.specs.Steps.{AnyRecords, ReadsRecords, StopsReading, both_readings};
+ghost use Rattle.desk_filing.specs.Turns.{comparison_status};
+ghost use Rattle.desk_filing.specs.declared.requests.FilingCommand.TheVariants.{Check};
+ghost use Rattle.log_verdict.specs.BothLogs.{HaveOneLimit};
+ghost use Rattle.log_verdict.specs.Steps.{reading_by, FaultsNeverFall, KeepsShelfLogs, Reading};
+
+use crate::answers::FilingAnswer;
+use crate::differences::{AuditedLogs, CaseDifference, first_difference};
+use crate::digested_verdicts::{DigestedVerdict, digested_verdict_on};
+use crate::judging::{malformed_answer, offence_in};
+use crate::lines::{comparison_text, no_case_text, no_digest_text};
+use crate::requests::FilingRequest;
+use audit_base::faults::NoMemory;
+use audit_base::names::Name;
+use audit_base::terms::Rule;
+use audit_report::verdicts::Verdict;
+use case_keeper::case::Case;
+use case_run::halts::Halt;
+use case_run::statuses::CaseStatus;
+use digest_keeper::digested::{CaseDigests, KeptCase};
+use digest_keeper::keeper::DigestKeeper;
+use log_digests::digest_shelf::DigestShelf;
+use log_source::shelf::Shelf;
+use log_verdict::sources::Source;
+use log_verdict::verdicts::verdict_on;
+use record_verdict::questions::Question;
+use std::alloc::Global;
+
+/// The answer that a verdict is a first bad place, if it is one.
+fn refusal_in(alloc: Global, verdict: &Verdict) -> Result<Option<FilingAnswer>, NoMemory>
+    ensures { IfOk result (IsRefusalIn verdict.now) }
+{
+    match verdict {
+        Verdict::Accepted(_) => Ok(None),
+        Verdict::Rejected(_) => Ok(None),
+        Verdict::Malformed { log, bad } => Ok(Some(malformed_answer(alloc, *log, bad)?)),
+    }
+}
+
+/// Nothing, where both logs can be read and are in their grammar; else the answer to them. Any
+/// verdict tells this. That on a symbol which is none of the logs' keeps least of them.
+pub(crate) fn look_at_logs<F: Shelf>(
+    alloc: Global,
+    shelf: &mut F,
+    request: &FilingRequest,
+    orders: &Source<'_>,
+    trades: &Source<'_>,
+) -> Result<Option<FilingAnswer>, Halt>
+    requires limit { HaveOneLimit orders.now trades.now }
+    requires names { NamesLogs request.now.logs orders.now trades.now }
+    ensures logs { KeepsShelfLogs F.Shelf shelf.old shelf.new }
+    ensures later { FaultsNeverFall (reading_by orders.now F.Shelf shelf.old shelf.new) }
+    ensures looks { let r = reading_by orders.now F.Shelf shelf.old shelf.new in
+        MatchResult result (LooksAtLogs r request.now) (StopsReading r request.now) }
+    ensures within { EndsWithinOrHalts (reading_by orders.now F.Shelf shelf.old shelf.new)
+        result }
+{
+    let question = Question {
+        rule: Rule::Matching,
+        symbol: request.label,
+        table: false,
+    };
+    match verdict_on(alloc, shelf, &question, orders, trades) {
+        Ok(verdict) => Ok(refusal_in(alloc, &verdict)?),
+        Err(stop) => Err(Halt::from(stop)),
+    }
+}
+
+/// The status of what differs first, or of nothing.
+fn comparison_status(difference: Option<CaseDifference>) -> CaseStatus
+    ensures { result ≡ comparison_status difference }
+{
+    match difference {
+        Some(_) => CaseStatus::Refused,
+        None => CaseStatus::Done,
+    }
+}
+
+/// How a verdict compares with the one on file.
+fn comparison(
+    alloc: Global,
+    label: &Name,
+    filed: &AuditedLogs,
+    now: &AuditedLogs,
+) -> Result<FilingAnswer, NoMemory>
+    ensures { IfOk result (TellsFirst label.now filed.now now.now) }
+{
+    let difference = first_difference(filed, now);
+    Ok(FilingAnswer {
+        status: comparison_status(difference),
+        text: comparison_text(alloc, label, difference)?,
+    })
+}
+
+/// What a verdict comes to beside a case with these digests.
+fn compared(
+    alloc: Global,
+    label: &Name,
+    case: &Case,
+    filed: &CaseDigests,
+    made: &DigestedVerdict,
+) -> Result<FilingAnswer, NoMemory>
+    ensures { IfOk result (IsComparedVerdict label.now case.now filed.now made.now.digests
+        made.now.verdict) }
+{
+    let filed = AuditedLogs {
+        digests: *filed,
+        offence: case.offence,
+    };
+    let now = AuditedLogs {
+        digests: made.digests,
+        offence: offence_in(&made.verdict),
+    };
+    match &made.verdict {
+        Verdict::Accepted(_) => comparison(alloc, label, &filed, &now),
+        Verdict::Rejected(_) => comparison(alloc, label, &filed, &now),
+        Verdict::Malformed { log, bad } => malformed_answer(alloc, *log, bad),
+    }
+}
+
+/// Audits both logs by the rule of a case, on its symbol, and tells what is not as the case has it.
+fn compare<'a, F: Shelf>(
+    alloc: Global,
+    shelf: &mut DigestShelf<'a, F>,
+    request: &FilingRequest,
+    case: &Case,
+    filed: &CaseDigests,
+    orders: &Source<'_>,
+    trades: &Source<'_>,
+) -> Result<FilingAnswer, Halt>
+    requires limit { HaveOneLimit orders.now trades.now }
+    requires names { NamesLogs request.now.logs orders.now trades.now }
+    requires asked { request.now.command ≡ Check }
+    ensures logs { KeepsShelfLogs ⟦<DigestShelf<'a, F> as Shelf>⟧ shelf.old shelf.new }
+    ensures later { let shelves = ⟦<DigestShelf<'a, F> as Shelf>⟧ in
+        FaultsNeverFall (reading_by orders.now shelves shelf.old shelf.new) }
+    ensures compares { let shelves = ⟦<DigestShelf<'a, F> as Shelf>⟧ in
+        ComparesOrStops (reading_by orders.now shelves shelf.old shelf.new) request.now case.now
+        filed.now result }
+    ensures within { let shelves = ⟦<DigestShelf<'a, F> as Shelf>⟧ in
+        EndsWithinOrHalts (reading_by orders.now shelves shelf.old shelf.new) result }
+{
+    let question = Question {
+        rule: case.rule,
+        symbol: case.symbol,
+        table: false,
+    };
+    match digested_verdict_on(alloc, shelf, &question, orders, trades) {
+        Ok(made) => Ok(compared(alloc, &request.label, case, filed, &made)?),
+        Err(stop) => Err(Halt::from(stop)),
+    }
+}
+
+/// The answer about a case that is on file: it is compared, if it has digests.
+fn check_kept<'a, F: Shelf>(
+    alloc: Global,
+    shelf: &mut DigestShelf<'a, F>,
+    request: &FilingRequest,
+    kept: &KeptCase,
+    orders: &Source<'_>,
+    trades: &Source<'_>,
+) -> Result<FilingAnswer, Halt>
+    requires limit { HaveOneLimit orders.now trades.now }
+    requires names { NamesLogs request.now.logs orders.now trades.now }
+    requires asked { request.now.command ≡ Check }
+    ensures logs { KeepsShelfLogs ⟦<DigestShelf<'a, F> as Shelf>⟧ shelf.old shelf.new }
+    ensures later { let shelves = ⟦<DigestShelf<'a, F> as Shelf>⟧ in
+        FaultsNeverFall (reading_by orders.now shelves shelf.old shelf.new) }
+    ensures checks { let shelves = ⟦<DigestShelf<'a, F> as Shelf>⟧ in (first : Reading)
+        → GoesOn first (reading_by orders.now shelves shelf.old shelf.new)
+        → ReadsRecords first request.now.logs AnyRecords
+        → ChecksKept (both_readings first (reading_by orders.now shelves shelf.old shelf.new))
+        request.now (Some kept.now) result }
+    ensures within { let shelves = ⟦<DigestShelf<'a, F> as Shelf>⟧ in
+        EndsWithinOrHalts (reading_by orders.now shelves shelf.old shelf.new) result }
+{
+    match &kept.digests {
+        Some(filed) => compare(alloc, shelf, request, &kept.case, filed, orders, trades),
+        None => Ok(FilingAnswer {
+            status: CaseStatus::Refused,
+            text: no_digest_text(alloc, &request.label)?,
+        }),
+    }
+}
+
+/// The answer over a database that is open, after both logs were looked at.
+pub(crate) fn check_in<'a, F: Shelf, B: DigestKeeper>(
+    alloc: Global,
+    shelf: &mut DigestShelf<'a, F>,
+    request: &FilingRequest,
+    orders: &Source<'_>,
+    trades: &Source<'_>,
+    book: &mut B,
+) -> Result<FilingAnswer, Halt>
+    requires limit { HaveOneLimit orders.now trades.now }
+    requires names { NamesLogs request.now.logs orders.now trades.now }
+    requires asked { request.now.command ≡ Check }
+    ensures logs { KeepsShelfLogs ⟦<DigestShelf<'a, F> as Shelf>⟧ shelf.old shelf.new }
+    ensures later { let shelves = ⟦<DigestShelf<'a, F> as Shelf>⟧ in
+        FaultsNeverFall (reading_by orders.now shelves shelf.old shelf.new) }
+    ensures keeper { (B.state book.old).faults ≤ (B.state book.new).faults }
+    ensures checks { let shelves = ⟦<DigestShelf<'a, F> as Shelf>⟧ in (first : Reading)
+        → GoesOn first (reading_by orders.now shelves shelf.old shelf.new)
+        → ReadsRecords first request.now.logs AnyRecords
+        → ChecksOrStops (both_readings first (reading_by orders.now shelves shelf.old shelf.new))
+        (B.state book.old) (B.state book.new) request.now result }
+    ensures within { let shelves = ⟦<DigestShelf<'a, F> as Shelf>⟧ in
+        EndsWithinOrHalts (reading_by orders.now shelves shelf.old shelf.new) result }
+{
+    match book.find(&request.label) {
+        Ok(Some(kept)) => check_kept(alloc, shelf, request, &kept, orders, trades),
+        Ok(None) => Ok(FilingAnswer {
+            status: CaseStatus::Refused,
+            text: no_case_text(alloc, &request.label)?,
+        }),
+        Err(fault) => Err(Halt::from(fault)),
+    }
+}

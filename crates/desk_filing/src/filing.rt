@@ -1,0 +1,55 @@
+//! Filing cases in a database that is open: all of them or none.
+ghost use Rattle.std.specs.Prelude.{◌≡◌, ◌≤◌};
+ghost use Rattle.desk_filing.specs.Steps.{FilesOrStops, FindsFirst, case_lines};
+
+use crate::answers::FilingAnswer;
+use crate::lines::known_text;
+use case_keeper::keeper::KeepFault;
+use case_run::halts::Halt;
+use case_run::statuses::CaseStatus;
+use digest_keeper::digested::{DigestedCase, KeptCase};
+use digest_keeper::keeper::DigestKeeper;
+use std::alloc::Global;
+
+/// Of these cases, the first whose label has a case on file, by that case.
+fn first_known<B: DigestKeeper>(
+    cases: &[DigestedCase],
+    book: &mut B,
+) -> Result<Option<KeptCase>, KeepFault>
+    ensures { FindsFirst (B.state book.old) (B.state book.new) cases.now result }
+{
+    let mut rest = cases;
+    while let Some((one, others)) = rest.split_first() {
+        if let Some(known) = book.find(&one.case.label)? {
+            return Ok(Some(known));
+        }
+        rest = others;
+    }
+    Ok(None)
+}
+
+/// Files the cases, whose lines are this text, unless a label has a case.
+pub(crate) fn file_in<B: DigestKeeper>(
+    alloc: Global,
+    cases: &[DigestedCase],
+    text: Vec<u8>,
+    book: &mut B,
+) -> Result<FilingAnswer, Halt>
+    requires { text.items ≡ case_lines cases.now }
+    ensures files { FilesOrStops (B.state book.old) (B.state book.new) cases.now result }
+    ensures later { (B.state book.old).faults ≤ (B.state book.new).faults }
+{
+    match first_known(cases, book)? {
+        Some(known) => Ok(FilingAnswer {
+            status: CaseStatus::Refused,
+            text: known_text(alloc, &known.case)?,
+        }),
+        None => {
+            book.file_all(cases)?;
+            Ok(FilingAnswer {
+                status: CaseStatus::Done,
+                text,
+            })
+        }
+    }
+}

@@ -1,0 +1,150 @@
+//! What the logs of `file` come to: the verdict on a symbol, as a case with the digests of the
+//! bytes that it is on.
+ghost use Rattle.std.specs.Prelude.{◌≡◌, ◌∷◌, [], IfOk, false};
+ghost use Rattle.case_run.specs.Play.{offence_of};
+ghost use Rattle.case_run.specs.Turns.{EndsWithinOrHalts};
+ghost use Rattle.desk_filing.specs.Judging.{IsJudgedVerdict, TellsBadPlace};
+ghost use Rattle.desk_filing.specs.Steps.{JudgesLogs, NamesLogs};
+ghost use Rattle.desk_filing.specs.Turns.{digested_case, offence_in};
+ghost use Rattle.desk_filing.specs.declared.requests.FilingCommand.TheVariants as command;
+ghost use Rattle.log_verdict.specs.BothLogs.{HaveOneLimit};
+ghost use Rattle.log_verdict.specs.Steps.{reading_by, FaultsNeverFall, KeepsShelfLogs};
+
+use crate::answers::{FilingAnswer, Judged};
+use crate::digested_verdicts::{DigestedVerdict, digested_verdict_on};
+use crate::lines::malformed_text;
+use crate::requests::FilingRequest;
+use audit_base::faults::{BadPlace, NoMemory};
+use audit_base::findings::Finding;
+use audit_base::names::Name;
+use audit_base::terms::{Rule, Which};
+use audit_report::verdicts::Verdict;
+use case_keeper::case::{Case, Offence};
+use case_run::halts::Halt;
+use case_run::statuses::CaseStatus;
+use digest_keeper::digested::{CaseDigests, DigestedCase};
+use log_digests::digest_shelf::DigestShelf;
+use log_source::shelf::Shelf;
+use log_verdict::sources::Source;
+use record_verdict::questions::Question;
+use std::alloc::Global;
+
+/// The offence of a finding.
+fn offence_of(finding: &Finding) -> Offence
+    ensures { result ≡ offence_of finding.now }
+{
+    Offence {
+        property: finding.property,
+        log: finding.log,
+        place: finding.place,
+    }
+}
+
+/// How an audit ended with a verdict.
+pub(crate) fn offence_in(verdict: &Verdict) -> Option<Offence>
+    ensures { result ≡ offence_in verdict.now }
+{
+    match verdict {
+        Verdict::Accepted(_) => None,
+        Verdict::Rejected(finding) => Some(offence_of(finding)),
+        Verdict::Malformed { .. } => None,
+    }
+}
+
+/// The case of a verdict on logs of these digests.
+pub(crate) fn digested_case(
+    label: &Name,
+    rule: Rule,
+    digests: &CaseDigests,
+    symbol: &Name,
+    verdict: &Verdict,
+) -> DigestedCase
+    ensures { result ≡ digested_case label.now rule digests.now symbol.now verdict.now }
+{
+    DigestedCase {
+        case: Case {
+            label: *label,
+            rule,
+            symbol: *symbol,
+            offence: offence_in(verdict),
+        },
+        digests: *digests,
+    }
+}
+
+/// The answer that a log is not in its grammar.
+pub(crate) fn malformed_answer(
+    alloc: Global,
+    log: Which,
+    bad: &BadPlace,
+) -> Result<FilingAnswer, NoMemory>
+    ensures { IfOk result (TellsBadPlace (Verdict.Malformed log bad.now)) }
+{
+    Ok(FilingAnswer {
+        status: CaseStatus::Malformed,
+        text: malformed_text(alloc, log, bad)?,
+    })
+}
+
+/// The case of a verdict that is no bad place, alone.
+fn case_alone(
+    alloc: Global,
+    label: &Name,
+    question: &Question,
+    made: &DigestedVerdict,
+) -> Result<Vec<DigestedCase>, NoMemory>
+    ensures { let q = question.now in let one = digested_case label.now q.rule made.now.digests
+        q.symbol made.now.verdict in IfOk result (λ cases. cases.items ≡ one ∷ []) }
+{
+    let DigestedVerdict { verdict, digests } = made;
+    let mut cases = Vec::new(alloc);
+    let case = digested_case(label, question.rule, digests, &question.symbol, verdict);
+    cases.push(case)?;
+    Ok(cases)
+}
+
+/// What a verdict comes to: its case, or the answer that a log is not in its grammar.
+fn judged_verdict(
+    alloc: Global,
+    label: &Name,
+    question: &Question,
+    made: &DigestedVerdict,
+) -> Result<Judged, NoMemory>
+    ensures { IfOk result
+        (IsJudgedVerdict made.now.digests label.now question.now made.now.verdict) }
+{
+    match &made.verdict {
+        Verdict::Accepted(_) => Ok(Judged::Cases(case_alone(alloc, label, question, made)?)),
+        Verdict::Rejected(_) => Ok(Judged::Cases(case_alone(alloc, label, question, made)?)),
+        Verdict::Malformed { log, bad } => {
+            Ok(Judged::Refused(malformed_answer(alloc, *log, bad)?))
+        }
+    }
+}
+
+/// What the logs of `file` come to.
+pub(crate) fn judge_symbol<'a, F: Shelf>(
+    alloc: Global,
+    shelf: &mut DigestShelf<'a, F>,
+    request: &FilingRequest,
+    question: &Question,
+    orders: &Source<'_>,
+    trades: &Source<'_>,
+) -> Result<Judged, Halt>
+    requires limit { HaveOneLimit orders.now trades.now }
+    requires names { NamesLogs request.now.logs orders.now trades.now }
+    requires asked { request.now.command ≡ command.File question.now.rule question.now.symbol }
+    requires table { question.now.table ≡ false }
+    ensures logs { KeepsShelfLogs ⟦<DigestShelf<'a, F> as Shelf>⟧ shelf.old shelf.new }
+    ensures later { let shelves = ⟦<DigestShelf<'a, F> as Shelf>⟧ in
+        FaultsNeverFall (reading_by orders.now shelves shelf.old shelf.new) }
+    ensures judges { let shelves = ⟦<DigestShelf<'a, F> as Shelf>⟧ in
+        JudgesLogs (reading_by orders.now shelves shelf.old shelf.new) request.now result }
+    ensures within { let shelves = ⟦<DigestShelf<'a, F> as Shelf>⟧ in
+        EndsWithinOrHalts (reading_by orders.now shelves shelf.old shelf.new) result }
+{
+    match digested_verdict_on(alloc, shelf, question, orders, trades) {
+        Ok(made) => Ok(judged_verdict(alloc, &request.label, question, &made)?),
+        Err(stop) => Err(Halt::from(stop)),
+    }
+}

@@ -1,0 +1,31 @@
+//! The commands `file`, `file-all` and `check` of the program `desk`: verdicts on two logs are
+//! filed in a database, with the digests of the bytes that they are on, and logs are compared with
+//! a case that was filed.
+//!
+//! `running::run_filing` is the top call. It reads the words (`words`) into a request (`requests`),
+//! judges the two logs while a shelf takes their digests (`judging`), then opens the database
+//! (`opener`, `databases`) and files the cases (`filing`), or tells what is not as a case has it
+//! (`checking`, `differences`). Its contract cites what one command leaves, which is said over the
+//! bytes of the logs and what is on file (`specs/Turns`), and is one (`laws`).
+//!
+//! The verdict on two logs with the digests of both, from one pass over each.
+#![tactic(auto)]
+
+mod answers;
+mod checking;
+mod checking_databases;
+mod databases;
+mod days;
+mod differences;
+pub mod digested_verdicts;
+mod filing;
+mod judging;
+pub mod laws;
+mod lines;
+pub mod memory_opener;
+pub mod opener;
+pub mod requests;
+pub mod running;
+mod sources;
+pub mod words;
+mod writing;

@@ -1,0 +1,181 @@
+//! The top call of filing: from the words of a command line to what is on file, the text that is
+//! written and the status.
+ghost use Rattle.std.specs.Prelude.{◌≡◌, false, map};
+ghost use Rattle.std.specs.Option.{option_map};
+ghost use Rattle.std.specs.String.{string_bytes};
+ghost use Rattle.audit_base.specs.declared.terms.Which.{Which};
+ghost use Rattle.desk_filing.specs.DigestOpeners.{KeepsDatabases};
+ghost use Rattle.desk_filing.specs.Laws.{OneFilingTurn};
+ghost use Rattle.desk_filing.specs.Runs.{FilesAsked, FilesRequest, filing_call, filing_reading};
+ghost use Rattle.desk_filing.specs.Steps.{RefusesWords};
+ghost use Rattle.desk_filing.specs.Words.{filing_request_of};
+ghost use Rattle.log_source.specs.Sinks.{SinkStays};
+ghost use Rattle.log_source.specs.Sources.{longest_read};
+ghost use Rattle.log_verdict.specs.Steps.{reading_within};
+
+use crate::checking_databases::check;
+use crate::databases::{Ended, file_judged};
+use crate::days::judge_day;
+use crate::judging::judge_symbol;
+use crate::laws::one_filing_turn;
+use crate::opener::DigestOpener;
+use crate::requests::{FilingCommand, FilingRequest};
+use crate::sources::filing_source;
+use crate::words::read_filing_words;
+use case_run::statuses::CaseStatus;
+use case_run::writing::write_text;
+use command_words::requests::WordsFault;
+use desk_words::texts::desk_usage_text;
+use log_digests::digest_shelf::DigestShelf;
+use log_source::shelf::Shelf;
+use log_source::sink::Sink;
+use record_verdict::questions::Question;
+use seeded_hash::seed::HashSeed;
+use std::alloc::Global;
+
+/// How a call ended: its status; the shelf that its logs were read from; and the keeper of what is
+/// on file, where the database was opened.
+#[derive(Drop)]
+pub struct FilingEnd<F, B> {
+    pub status: CaseStatus,
+    pub shelf: F,
+    pub book: Option<B>,
+}
+
+/// Answers words that ask for nothing: by the usage line, where they are not well-formed.
+fn refuse_words<K: Sink>(out: &mut K, fault: WordsFault) -> CaseStatus
+    ensures writes { RefusesWords fault (K.state out.old) (K.state out.new) result }
+    ensures stays { SinkStays (K.state out.old) (K.state out.new) }
+{
+    match fault {
+        WordsFault::Usage => write_text(out, desk_usage_text(), CaseStatus::Usage),
+        WordsFault::Memory => CaseStatus::Memory,
+    }
+}
+
+/// Does what a request asks for over a shelf that takes the digests of what is read from it.
+fn run_over<'a, F: Shelf, K: Sink, O: DigestOpener>(
+    alloc: Global,
+    seed: HashSeed,
+    request: &FilingRequest,
+    shelf: &mut DigestShelf<'a, F>,
+    out: &mut K,
+    opener: &mut O,
+) -> Ended<O::Book>
+    ensures files { let shelves = ⟦<DigestShelf<'a, F> as Shelf>⟧ in
+        let r = reading_within longest_read shelves shelf.old shelf.new in
+        FilesRequest (filing_call r (O.state opener.old) (O.state opener.new)
+        (option_map O.Book.state result.book)) request.now (K.state out.old) (K.state out.new)
+        result.status }
+    ensures opener { KeepsDatabases (O.state opener.old) (O.state opener.new) }
+    ensures stays { SinkStays (K.state out.old) (K.state out.new) }
+{
+    let orders = filing_source(&request.logs.orders, request.logs.orders_form, seed);
+    let trades = filing_source(&request.logs.trades, request.logs.trades_form, seed);
+    match &request.command {
+        FilingCommand::File { rule, symbol } => {
+            let question = Question {
+                rule: *rule,
+                symbol: *symbol,
+                table: false,
+            };
+            let judged = judge_symbol(alloc, shelf, request, &question, &orders, &trades);
+            file_judged(alloc, request, judged, out, opener)
+        }
+        FilingCommand::FileAll { rule } => {
+            let judged = judge_day(alloc, shelf, request, *rule, &orders, &trades);
+            file_judged(alloc, request, judged, out, opener)
+        }
+        FilingCommand::Check => check(alloc, shelf, request, &orders, &trades, out, opener),
+    }
+}
+
+/// Does what a request asks for, with the logs under its names.
+fn run_request<F: Shelf, K: Sink, O: DigestOpener>(
+    alloc: Global,
+    seed: HashSeed,
+    request: &FilingRequest,
+    shelf: F,
+    out: &mut K,
+    opener: &mut O,
+) -> FilingEnd<F, O::Book>
+    requires fresh { (which : Which) → (F.slot shelf which).started ≡ false }
+    ensures files { let r = filing_reading F.Shelf request.now.logs shelf result.shelf in
+        FilesRequest (filing_call r (O.state opener.old) (O.state opener.new)
+        (option_map O.Book.state result.book)) request.now (K.state out.old) (K.state out.new)
+        result.status }
+    ensures opener { KeepsDatabases (O.state opener.old) (O.state opener.new) }
+    ensures stays { SinkStays (K.state out.old) (K.state out.new) }
+{
+    let (orders, trades) = (request.logs.orders.as_str(), request.logs.trades.as_str());
+    let mut taking = DigestShelf::over(shelf, orders, trades);
+    let Ended { status, book } = run_over(alloc, seed, request, &mut taking, out, opener);
+    FilingEnd {
+        status,
+        shelf: taking.into_shelf(),
+        book,
+    }
+}
+
+/// Files the verdicts on two logs in a database, with the digests of their bytes, or tells whether
+/// two logs are those of a case that is on file there. The status is answered; the shelf is handed
+/// back, and the keeper of what is on file, where the database was opened.
+///
+/// The words are those of `read_filing_words`. `Usage` comes exactly where they are not well-formed
+/// (`WriteFault` where the usage line could not be written), and the shelf is then as it was. Both
+/// logs are read and judged before the database is opened, and it is opened only to check, or where
+/// they come to cases that are to be filed. `ReadFault` comes only where a log could not be read,
+/// `TooLong` where one has more than 34,359,738,368 bytes, `Malformed` where one is not in its
+/// grammar, `KeeperFault` only where the database could not be opened or its keeper's faults rose,
+/// `WriteFault` only where the sink's did, and `Memory` where memory ran out. Only after `Done`,
+/// and after `WriteFault` in its place, something was filed: all cases of the command, or none. Of
+/// a log that was refused nothing is filed. What a command leaves of logs and of what is on file is
+/// one (`one_filing_turn`).
+///
+/// The hashes by which names are found begin with the fixed seed: see `run_filing_seeded` for logs
+/// whose names may have been chosen to make this slow.
+pub fn run_filing<F: Shelf, K: Sink, O: DigestOpener>(
+    alloc: Global,
+    words: &[String],
+    shelf: F,
+    out: &mut K,
+    opener: &mut O,
+) -> FilingEnd<F, O::Book>
+    requires fresh { (which : Which) → (F.slot shelf which).started ≡ false }
+    ensures files { FilesAsked F.Shelf shelf result.shelf
+        (filing_request_of (map string_bytes words.now)) (O.state opener.old) (O.state opener.new)
+        (option_map O.Book.state result.book) (K.state out.old) (K.state out.new) result.status }
+    ensures opener { KeepsDatabases (O.state opener.old) (O.state opener.new) }
+    ensures sink { SinkStays (K.state out.old) (K.state out.new) }
+    ensures one { OneFilingTurn }
+{
+    run_filing_seeded(alloc, HashSeed::fixed(), words, shelf, out, opener)
+}
+
+/// The same as `run_filing`, with hashes of this seed. No answer depends on the seed.
+pub fn run_filing_seeded<F: Shelf, K: Sink, O: DigestOpener>(
+    alloc: Global,
+    seed: HashSeed,
+    words: &[String],
+    shelf: F,
+    out: &mut K,
+    opener: &mut O,
+) -> FilingEnd<F, O::Book>
+    requires fresh { (which : Which) → (F.slot shelf which).started ≡ false }
+    ensures files { FilesAsked F.Shelf shelf result.shelf
+        (filing_request_of (map string_bytes words.now)) (O.state opener.old) (O.state opener.new)
+        (option_map O.Book.state result.book) (K.state out.old) (K.state out.new) result.status }
+    ensures opener { KeepsDatabases (O.state opener.old) (O.state opener.new) }
+    ensures sink { SinkStays (K.state out.old) (K.state out.new) }
+    ensures one { OneFilingTurn }
+{
+    one_filing_turn();
+    match read_filing_words(alloc, words) {
+        Ok(request) => run_request(alloc, seed, &request, shelf, out, opener),
+        Err(fault) => FilingEnd {
+            status: refuse_words(out, fault),
+            shelf,
+            book: None,
+        },
+    }
+}

@@ -1,0 +1,177 @@
+//! The words of `file`, `file-all` and `check`, read by hand: exactly the well-formed words are
+//! taken.
+ghost use Rattle.std.specs.Prelude.{◌≡◌, ◌+◌, ◌<◌, ◌≤◌, None, Some, drop, length, map};
+ghost use Rattle.std.specs.Prelude.{IfOk, IfSome, IsErr, IsErrOf, IsSome};
+ghost use Rattle.std.specs.String.{string_bytes};
+ghost use Rattle.desk_words.specs.Words.{form_options_in};
+ghost use Rattle.desk_filing.specs.Words as spec;
+
+use crate::requests::{FilingCommand, FilingRequest};
+use audit_base::faults::NoMemory;
+use audit_base::names::Name;
+use command_words::options::Options;
+use command_words::paths::{names_logs, path_of};
+use command_words::requests::WordsFault;
+use command_words::word_forms::{is_path, is_word, rule_named, symbol_named, word_at};
+use desk_words::commands::{day_logs, form_options_in};
+use std::alloc::Global;
+
+/// The label that the word is.
+fn label_named(word: &str) -> Option<Name>
+    ensures { result ≡ spec.label_named word.now }
+{
+    if is_word(word, b"then") {
+        return None;
+    }
+    symbol_named(word)
+}
+
+/// `file DATABASE LABEL RULE SYMBOL`, and ORDERS and TRADES behind them.
+fn file_named(words: &[String]) -> Option<FilingCommand>
+    ensures named { result ≡ spec.file_named (map string_bytes words.now) }
+    ensures long { IfSome result (λ command.
+        spec.index_of_logs command + 1 < length words.now) }
+{
+    if words.len() < 7 || !is_word(word_at(words, 0), b"file") {
+        return None;
+    }
+    let rule = rule_named(word_at(words, 3))?;
+    let symbol = symbol_named(word_at(words, 4))?;
+    Some(FilingCommand::File { rule, symbol })
+}
+
+/// `file-all DATABASE LABEL RULE`, and ORDERS and TRADES behind them.
+fn file_all_named(words: &[String]) -> Option<FilingCommand>
+    ensures named { result ≡ spec.file_all_named (map string_bytes words.now) }
+    ensures long { IfSome result (λ command.
+        spec.index_of_logs command + 1 < length words.now) }
+{
+    if words.len() < 6 || !is_word(word_at(words, 0), b"file-all") {
+        return None;
+    }
+    let rule = rule_named(word_at(words, 3))?;
+    Some(FilingCommand::FileAll { rule })
+}
+
+/// `check DATABASE LABEL`, and ORDERS and TRADES behind them.
+fn check_named(words: &[String]) -> Option<FilingCommand>
+    ensures named { result ≡ spec.check_named (map string_bytes words.now) }
+    ensures long { IfSome result (λ command.
+        spec.index_of_logs command + 1 < length words.now) }
+{
+    if words.len() < 5 || !is_word(word_at(words, 0), b"check") {
+        return None;
+    }
+    Some(FilingCommand::Check)
+}
+
+/// The command that the words name.
+fn filing_named(words: &[String]) -> Option<FilingCommand>
+    ensures named { result ≡ spec.filing_named (map string_bytes words.now) }
+    ensures long { IfSome result (λ command.
+        spec.index_of_logs command + 1 < length words.now) }
+{
+    if let Some(command) = file_named(words) {
+        return Some(command);
+    }
+    if let Some(command) = file_all_named(words) {
+        return Some(command);
+    }
+    check_named(words)
+}
+
+/// The place of ORDERS among the words of a command, from 0.
+fn index_of_logs(command: &FilingCommand) -> usize
+    ensures place { result ≡ spec.index_of_logs command.now }
+    ensures behind_label { 3 ≤ result }
+{
+    match command {
+        FilingCommand::File { .. } => 5,
+        FilingCommand::FileAll { .. } => 4,
+        FilingCommand::Check => 3,
+    }
+}
+
+/// The words behind both logs, of which the first is at this place.
+fn words_behind(words: &[String], place: usize) -> &[String]
+    requires { place + 1 < length words.now }
+    ensures { result.now ≡ drop (place + 2) words.now }
+{
+    &words[place + 2..]
+}
+
+/// What the words behind both logs say as options, if they say nothing but the forms of the logs.
+fn options_behind(words: &[String], place: usize) -> Option<Options>
+    requires { place + 1 < length words.now }
+    ensures { result ≡ form_options_in (drop (place + 2) (map string_bytes words.now)) }
+{
+    form_options_in(words_behind(words, place))
+}
+
+/// The request for a command whose logs are at this place. Takes no memory where there is none.
+fn request_for(
+    alloc: Global,
+    command: FilingCommand,
+    place: usize,
+    words: &[String],
+) -> Result<Option<FilingRequest>, NoMemory>
+    requires logs { place + 1 < length words.now }
+    requires behind_label { 3 ≤ place }
+    ensures request { IfOk result
+        (λ made. made ≡ spec.request_for command place (map string_bytes words.now)) }
+    ensures memory { IsErr result
+        → IsSome (spec.request_for command place (map string_bytes words.now)) }
+{
+    if !is_path(word_at(words, 1)) || !names_logs(words, place) {
+        return Ok(None);
+    }
+    let Some(label) = label_named(word_at(words, 2)) else {
+        return Ok(None);
+    };
+    let Some(said) = options_behind(words, place) else {
+        return Ok(None);
+    };
+    Ok(Some(FilingRequest {
+        command,
+        database: path_of(alloc, word_at(words, 1))?,
+        label,
+        logs: day_logs(alloc, words, place, &said)?,
+    }))
+}
+
+/// What words ask for, if they are well-formed.
+fn filing_request_in(alloc: Global, words: &[String]) -> Result<Option<FilingRequest>, NoMemory>
+    ensures request { IfOk result
+        (λ made. made ≡ spec.filing_request_of (map string_bytes words.now)) }
+    ensures memory { IsErr result → IsSome (spec.filing_request_of (map string_bytes words.now)) }
+{
+    let Some(command) = filing_named(words) else {
+        return Ok(None);
+    };
+    let place = index_of_logs(&command);
+    request_for(alloc, command, place, words)
+}
+
+/// What the words ask for, one row a command:
+///
+/// - `file DATABASE LABEL RULE SYMBOL ORDERS TRADES`;
+/// - `file-all DATABASE LABEL RULE ORDERS TRADES`;
+/// - `check DATABASE LABEL ORDERS TRADES`;
+///
+/// and after them, in any order and each at most once, `--orders-form FORM` and `--trades-form
+/// FORM`. DATABASE, ORDERS and TRADES are paths, LABEL and SYMBOL names of 1 to 64 bytes that do
+/// not begin with `-`, and LABEL is not `then`. `Usage` comes exactly where the words are not
+/// well-formed, and takes no memory. `Memory` comes only where they are, and there was not enough.
+pub fn read_filing_words(alloc: Global, words: &[String]) -> Result<FilingRequest, WordsFault>
+    ensures request { IfOk result
+        (λ request. spec.filing_request_of (map string_bytes words.now) ≡ Some request) }
+    ensures usage { IsErrOf result WordsFault.Usage
+        → spec.filing_request_of (map string_bytes words.now) ≡ None }
+    ensures decided { spec.filing_request_of (map string_bytes words.now) ≡ None
+        → IsErrOf result WordsFault.Usage }
+{
+    match filing_request_in(alloc, words)? {
+        Some(request) => Ok(request),
+        None => Err(WordsFault::Usage),
+    }
+}

@@ -1,0 +1,28 @@
+//! Writing the one text of a call.
+ghost use Rattle.case_run.specs.Turns.{EndsWithinOrHalts};
+ghost use Rattle.desk_filing.specs.Runs.{EndsWithinOrAnswers, FilingCall, RunsRequest};
+ghost use Rattle.desk_filing.specs.Steps.{DecidesRequest};
+ghost use Rattle.desk_filing.specs.declared.requests.FilingRequest.{FilingRequest};
+ghost use Rattle.log_source.specs.Sinks.{SinkStays};
+ghost use Rattle.log_verdict.specs.Steps.{Reading};
+
+use crate::answers::FilingAnswer;
+use case_run::halts::Halt;
+use case_run::statuses::CaseStatus;
+use case_run::writing::{write_halt, write_text};
+use log_source::sink::Sink;
+
+/// Writes the text of an answer, or the line of a halt, and answers the status. Whatever decided
+/// that, the status has its cause in it.
+pub(crate) fn write_decided<K: Sink>(out: &mut K, decided: Result<FilingAnswer, Halt>) -> CaseStatus
+    ensures runs { (call : FilingCall) (request : FilingRequest)
+        → DecidesRequest call request decided
+        → RunsRequest call request (K.state out.old) (K.state out.new) result }
+    ensures length { (r : Reading) → EndsWithinOrHalts r decided → EndsWithinOrAnswers r result }
+    ensures stays { SinkStays (K.state out.old) (K.state out.new) }
+{
+    match decided {
+        Ok(answer) => write_text(out, &answer.text, answer.status),
+        Err(halt) => write_halt(out, halt),
+    }
+}

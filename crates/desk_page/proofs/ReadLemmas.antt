@@ -1,0 +1,70 @@
+-- Two logs that were read to their ends have the digests of what the shelf has, and give the page.
+use Rattle.std.proofs.Common.{◌≡◌, ◌∙◌, sym, ap, ℕ, Bool, true, false, List, Option, Some, Result, Ok, Err}
+use Rattle.std.specs.Prelude.{option_map, MatchResult}
+use Rattle.audit_base.specs.declared.faults.BadPlace.{BadPlace}
+use Rattle.audit_base.specs.declared.findings.Finding.{Finding}
+use Rattle.audit_base.specs.declared.records.OrderRecord.{OrderRecord}
+use Rattle.audit_base.specs.declared.records.TradeRecord.{TradeRecord}
+use Rattle.audit_base.specs.declared.terms.Which.{Which}
+use Rattle.audit_base.specs.declared.terms.Which.TheVariants.{Orders, Trades}
+use Rattle.audit_report.specs.declared.verdicts.Verdict.TheVariants as verdict
+use Rattle.command_run.specs.declared.answers.Answer.{Answer}
+use Rattle.command_run.specs.Deciding.{IsAnswerOfKind}
+use Rattle.command_run.specs.VerdictAnswers.{IsVerdictAnswer}
+use Rattle.log_digests.specs.Digests.{digest_of}
+use Rattle.log_digests.specs.DigestShelves.{IsDigestAtEnd}
+use Rattle.log_verdict.specs.declared.sources.Source.{Source}
+use Rattle.log_verdict.specs.BothLogs.{ReadsAfterOrders, ReadsLogs, ReadsUpToRule}
+use Rattle.log_verdict.specs.LogVerdicts.{records_of_order_log, trades_of_trade_log}
+use Rattle.log_verdict.specs.Steps.{Reading}
+use Rattle.desk_page.specs.declared.page_logs.PageDigests.{PageDigests}
+use Rattle.desk_page.specs.declared.requests.PageRequest.{PageRequest}
+use Rattle.desk_page.specs.PageAnswers.{IsAnswerByPresence, IsAnswerToRecords, logs_in, page_question, Pictures}
+use Rattle.desk_page.specs.PageLogs.{AreDigestsOf}
+use Rattle.desk_page.specs.Telling.{IsDigestedAnswer, IsNamedByPresence}
+use Rattle.record_verdict.specs.declared.before_rule.BeforeRule.{BeforeRule}
+use Rattle.record_verdict.specs.declared.before_rule.BeforeRule.TheVariants as before_rule
+use Rattle.record_verdict.specs.BeforeRule.{IsBeforeRule}
+use Rattle.record_verdict.specs.Scopes.{scope_of}
+use Rattle.symbol_offences.specs.OffenceAnswers.{is_absent}
+
+-- the digest of a log, by what is known of the shelf before
+of-log : (tells told : Bool) (known log : Option (List ℕ)) (digest : List ℕ) → told ≡ tells → log ≡ known → (told ≡ true → option_map digest_of log ≡ Some digest)
+    → tells ≡ true → option_map digest_of known ≡ Some digest
+of-log tells told known log digest is-told is-log has told-so = ap (option_map digest_of) (sym is-log) ∙ has (is-told ∙ told-so)
+
+module _ (is_picture : Pictures) (r : Reading) (request : PageRequest) (orders trades : Source) (digests : PageDigests) (given : BeforeRule) (answer : Answer) (digested : IsDigestedAnswer is_picture request digests given answer)
+    (tells : Bool) (log_of : Which → List ℕ → Option (List ℕ)) (is-told : tells ≡ r.tells) (logs : (log : Which) (name : List ℕ) → log_of log name ≡ r.log_of log name)
+    (first : IsDigestAtEnd tells (log_of Orders request.logs.orders) (r.after Orders) digests.orders) (second : IsDigestAtEnd tells (log_of Trades request.logs.trades) (r.after Trades) digests.trades) where
+  abbrev of_records : List OrderRecord → Result (List TradeRecord) Finding → Type 0
+  of_records entries paired = IsAnswerOfKind (IsAnswerToRecords is_picture (logs_in r) request entries paired) answer
+
+  abbrev of_bad : Which → BadPlace → Type 0
+  of_bad log bad = IsAnswerOfKind (IsVerdictAnswer (verdict.Malformed log bad)) answer
+
+  -- a page that names the logs has their digests
+  by-presence : AreDigestsOf (logs_in r) request.logs digests → (entries : List OrderRecord) (paired : Result (List TradeRecord) Finding) (absent : Bool)
+      → IsAnswerOfKind (IsNamedByPresence absent is_picture (page_question request) digested.named entries paired) answer → IsAnswerOfKind (IsAnswerByPresence absent is_picture (logs_in r) request entries paired) answer
+  by-presence are entries paired true is = is
+  by-presence are entries paired false is = record { digests = digests; are_digests = are; named = digested.named; names = digested.names; page = is }
+
+  by-trades : AreDigestsOf (logs_in r) request.logs digests → (entries : List OrderRecord) (said : Result (Result (List TradeRecord) Finding) BadPlace)
+      → MatchResult said (λ paired. IsBeforeRule (scope_of (page_question request)) entries paired given) (λ bad. given ≡ before_rule.Malformed Trades bad) → MatchResult said (of_records entries) (of_bad Trades)
+  by-trades are entries (Ok paired) holds = by-presence are entries paired (is_absent request.symbol entries paired) (digested.told.of_records entries paired holds)
+  by-trades are entries (Err bad) holds = digested.told.of_place Trades bad holds
+
+  pub reads-page : ReadsUpToRule r (scope_of (page_question request)) orders trades given → ReadsLogs r orders trades of_records of_bad
+  reads-page is = record { bytes = is.bytes; read = is.read; holds = after (records_of_order_log orders.form is.bytes) is.holds }
+    where
+      after : (said : Result (List OrderRecord) BadPlace)
+          → ReadsAfterOrders r trades (λ entries paired. IsBeforeRule (scope_of (page_question request)) entries paired given) (λ log bad. given ≡ before_rule.Malformed log bad) said
+          → ReadsAfterOrders r trades of_records of_bad said
+      after (Err bad) holds = (digested.told.of_place Orders bad holds.0, holds.1)
+      after (Ok entries) holds = record {
+        bytes = holds.bytes;
+        read = holds.read;
+        holds = by-trades (record {
+          of_orders = of-log r.tells tells (r.log_of Orders request.logs.orders) (log_of Orders request.logs.orders) digests.orders is-told (logs Orders request.logs.orders) (λ t. first t is.read.started is.read.at_end);
+          of_trades = of-log r.tells tells (r.log_of Trades request.logs.trades) (log_of Trades request.logs.trades) digests.trades is-told (logs Trades request.logs.trades) (λ t. second t holds.read.started holds.read.at_end);
+        }) entries (trades_of_trade_log trades.form holds.bytes) holds.holds;
+      }

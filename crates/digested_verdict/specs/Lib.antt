@@ -1,2 +1,0 @@
--- What a reader must believe: whose digests stand beside a verdict.
-pub mod DigestedVerdicts

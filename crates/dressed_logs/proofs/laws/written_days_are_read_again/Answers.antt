@@ -1,5 +1,0 @@
-use Rattle.dressed_logs.proofs.LogLemmas.{written-days}
-use Rattle.dressed_logs.proofs.laws.written_days_are_read_again.Goals as goal
-
-pub returns : goal.returns
-returns c = record { framed = written-days }

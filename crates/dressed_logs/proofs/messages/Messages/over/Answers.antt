@@ -1,5 +1,0 @@
-use Rattle.dressed_logs.proofs.MessageLemmas.{nothing-read}
-use Rattle.dressed_logs.proofs.messages.Messages.over.Goals as goal
-
-pub returns-clause-stands : goal.returns-clause-stands
-returns-clause-stands g c = nothing-read (g.B.Bodies.has_taken c.args.bodies) _ c.new.ensures.stands c.new.ensures.empty c.requires

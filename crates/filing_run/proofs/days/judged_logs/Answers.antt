@@ -1,4 +1,0 @@
-use Rattle.filing_run.proofs.days.judged_logs.Goals as goal
-
-pub returns-in-Read : goal.returns-in-Read
-returns-in-Read c = rw c.in-Read.is c.judged_day.ensures

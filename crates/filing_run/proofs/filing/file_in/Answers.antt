@@ -1,6 +1,0 @@
-use Rattle.std.proofs.Common.{refl}
-use Rattle.filing_run.proofs.KeeperLemmas.{files_known}
-use Rattle.filing_run.proofs.filing.file_in.Goals as goal
-
-pub returns-in_ok-known_text-in-Some-clause-files : goal.returns-in_ok-known_text-in-Some-clause-files
-returns-in_ok-known_text-in-Some-clause-files g c = files_known _ _ c.args.cases.now c.in-Some.known _ (rw c.in-Some.is at c.in_ok-known.ensures) refl c.in_ok-known_text-in-Some.ensures

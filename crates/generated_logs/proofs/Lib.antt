@@ -1,3 +1,0 @@
-mod FormLemmas
-mod TextLemmas
-mod WriteLemmas

@@ -1,5 +1,0 @@
--- Lemmas about what is kept.
-pub mod NameRowLemmas
-pub mod KeptLemmas
-pub mod TradeLemmas
-pub mod NumberedLemmas

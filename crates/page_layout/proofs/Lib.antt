@@ -1,3 +1,0 @@
-mod AxisLemmas
-mod TickLemmas
-mod RoundLemmas

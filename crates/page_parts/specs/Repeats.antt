@@ -1,0 +1,36 @@
+-- How a verdict is seen again: the words of `auditor audit` for its question, and the digests.
+use Rattle.std.specs.Prelude.{ℕ, List, [], ◌++◌, codes}
+use Rattle.audit_base.specs.declared.terms.Form.{Form}
+use Rattle.audit_base.specs.declared.terms.Form.TheVariants.{Csv, Fix}
+use Rattle.audit_base.specs.Words.{rule_word}
+use Rattle.page_markup.specs.declared.words.Tag.TheVariants as tag
+use Rattle.page_parts.specs.Elements.{text_element}
+use Rattle.page_parts.specs.declared.repeats.PageLogs.{PageLogs}
+use Rattle.page_parts.specs.declared.sentences.VerdictInWords.{VerdictInWords}
+use Rattle.page_parts.specs.ShellWords.{next_word}
+
+-- the option that names the form of a log, which CSV needs not
+abbrev pub form_option : List ℕ → Form → List ℕ
+form_option option Csv = []
+form_option option Fix = next_word option ++ next_word (codes "fix")
+
+-- the options of both logs
+abbrev pub form_options : PageLogs → List ℕ
+form_options logs = form_option (codes "--orders-form") logs.orders_form
+    ++ form_option (codes "--trades-form") logs.trades_form
+
+-- the command that gives the verdict
+abbrev pub command_text : VerdictInWords → PageLogs → List ℕ
+command_text said logs = codes "auditor audit" ++ next_word (rule_word said.rule)
+    ++ next_word said.symbol ++ next_word logs.orders.now ++ next_word logs.trades.now
+    ++ form_options logs
+
+-- the digest of a log behind its name
+abbrev pub digest_part : List ℕ → List ℕ → List ℕ
+digest_part words digits = text_element tag.Paragraph words ++ text_element tag.Code digits
+
+-- how the verdict is seen again
+abbrev pub repeat_text : VerdictInWords → PageLogs → List ℕ
+repeat_text said logs = text_element tag.Code (command_text said logs)
+    ++ digest_part (codes "SHA-256 of the order log") logs.orders_digest.now
+    ++ digest_part (codes "SHA-256 of the trade log") logs.trades_digest.now

@@ -1,6 +1,0 @@
-use Rattle.std.specs.Prelude.{◌≡◌, ◌++◌}
-use Rattle.page_table.specs.Elements.{gaps}
-use Rattle.page_table.proofs.cells.with_gaps.Given as goal
-
-abbrev pub invariant-loop-cell : goal.invariant-loop-cell
-invariant-loop-cell l = l.row ≡ l.fn.row ++ gaps l.cell

@@ -1,2 +1,0 @@
-mod SessionLemmas
-mod LawLemmas

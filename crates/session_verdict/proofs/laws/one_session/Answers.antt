@@ -1,5 +1,0 @@
-use Rattle.session_verdict.proofs.LawLemmas.{session-is-one}
-use Rattle.session_verdict.proofs.laws.one_session.Goals as goal
-
-pub returns : goal.returns
-returns c = session-is-one c.one_day_offence.ensures
