@@ -1,8 +1,13 @@
 //! Verdicts and how they are written: the text that a desk reads, line by line, and the status that
-//! the program ends with. The definitions in `specs/` say each line as a function of its parts.
+//! the program ends with.
 //!
-//! How a day is written: the line that counts its symbols, and the lines of each symbol's
-//! report with the symbol before them, so that each line of a day says of itself whose it is.
+//! Here: `verdicts` and `statuses` are what is told, `reports` and `lines` how; `summaries`,
+//! `certificates` and `tables` have the lines of other commands. A day of symbols is written as the
+//! line that counts them (`day_line`), then each report with its symbol before each line, so that a
+//! line says of itself whose it is (`symbol_lines`).
+//!
+//! Proved: each text is exactly the function of its parts that `specs/` says. Nothing is computed
+//! here that a rule decides.
 #![tactic(auto)]
 
 pub mod certificates;

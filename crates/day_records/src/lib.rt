@@ -1,26 +1,15 @@
-//! The trade log of a day: the records of each symbol of a share, in one pass over the trades of
-//! all symbols.
+//! What is kept of each symbol of a day: its order records, then its trades, each log in one pass
+//! over the records of all symbols.
 //!
-//! It begins with what the order log gave. A trade is kept with the records of its symbol, which is
-//! found by one look-up of its hash; the symbols of trades that no order record has come after the
-//! others. Of a symbol outside the share the name alone is kept.
+//! Here: `kept_orders` and `kept_trades` keep the records of one symbol small; `day_orders` and
+//! `day_trades` keep those of every symbol of a share, found by one look-up of its hash; when a
+//! symbol is judged, `symbol_records` and `symbol_trades` make its orders and deals of them.
 //!
-//! A symbol takes the memory of its records alone until it is judged. Then `SymbolRecords::resolve`
-//! makes its orders and deals of them, or the finding about its orders.
+//! Proved: what is kept is the records, in their order and with their places; what is made of them
+//! is what the logs give of this symbol alone. Not proved: how much memory that takes.
 //!
-//! The order log of a day: the records of each symbol of a share, in one pass over the records of
-//! all symbols.
-//!
-//! A record is kept with those of its symbol, which is found by one look-up of its hash, and with
-//! its place in the log. Histories are made of them one symbol after another, when each is judged.
-//! The symbols are in the order in which they appear first. Of a symbol outside the share the name
-//! alone is kept.
-//!
-//! The records of one symbol of a day, kept small until the symbol is judged.
-//!
-//! An order with its key in a table takes several growing vectors, and a day of a thousand symbols
-//! then touches a dozen places in memory for each record. Kept records are two vectors: the names
-//! one after another, and all else in 56 bytes a record.
+//! Costs: an order record 56 bytes and its names, in two vectors, since an order with its key in a
+//! table touches a dozen places in memory. Of a symbol outside the share the name alone is kept.
 #![tactic(auto)]
 
 pub mod day_orders;

@@ -1,10 +1,11 @@
 -- What a reader must believe, in the order in which it is read: what a call answers, writes and
--- leaves on file; what one command leaves, and that it is one; what was read of the logs; what
--- opens databases; the words and the lines.
+-- leaves on file; what one command leaves, and that it is one; what was read of the logs; whose
+-- digests stand beside a verdict; what opens databases; the words and the lines.
 pub mod Runs
 pub mod Turns
 pub mod Laws
 pub mod Causes
+pub mod DigestedVerdicts
 pub mod DigestOpeners
 pub mod Words
 pub mod Lines
@@ -13,5 +14,3 @@ pub mod Steps
 pub mod Judging
 pub mod Days
 pub mod MemoryOpeners
--- What a reader must believe: whose digests stand beside a verdict.
-pub mod DigestedVerdicts

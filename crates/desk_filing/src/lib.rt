@@ -2,13 +2,13 @@
 //! filed in a database, with the digests of the bytes that they are on, and logs are compared with
 //! a case that was filed.
 //!
-//! `running::run_filing` is the top call. It reads the words (`words`) into a request (`requests`),
-//! judges the two logs while a shelf takes their digests (`judging`), then opens the database
-//! (`opener`, `databases`) and files the cases (`filing`), or tells what is not as a case has it
-//! (`checking`, `differences`). Its contract cites what one command leaves, which is said over the
-//! bytes of the logs and what is on file (`specs/Turns`), and is one (`laws`).
+//! Here: `running::run_filing` is the top call. It reads the words (`words`) into a request
+//! (`requests`), judges the two logs while a shelf takes their digests (`judging`, by
+//! `digested_verdicts`, in one pass over each), then opens the database (`opener`, `databases`) and
+//! files the cases (`filing`), or tells what is not as a case has it (`checking`, `differences`).
 //!
-//! The verdict on two logs with the digests of both, from one pass over each.
+//! Proved: what one command leaves is said over the bytes of the logs and what is on file
+//! (`specs/Turns`), and is one (`laws`). Not proved: what the database has on its disk.
 #![tactic(auto)]
 
 mod answers;

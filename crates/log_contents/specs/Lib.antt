@@ -1,4 +1,5 @@
--- What a reader must believe: what the contents of a log are, by counts and first appearances.
+-- What a reader must believe: what the contents of a log are, by counts and first appearances, what
+-- an order log and a trade log have, and what came of reading one.
 pub mod Contents
 pub mod Counts
 pub mod Facts
@@ -7,6 +8,5 @@ pub mod Laws
 pub mod MessageFeeds
 pub mod Summaries
 pub mod Texts
--- What a reader must believe: what an order log and a trade log have, and what came of reading one.
 pub mod DayItems
 pub mod DayReading

@@ -1,12 +1,12 @@
-//! Every offence of a log: the findings behind the one that its verdict tells. The definitions are
-//! the findings of the rules, asked of each deal, or of each place of continuous trading.
+//! Every offence of a log: the findings behind the one that its verdict tells, and how they are
+//! written.
 //!
-//! The list begins with the finding of the verdict and is empty where the log is accepted: `laws`
-//! has that. Nothing is computed here but what kind a first finding is of; the lists are made by
-//! the crates above.
+//! Here: `offences` has what an offence is, and `kinds` what a first finding is of; `offence_lines`
+//! writes a line for each, and how many there are. The lists are made by the crates above.
 //!
-//! How a list of offences is written: a line for each, and how many there are. The text of a
-//! rejected log stands before them, as an audit writes it.
+//! Proved: the definitions are the findings of the rules, asked of each deal, or of each place of
+//! continuous trading; the list begins with the finding of the verdict and is empty where the log
+//! is accepted (`laws`); each text is exactly that of its list (`text_laws`).
 #![tactic(auto)]
 
 pub mod answers;
