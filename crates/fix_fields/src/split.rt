@@ -73,31 +73,10 @@ pub fn read_fields(body: &[u8], list: &mut Vec<Field>) -> Result<(), FieldFault>
     refill(body, ends_of(body), list)
 }
 
-/// Reads the fields of the body that the first `size` bytes of a text are, as `read_fields` does.
-/// The bytes after the body change nothing: where there are some, the last fields of the body
-/// are found as fast as the others.
-pub fn read_front_fields(text: &[u8], size: usize, list: &mut Vec<Field>) -> Result<(), FieldFault>
-    requires inside { size ≤ length text.now }
-    requires short { size ≤ longest_body }
-
-    // What each answer says.
-    ensures fields { OnOk result (AreFieldsOf (take size text.now) list.new.items) }
-    ensures fault { IfErr result (λ e. RefusesBody (take size text.now) e) }
-    ensures empty { OnErr result (list.new.items ≡ []) }
-
-    // Each comes wherever what it says holds, unless memory runs out.
-    ensures reads { (fs : List TagValue) → Fields (take size text.now) fs
-        → OrMemory result (IsOk result) }
-    ensures unreadable { (n : ℕ) → IsUnreadable (take size text.now) n
-        → OrMemory result (IsErrOf result (FieldFault.Field n)) }
-    ensures untyped { LacksType (take size text.now)
-        → OrMemory result (IsErrOf result FieldFault.MsgType) }
-{
-    refill(&text[..size], ends_of_front(text, size), list)
-}
-
 /// Notes where the values of tags are in the body that the first `size` bytes of a text are, in
-/// place of what was noted before. The answer is that of `read_front_fields`.
+/// place of what was noted before. The answer is that of `read_fields` of this body. The bytes after
+/// the body change nothing: where there are some, the last fields of the body are found as fast as
+/// the others.
 pub fn note_front_fields(text: &[u8], size: usize, notes: &mut TagNotes) -> Result<(), FieldFault>
     requires inside { size ≤ length text.now }
     requires short { size ≤ longest_body }
