@@ -13,11 +13,12 @@ use Rattle.audit_base.specs.declared.findings.Property.TheVariants as property
 use Rattle.audit_base.specs.Least.{least_answer, any_below, first_answer}
 use Rattle.audit_base.specs.Orders.{order_at, place_at, side_at, limit_at, same_side, may_rest}
 use Rattle.audit_base.specs.Priority.{better, Better}
-use Rattle.audit_base.specs.Deals.{deal_past_end, deal_at, names_order, NamesOrders, DealInRange}
+use Rattle.audit_base.specs.Deals.{deal_past_end, deal_at, names_order, KeepsLimits, NamesOrders, DealInRange}
 use Rattle.audit_base.specs.CallOffences.{keeps_limits}
 use Rattle.audit_base.specs.Continuous.{cause, resting_order, incoming_order, traded_before, traded_at, entered_in_ledger, size_in_ledger, size_where_entered, left_before_in_ledger, rests_before_in_ledger, active_after_in_ledger, uncancelled_before}
-use Rattle.audit_base.specs.ContinuousRules.{KeepsLimits, Conservation, Spread, ConformsAt, ConformsContinuous}
+use Rattle.audit_base.specs.ContinuousRules.{Conservation, Spread, ConformsAt, ConformsContinuous}
 use Rattle.audit_base.specs.ContinuousOffences.{traded_upto, continuous_inactive_finding, continuous_limit_finding, size_finding, conservation_finding, waits_ahead, resting_priority_finding, active_after_on_side, active_orders_meet, spread_finding, finding_at_place, IsContinuousOffence}
+use Rattle.audit_base.proofs.DealLemmas.{test-limits, limits-test}
 use Rattle.audit_base.proofs.OrderLemmas.{is-same_side, same_side-is}
 use Rattle.audit_base.proofs.SumLemmas.{sum_by-add, sum_by-same, sum_by-none}
 use Rattle.audit_base.proofs.LeastLemmas.{none_some, option_or-parts, none-below, least-none, none-any, any-found}
@@ -134,8 +135,7 @@ module _ (orders : List Order) (deals : List Deal) (i : ℕ) (calm : (j : ℕ) �
       limits = All-deals (λ d. cause orders d ≡ i → KeepsLimits orders d) deals (λ k lt at.
           let f = each k lt at in
           let d = deal_at deals k in
-          let parts = and_parts (nat_le (limit_at orders d.ask) d.price) (nat_le d.price (limit_at orders d.bid)) f.limits in
-          record { least = leb-true _ _ parts.0; most = leb-true _ _ parts.1 });
+          test-limits orders d f.limits);
       resting = All-deals (λ d. cause orders d ≡ i → rests_before_in_ledger orders (traded_before orders deals) i (resting_order orders d) ≡ true) deals (λ k lt at. (each k lt at).rested);
       within = λ x lt.
           let all : traded_before orders deals i x + traded_at orders deals i x ≤ size_in_ledger orders (traded_before orders deals) x =
@@ -312,7 +312,7 @@ module _ (orders : List Order) (deals : List Deal) (named : All (NamesOrders ord
       let d = deal_at deals k in
       let past = traded_before orders deals in
       let n = named k deal_past_end lt in
-      let some = (ranges k deal_past_end lt).some in
+      let some = (ranges k deal_past_end lt).sized.some in
       let limits = c.conservation.limits k deal_past_end lt at in
       let bid_in = c.conservation.within d.bid n.bid_inside in
       let ask_in = c.conservation.within d.ask n.ask_inside in
@@ -322,7 +322,7 @@ module _ (orders : List Order) (deals : List Deal) (named : All (NamesOrders ord
       record {
         rested = c.conservation.resting k deal_past_end lt at;
         arrived = size-entered orders past (incoming_order orders d) (omega arith);
-        limits = and_from _ _ (le-leb _ _ limits.least) (le-leb _ _ limits.most);
+        limits = limits-test orders d limits;
         bid_within = omega (arith, upto-most orders deals i k d.bid, bid_in);
         ask_within = omega (arith, upto-most orders deals i k d.ask, ask_in);
       }

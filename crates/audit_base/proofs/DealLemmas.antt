@@ -1,24 +1,33 @@
 -- Sums over deals: Traded sums to Volume on each side, and no property depends on the order of the deals.
 use Rattle.std.proofs.Common.{◌≡◌, ◌≢◌, ◌≤◌, ◌<◌, ℕ, suc, List, length, Bool, true, false, cond, refl, sym, ap, ◌∙◌, arith, inl, inr, sum_by, All, subst}
-use Rattle.std.specs.Prelude.{◌&&◌, ◌==◌, IsPermutation, nat_lt}
-use Rattle.std.proofs.lemmas.Bool.{cases_Bool, or_left, or_right, or_from, ne_eqb, eq-eqb, cond-true, cond-false}
+use Rattle.std.specs.Prelude.{◌&&◌, ◌==◌, IsPermutation, nat_lt, nat_le}
+use Rattle.std.proofs.lemmas.Bool.{cases_Bool, or_left, or_right, or_from, ne_eqb, eq-eqb, cond-true, cond-false, and_parts, and_from, leb-true, le-leb}
 use Rattle.std.proofs.lemmas.List.Sorted.{sum_by-IsPermutation, All-permutation}
 use Rattle.audit_base.specs.declared.terms.Side.{Side}
 use Rattle.audit_base.specs.declared.terms.Side.TheVariants.{Buy, Sell}
 use Rattle.audit_base.specs.declared.orders.Order.{Order}
 use Rattle.audit_base.specs.declared.orders.Deal.{Deal}
 use Rattle.audit_base.specs.Sums.{sum_below}
-use Rattle.audit_base.specs.Orders.{side_at, limit_at, same_side}
+use Rattle.audit_base.specs.Orders.{order_at, side_at, limit_at, same_side}
 use Rattle.audit_base.specs.Priority.{Better}
-use Rattle.audit_base.specs.Deals.{names_order, quantity_traded_by, traded, pair, volume, NamesOrders}
+use Rattle.audit_base.specs.Deals.{names_order, quantity_traded_by, traded, pair, volume, is_price_within, KeepsLimits, NamesOrders}
 use Rattle.audit_base.specs.Calls.{IsMatchingDeal, Matching, Fair, OnePrice, Greatest, GreatestUniform, ConformsFair, ConformsUniform, ConformsMaximum}
 use Rattle.audit_base.specs.Continuous.{cause, resting_order, traded_before, size_in_ledger, left_before_in_ledger, rests_before_in_ledger, active_after_in_ledger}
-use Rattle.audit_base.specs.ContinuousRules.{KeepsLimits, ConformsAt, ConformsContinuous}
+use Rattle.audit_base.specs.ContinuousRules.{ConformsAt, ConformsContinuous}
 use Rattle.audit_base.proofs.SumLemmas.{sum_by-below, sum_by-same, sum_by-none, below-same, below-single}
 use Rattle.audit_base.proofs.OrderLemmas.{not_both_sides, same_side-is, is-same_side}
 
 pub keeps-names : (orders : List Order) (d : Deal) → IsMatchingDeal orders d → NamesOrders orders d
 keeps-names orders d k = record { bid_inside = k.bid_stands.inside; ask_inside = k.ask_stands.inside; buys = k.bid_stands.of_side; sells = k.ask_stands.of_side }
+
+-- the test of the limits says that the deal keeps them, and the other way round
+pub test-limits : (orders : List Order) (d : Deal) → is_price_within (order_at orders d.bid) (order_at orders d.ask) d ≡ true → KeepsLimits orders d
+test-limits orders d is =
+    let parts = and_parts (nat_le (limit_at orders d.ask) d.price) (nat_le d.price (limit_at orders d.bid)) is in
+    record { least = leb-true _ _ parts.0; most = leb-true _ _ parts.1 }
+
+pub limits-test : (orders : List Order) (d : Deal) → KeepsLimits orders d → is_price_within (order_at orders d.bid) (order_at orders d.ask) d ≡ true
+limits-test orders d keeps = and_from _ _ (le-leb _ _ keeps.least) (le-leb _ _ keeps.most)
 
 -- the part of a deal that belongs to its bid, and to its ask, is its quantity
 pub part-bid : (d : Deal) → quantity_traded_by d.bid d ≡ d.quantity

@@ -15,7 +15,7 @@ use Rattle.audit_base.specs.declared.records.TradeRecord.{TradeRecord}
 use Rattle.audit_base.specs.declared.orders.Order.{Order}
 use Rattle.audit_base.specs.declared.orders.Deal.{Deal}
 use Rattle.audit_base.specs.declared.findings.OrderLine.{OrderLine}
-use Rattle.audit_base.specs.Numbers.{market_price}
+use Rattle.audit_base.specs.Numbers.{is_quantity, market_price, price_end}
 use Rattle.audit_base.specs.Orders.{side_at, same_side}
 use Rattle.audit_base.specs.Priority.{best_order}
 use Rattle.audit_base.specs.Deals.{NamesOrders, DealInRange, DealsInRange}
@@ -25,6 +25,7 @@ use Rattle.audit_base.specs.CallOffences.{call_inactive_finding, call_limit_find
 use Rattle.audit_base.specs.Continuous.{traded_before, traded_at, chain, chain_traded_in_ledger, entered_in_ledger, size_in_ledger, rests_before_in_ledger, active_after_in_ledger}
 use Rattle.audit_base.specs.ContinuousOffences.{continuous_inactive_finding, continuous_limit_finding, size_finding, resting_priority_finding, active_orders_meet, spread_finding}
 use Rattle.audit_base.specs.Expected.{pair_deals, available_quantity, pair_share}
+use Rattle.audit_base.proofs.NumberLemmas.{test-quantity}
 use Rattle.audit_base.proofs.OrderLemmas.{same_side-is}
 use Rattle.audit_base.proofs.ContinuousOffenceLemmas.{IsLast}
 
@@ -102,13 +103,12 @@ all_named orders (d ∷ ds) t =
 
 -- whether the numbers of a deal are in range, as a test
 abbrev pub range_test : Deal → Bool
-range_test d = nat_lt 0 d.quantity && nat_le d.quantity (10 ^ 12) && nat_lt d.price (10 ^ 18)
+range_test d = is_quantity d.quantity && nat_lt d.price price_end
 
 test-range : (d : Deal) → range_test d ≡ true → DealInRange d
 test-range d t =
-    let parts = and_parts (nat_lt 0 d.quantity && nat_le d.quantity (10 ^ 12)) (nat_lt d.price (10 ^ 18)) t in
-    let quantity = and_parts (nat_lt 0 d.quantity) (nat_le d.quantity (10 ^ 12)) parts.0 in
-    record { some = ltb-true _ _ quantity.0; most = leb-true _ _ quantity.1; priced = ltb-true _ _ parts.1 }
+    let parts = and_parts (is_quantity d.quantity) (nat_lt d.price price_end) t in
+    record { sized = test-quantity d.quantity parts.0; priced = ltb-true _ _ parts.1 }
 
 pub all_in_range : (deals : List Deal) → list_all range_test deals ≡ true → DealsInRange deals
 all_in_range [] t = All-nil DealInRange

@@ -8,7 +8,7 @@ use Rattle.std.proofs.lemmas.List.{length-append}
 use Rattle.audit_base.specs.Digits.{fixed_digits, fraction_digits}
 use Rattle.audit_base.specs.Moments.{Moment}
 use Rattle.audit_base.specs.Names.{is_name, is_name_byte}
-use Rattle.audit_base.specs.Numbers.{point_and_digits, price_text}
+use Rattle.audit_base.specs.Numbers.{greatest_quantity, point_and_digits, price_end, price_text}
 use Rattle.audit_base.specs.Stamps.{clock_text, date_text, nano_text, stamp_text}
 use Rattle.audit_base.proofs.StampLemmas.{length-clock_text, length-date_text}
 use Rattle.audit_base.proofs.UnquotedLemmas.{decimal_is_unquoted, price_is_unquoted, stamp_is_unquoted}
@@ -47,7 +47,7 @@ stamp_is_name stamp =
 decimal-some : (number : ℕ) → number < 2 ^ 64 → 1 ≤ length (decimal number)
 decimal-some number below = (decimal_is_IsNumeral number below).0.0
 
-pub quantity_is_name : (quantity : ℕ) → quantity ≤ 10 ^ 12 → is_name (decimal quantity) ≡ true
+pub quantity_is_name : (quantity : ℕ) → quantity ≤ greatest_quantity → is_name (decimal quantity) ≡ true
 quantity_is_name quantity most =
     let size = length-decimal-le 13 quantity (omega arith) (omega (arith, most)) (omega (arith, most)) in
     in-name (decimal quantity) (decimal-some quantity (omega (arith, most))) (omega (arith, size)) (decimal_is_unquoted quantity (omega (arith, most)))
@@ -63,7 +63,7 @@ length-after_point : (digits : List ℕ) → length (point_and_digits digits) �
 length-after_point [] = omega arith
 length-after_point (digit ∷ digits) = omega arith
 
-pub price_is_name : (units : ℕ) → units ≤ 10 ^ 18 → is_name (price_text units) ≡ true
+pub price_is_name : (units : ℕ) → units ≤ price_end → is_name (price_text units) ≡ true
 price_is_name units most =
     let whole : List ℕ = decimal (units / 10 ^ 8) in
     let fraction : List ℕ = fraction_digits 8 (units % 10 ^ 8) in

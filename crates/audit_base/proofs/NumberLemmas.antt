@@ -2,7 +2,7 @@
 use Rattle.std.proofs.Common.{◌≡◌, ℕ, true, false, ◌+◌, ◌-◌, ◌*◌, ◌/◌, ◌%◌, ◌^◌, ◌<◌, ◌≤◌, inl, inr, Some, None, List, [], ◌∷◌, ◌++◌, length, take, drop, refl, ap, ◌∙◌, sym, arith, suc, zero}
 use Rattle.std.proofs.Math.Nat.{pow-suc, mul_assoc}
 use Rattle.std.proofs.Math.Seq.{take-append_seam, drop-append-add}
-use Rattle.std.proofs.lemmas.Bool.{cases_Bool, cases_eq, cond-true, cond-false, cond_both, eqb-true, ne_eqb, lt-ltb, le-ltb, leb-true}
+use Rattle.std.proofs.lemmas.Bool.{cases_Bool, cases_eq, cond-true, cond-false, cond_both, eqb-true, ne_eqb, lt-ltb, le-ltb, leb-true, ltb-true, and_parts}
 use Rattle.std.proofs.lemmas.List.{append-nil, length-append}
 use Rattle.std.specs.Char.{is_ascii_digit}
 use Rattle.std.specs.Cmp.{first_so, second_so}
@@ -10,7 +10,7 @@ use Rattle.std.specs.Fmt.{decimal}
 use Rattle.std.specs.List.{list_all, position, position_or_len}
 use Rattle.std.specs.Prelude.{◌==◌, ◌&&◌, nat_lt, nat_le}
 use Rattle.audit_base.specs.Digits.{fixed_digits, fraction_digits, is_digits, digits_form}
-use Rattle.audit_base.specs.Numbers.{is_point, whole_price, price_with_fraction, price_by_point, price_form, is_quantity, quantity_in_range, quantity_by_point, quantity_form, point_and_digits, price_text}
+use Rattle.audit_base.specs.Numbers.{greatest_quantity, IsQuantity, IsPrice, is_point, whole_price, price_with_fraction, price_by_point, price_form, is_quantity, quantity_in_range, quantity_by_point, quantity_form, point_and_digits, price_text}
 use Rattle.audit_base.proofs.DigitLemmas.{digit_bounds}
 use Rattle.audit_base.proofs.WrittenDigits.{decimal_digits, decimal_form, length-fixed_digits, fixed_digits_form}
 
@@ -159,7 +159,7 @@ split_again whole fraction digits below is =
     ∙ ap (λ (f : ℕ). Some (whole * 10 ^ 8 + f)) is.scaled
 
 -- a price is read again from its text
-pub price_again : (units : ℕ) → units < 10 ^ 18 → price_form (price_text units) ≡ Some units
+pub price_again : (units : ℕ) → IsPrice units → price_form (price_text units) ≡ Some units
 price_again units below =
     let whole = units / 10 ^ 8 in
     let fraction = units % 10 ^ 8 in
@@ -177,10 +177,16 @@ price_again units below =
           ap price_form text ∙ split_again whole fraction (fraction_digits 8 fraction) room (fraction_digits_write 8 fraction positive less) ∙ ap Some same)
     ]
 
+-- the test says that it is a quantity
+pub test-quantity : (quantity : ℕ) → is_quantity quantity ≡ true → IsQuantity quantity
+test-quantity quantity is =
+    let parts = and_parts (nat_lt 0 quantity) (nat_le quantity greatest_quantity) is in
+    record { some = ltb-true _ _ parts.0; most = leb-true _ _ parts.1 }
+
 -- a quantity is read again from its text
 pub quantity_again : (number : ℕ) → is_quantity number ≡ true → quantity_form (decimal number) ≡ Some number
 quantity_again number is =
-    let most : number ≤ 10 ^ 12 = leb-true number (10 ^ 12) (second_so (nat_lt 0 number) (nat_le number (10 ^ 12)) is) in
+    let most = (test-quantity number is).most in
     let small : number < 10 ^ 64 = omega arith in
     let at = position_none (decimal number) (decimal_digits number small) in
     let form = decimal_form 13 number (omega arith) (omega arith) small in

@@ -1,9 +1,9 @@
 -- The first offence of a call is there exactly where the rule fails: no fault of a deal means Matching and OnePrice, no short
 -- order passed over means Fair, and the other way round.
 use Rattle.std.proofs.Common.{◌≡◌, ◌≤◌, ◌<◌, ◌+◌, ℕ, zero, suc, List, [], ◌∷◌, length, take, get_or, Bool, true, false, Option, Some, None, refl, sym, ap, ◌∙◌, arith, inl, inr, All, subst, add-one}
-use Rattle.std.specs.Prelude.{not, ◌&&◌, ◌==◌, nat_lt, nat_le, is_some}
+use Rattle.std.specs.Prelude.{not, ◌&&◌, ◌==◌, nat_lt, is_some}
 use Rattle.std.specs.Option.{option_or}
-use Rattle.std.proofs.lemmas.Bool.{cases_eq, cases_lt, and_parts, and_from, or_cases, ltb-true, ltb-false, leb-true, le-leb, le-ltb, lt-ltb, eqb-true, eq-eqb, not-false, not_from_true, both_ways, cond-false, false_from_ne_true, or_from, ne_eqb}
+use Rattle.std.proofs.lemmas.Bool.{cases_eq, cases_lt, and_parts, and_from, or_cases, ltb-true, ltb-false, le-ltb, lt-ltb, eqb-true, eq-eqb, not-false, not_from_true, both_ways, cond-false, false_from_ne_true, or_from, ne_eqb}
 use Rattle.std.proofs.lemmas.List.{take_all}
 use Rattle.std.proofs.lemmas.List.Sums.{sum_by_more, sum_by_more_le, sum_by-take-le}
 use Rattle.audit_base.specs.declared.terms.Side.{Side}
@@ -12,7 +12,7 @@ use Rattle.audit_base.specs.declared.orders.Order.{Order}
 use Rattle.audit_base.specs.declared.orders.Deal.{Deal}
 use Rattle.audit_base.specs.declared.findings.Finding.{Finding}
 use Rattle.audit_base.specs.Least.{only_if}
-use Rattle.audit_base.specs.Orders.{order_at, side_at, quantity_at, limit_at, is_uncancelled_on, IsUncancelledOn}
+use Rattle.audit_base.specs.Orders.{order_at, side_at, quantity_at, is_uncancelled_on, IsUncancelledOn}
 use Rattle.audit_base.specs.Priority.{better, Better}
 use Rattle.audit_base.specs.Deals.{deal_past_end, deal_at, names_order, quantity_traded_by, traded, NamesOrders, DealInRange}
 use Rattle.audit_base.specs.Calls.{IsMatchingDeal, Matching, Fair, OnePrice}
@@ -20,7 +20,7 @@ use Rattle.audit_base.specs.CallOffences.{is_cancelled, keeps_limits, call_inact
 use Rattle.audit_base.proofs.OrderLemmas.{stands-test, test-stands}
 use Rattle.audit_base.proofs.LeastLemmas.{option_or-parts, none-below, least-none, any-none, none-any}
 use Rattle.audit_base.proofs.SumLemmas.{some_part}
-use Rattle.audit_base.proofs.DealLemmas.{part-bid, part-ask}
+use Rattle.audit_base.proofs.DealLemmas.{part-bid, part-ask, test-limits, limits-test}
 
 pub get_or-default : {X : Type 0} (xs : List X) (k : ℕ) (d e : X) → k < length xs → get_or xs k d ≡ get_or xs k e
 get_or-default [] k d e lt = absurd (omega arith)
@@ -134,12 +134,10 @@ module _ (uniform : Bool) (orders : List Order) (deals : List Deal) where
   faultless-keeps named k lt h =
       let d = deal_at deals k in
       let n = named k deal_past_end lt in
-      let parts = and_parts (nat_le (limit_at orders d.ask) d.price) (nat_le d.price (limit_at orders d.bid)) h.limits in
       record {
         bid_stands = record { inside = n.bid_inside; of_side = n.buys; uncancelled = is_none-cancelled _ h.bid_live };
         ask_stands = record { inside = n.ask_inside; of_side = n.sells; uncancelled = is_none-cancelled _ h.ask_live };
-        least = leb-true _ _ parts.0;
-        most = leb-true _ _ parts.1;
+        limits = test-limits orders d h.limits;
       }
 
   -- where the first part of First offence finds nothing, the deals are a matching, and under `uniform` have one price
@@ -165,7 +163,7 @@ module _ (uniform : Bool) (orders : List Order) (deals : List Deal) where
       record {
         bid_live = is_some-cancelled _ kept.bid_stands.uncancelled;
         ask_live = is_some-cancelled _ kept.ask_stands.uncancelled;
-        limits = and_from _ _ (le-leb _ _ kept.least) (le-leb _ _ kept.most);
+        limits = limits-test orders d kept.limits;
         price = λ t. let o = one t in o.each k deal_past_end lt ∙ sym (o.each 0 deal_past_end (omega arith));
         bid_within = omega (arith, sum_by-take-le (quantity_traded_by d.bid) deals (k + 1), bid_in);
         ask_within = omega (arith, sum_by-take-le (quantity_traded_by d.ask) deals (k + 1), ask_in);
@@ -236,7 +234,7 @@ module _ (orders : List Order) (deals : List Deal) where
   fair-no_offence ranges m f = least-none (λ k. option_or (bid_priority_finding orders deals k) (ask_priority_finding orders deals k)) (length deals) (λ k lt.
       let d = deal_at deals k in
       let kept = m.kept k deal_past_end lt in
-      let quantity = (ranges k deal_past_end lt).some in
+      let quantity = (ranges k deal_past_end lt).sized.some in
       let bid_part : quantity_traded_by d.bid d ≡ d.quantity = part-bid d in
       let ask_part : quantity_traded_by d.ask d ≡ d.quantity = part-ask d in
       let bid_least : quantity_traded_by d.bid d ≤ traded deals d.bid = omega (arith, sum_by_more_le (quantity_traded_by d.bid) deals k deal_past_end lt) in

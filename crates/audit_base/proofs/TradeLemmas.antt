@@ -77,7 +77,7 @@ module _ (orders : List Order) (symbol : List ℕ) (trades : List TradeRecord) w
       let listed = trades_of_symbol symbol trades in
       let inside : k < length listed = rw (← length-map listed (deal_of_trade orders)) lt in
       let t = numbered-All TradeInRange trades (λ e. same_name e.1.symbol symbol) 1 ranges k trade_past_end inside in
-      subst DealInRange (sym (deal-at k d inside)) (record { some = t.some; most = t.most; priced = t.priced })
+      subst DealInRange (sym (deal-at k d inside)) t
 
   deals-rising : AllPairs (λ d e. d.place < e.place) (deals_of_symbol orders symbol trades)
   unfolding trades_of_symbol deals_of_symbol

@@ -11,7 +11,7 @@ use Rattle.std.specs.Prelude.{◌==◌}
 use Rattle.audit_base.specs.Digits.{fixed_digits, fraction_digits}
 use Rattle.audit_base.specs.Moments.{Moment}
 use Rattle.audit_base.specs.Names.{is_name_byte}
-use Rattle.audit_base.specs.Numbers.{point_and_digits, price_text}
+use Rattle.audit_base.specs.Numbers.{point_and_digits, price_end, price_text}
 use Rattle.audit_base.specs.Stamps.{nano_text, stamp_text}
 use Rattle.audit_base.proofs.DigitLemmas.{digit_bounds}
 use Rattle.audit_base.proofs.WrittenDigits.{fixed_digits_are, decimal_digits}
@@ -58,7 +58,7 @@ after_point_is_unquoted [] are = refl
 after_point_is_unquoted (digit ∷ digits) are = are
 
 -- a price
-pub price_is_unquoted : (units : ℕ) → units ≤ 10 ^ 18 → list_all is_name_byte (price_text units) ≡ true
+pub price_is_unquoted : (units : ℕ) → units ≤ price_end → list_all is_name_byte (price_text units) ≡ true
 price_is_unquoted units below =
     list_all-append is_name_byte (decimal (units / 10 ^ 8)) (point_and_digits (fraction_digits 8 (units % 10 ^ 8)))
     ∙ and_from _ _ (decimal_is_unquoted (units / 10 ^ 8) (omega arith)) (after_point_is_unquoted (fraction_digits 8 (units % 10 ^ 8)) (fraction_is_unquoted 8 (units % 10 ^ 8)))

@@ -83,7 +83,7 @@ volume-le-cut orders deals m p =
     let above = λ (d : Deal). cond (nat_le p (limit_at orders d.bid)) d.quantity 0 in
     let below = λ (d : Deal). cond (nat_lt (limit_at orders d.ask) p) d.quantity 0 in
     let one : All (λ d. d.quantity ≤ above d + below d) deals = (λ n e lt.
-    let d = get_or deals n e in let k = m.kept n e lt in let least = k.least in let most = k.most in
+    let d = get_or deals n e in let k = m.kept n e lt in let least = k.limits.least in let most = k.limits.most in
     elim (cases_lt (limit_at orders d.bid) p) [
       | inl low ↦ let t : below d ≡ d.quantity = cond-true (nat_lt (limit_at orders d.ask) p) d.quantity 0 (lt-ltb (limit_at orders d.ask) p (omega arith)) in omega arith
       | inr high ↦ let t : above d ≡ d.quantity = cond-true (nat_le p (limit_at orders d.bid)) d.quantity 0 (le-leb p (limit_at orders d.bid) high) in omega arith
@@ -97,14 +97,14 @@ volume-le-cut orders deals m p =
 pub volume-le-demand : (orders : List Order) (deals : List Deal) → Matching orders deals → (p : ℕ) → All (λ d. d.price ≡ p) deals → volume deals ≤ demand orders p
 volume-le-demand orders deals m p one =
     let whole : volume deals ≡ sum_by (λ d. cond (nat_le p (limit_at orders d.bid)) d.quantity 0) deals = sum_by-same (λ d. d.quantity) (λ d. cond (nat_le p (limit_at orders d.bid)) d.quantity 0) deals
-    (λ n e lt. let d = get_or deals n e in let k = m.kept n e lt in let most = k.most in let price : d.price ≡ p = one n e lt in
+    (λ n e lt. let d = get_or deals n e in let k = m.kept n e lt in let most = k.limits.most in let price : d.price ≡ p = one n e lt in
     sym (cond-true (nat_le p (limit_at orders d.bid)) d.quantity 0 (le-leb p (limit_at orders d.bid) (omega arith)))) in
     omega (arith, whole, bids-most orders deals m (λ i. nat_le p (limit_at orders i)), indexed (demand_of_order p) orders)
 
 pub volume-le-supply : (orders : List Order) (deals : List Deal) → Matching orders deals → (p : ℕ) → All (λ d. d.price ≡ p) deals → volume deals ≤ supply orders p
 volume-le-supply orders deals m p one =
     let whole : volume deals ≡ sum_by (λ d. cond (nat_le (limit_at orders d.ask) p) d.quantity 0) deals = sum_by-same (λ d. d.quantity) (λ d. cond (nat_le (limit_at orders d.ask) p) d.quantity 0) deals
-    (λ n e lt. let d = get_or deals n e in let k = m.kept n e lt in let least = k.least in let price : d.price ≡ p = one n e lt in
+    (λ n e lt. let d = get_or deals n e in let k = m.kept n e lt in let least = k.limits.least in let price : d.price ≡ p = one n e lt in
     sym (cond-true (nat_le (limit_at orders d.ask) p) d.quantity 0 (le-leb (limit_at orders d.ask) p (omega arith)))) in
     omega (arith, whole, asks-most orders deals m (λ i. nat_le (limit_at orders i) p), indexed (supply_of_order p) orders)
 

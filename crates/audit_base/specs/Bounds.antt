@@ -1,5 +1,5 @@
 -- Demand, supply and cut at a price, and the price that shows how great a volume can be.
-use Rattle.std.specs.Prelude.{◌≡◌, ◌≤◌, ◌^◌, ℕ, ◌+◌, min, ◌&&◌, nat_lt, nat_le, List, sum_by, if◌then◌else◌}
+use Rattle.std.specs.Prelude.{◌≡◌, ◌≤◌, ℕ, ◌+◌, min, ◌&&◌, nat_lt, nat_le, List, sum_by, if◌then◌else◌}
 use Rattle.audit_base.specs.declared.terms.Side.TheVariants.{Buy, Sell}
 use Rattle.audit_base.specs.declared.orders.Order.{Order}
 use Rattle.audit_base.specs.declared.orders.Cut.{Cut}
@@ -7,6 +7,7 @@ use Rattle.audit_base.specs.declared.terms.VolumeRule.{VolumeRule}
 use Rattle.audit_base.specs.declared.terms.VolumeRule.TheVariants as of_volume
 use Rattle.audit_base.specs.Least.{IsLeast}
 use Rattle.audit_base.specs.Orders.{is_uncancelled_on}
+use Rattle.audit_base.specs.Numbers.{price_end}
 
 -- what an order asks for at a price, if it is a bid that no record cancels
 abbrev pub demand_of_order : ℕ → Order → ℕ
@@ -43,19 +44,19 @@ executable_volume orders price = min (demand orders price) (supply orders price)
 
 -- the least cut over all prices from 0 to 10^18, and the least price that reaches it
 pub record IsLeastCut (orders : List Order) (c : Cut) : Type 0 where
-  pub reached : IsLeast (λ price. (price ≤ 10 ^ 18) × (cut orders price ≡ c.volume)) c.price
-  pub least : (price : ℕ) → price ≤ 10 ^ 18 → c.volume ≤ cut orders price
+  pub reached : IsLeast (λ price. (price ≤ price_end) × (cut orders price ≡ c.volume)) c.price
+  pub least : (price : ℕ) → price ≤ price_end → c.volume ≤ cut orders price
 
 -- the greatest executable volume over these prices, and the least price that reaches it
 pub record IsGreatestExecutableVolume (orders : List Order) (c : Cut) : Type 0 where
-  pub reached : IsLeast (λ price. (price ≤ 10 ^ 18)
+  pub reached : IsLeast (λ price. (price ≤ price_end)
       × (executable_volume orders price ≡ c.volume)) c.price
-  pub greatest : (price : ℕ) → price ≤ 10 ^ 18 → executable_volume orders price ≤ c.volume
+  pub greatest : (price : ℕ) → price ≤ price_end → executable_volume orders price ≤ c.volume
 
 -- Bound: the least price from 0 to 10^18 at which the volume is the cut
 -- (under `uniform`, the executable volume)
 abbrev pub IsBoundPrice : VolumeRule → List Order → ℕ → ℕ → Type 0
 IsBoundPrice of_volume.Maximum orders volume bound =
-    IsLeast (λ price. (price ≤ 10 ^ 18) × (cut orders price ≡ volume)) bound
+    IsLeast (λ price. (price ≤ price_end) × (cut orders price ≡ volume)) bound
 IsBoundPrice of_volume.Uniform orders volume bound =
-    IsLeast (λ price. (price ≤ 10 ^ 18) × (executable_volume orders price ≡ volume)) bound
+    IsLeast (λ price. (price ≤ price_end) × (executable_volume orders price ≡ volume)) bound

@@ -31,7 +31,7 @@ use Rattle.audit_base.specs.Shows.{finding_at_trade, with_traded_number, show_or
 abbrev pub is_cancelled : List Order → ℕ → Bool
 is_cancelled orders order = is_some (order_at orders order).cancelled
 
--- the price is within the limits of the deal's own orders
+-- a deal keeps the limits of its own orders
 abbrev pub keeps_limits : List Order → Deal → Bool
 keeps_limits orders d = is_price_within (order_at orders d.bid) (order_at orders d.ask) d
 

@@ -5,17 +5,15 @@ use Rattle.audit_base.specs.declared.terms.Side.{Side}
 use Rattle.audit_base.specs.declared.terms.Side.TheVariants.{Buy, Sell}
 use Rattle.audit_base.specs.declared.orders.Order.{Order}
 use Rattle.audit_base.specs.declared.orders.Deal.{Deal}
-use Rattle.audit_base.specs.Orders.{quantity_at, limit_at, IsUncancelledOn}
+use Rattle.audit_base.specs.Orders.{quantity_at, IsUncancelledOn}
 use Rattle.audit_base.specs.Priority.{Better}
-use Rattle.audit_base.specs.Deals.{traded, volume, DealsInRange}
+use Rattle.audit_base.specs.Deals.{traded, volume, KeepsLimits, DealsInRange}
 
--- a deal between a bid and an ask that no record cancels,
--- at a price from the ask's limit to the bid's
+-- a deal between a bid and an ask that no record cancels, which keeps their limits
 pub record IsMatchingDeal (orders : List Order) (d : Deal) : Type 0 where
   pub bid_stands : IsUncancelledOn orders Buy d.bid
   pub ask_stands : IsUncancelledOn orders Sell d.ask
-  pub least : limit_at orders d.ask ≤ d.price
-  pub most : d.price ≤ limit_at orders d.bid
+  pub limits : KeepsLimits orders d
 
 -- Matching: each deal is such a deal, and no order trades more than its quantity
 pub record Matching (orders : List Order) (deals : List Deal) : Type 0 where

@@ -5,13 +5,8 @@ use Rattle.audit_base.specs.declared.orders.Order.{Order}
 use Rattle.audit_base.specs.declared.orders.Deal.{Deal}
 use Rattle.audit_base.specs.Orders.{limit_at, side_at}
 use Rattle.audit_base.specs.Priority.{Better}
-use Rattle.audit_base.specs.Deals.{NamesOrders}
+use Rattle.audit_base.specs.Deals.{KeepsLimits, NamesOrders}
 use Rattle.audit_base.specs.Continuous.{cause, resting_order, traded_after, size_of_order, left_after, rests_before, active_after}
-
--- a deal keeps both limits
-pub record KeepsLimits (orders : List Order) (d : Deal) : Type 0 where
-  pub least : limit_at orders d.ask ≤ d.price
-  pub most : d.price ≤ limit_at orders d.bid
 
 -- Conservation at a place: each deal of this cause keeps both limits, its resting order rests
 -- before the place, and no order has traded more than its Size up to the place

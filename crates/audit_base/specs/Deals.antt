@@ -3,7 +3,8 @@ use Rattle.std.specs.Prelude.{◌≡◌, ◌<◌, ◌≤◌, ◌^◌, ℕ, Bool,
 use Rattle.audit_base.specs.declared.terms.Side.TheVariants.{Buy, Sell}
 use Rattle.audit_base.specs.declared.orders.Order.{Order}
 use Rattle.audit_base.specs.declared.orders.Deal.{Deal}
-use Rattle.audit_base.specs.Orders.{side_at}
+use Rattle.audit_base.specs.Orders.{limit_at, side_at}
+use Rattle.audit_base.specs.Numbers.{AreInRange}
 
 -- the deal names the order at this index
 abbrev pub names_order : ℕ → Deal → Bool
@@ -41,7 +42,12 @@ deal_past_end = record { place = 0; bid = 0; ask = 0; quantity = 0; price = 0 }
 abbrev pub deal_at : List Deal → ℕ → Deal
 deal_at deals deal = slice_index_or deals deal deal_past_end
 
--- the price is from the limit of this ask to that of this bid
+-- a deal keeps both limits: its price is from that of its ask to that of its bid
+pub record KeepsLimits (orders : List Order) (d : Deal) : Type 0 where
+  pub least : limit_at orders d.ask ≤ d.price
+  pub most : d.price ≤ limit_at orders d.bid
+
+-- the same as a test of its bid and its ask
 abbrev pub is_price_within : Order → Order → Deal → Bool
 is_price_within bid ask d = nat_le ask.limit d.price && nat_le d.price bid.limit
 
@@ -59,11 +65,9 @@ pub record IsDealList (orders : List Order) (deals : List Deal) : Type 0 where
   pub rising : AllPairs (λ d e. d.place < e.place) deals
   pub fits_indices : length deals < 2 ^ 32
 
--- what the numbers of a deal may be: a quantity from 1 to 10^12, and a price from 0 to 10^18 - 1
-pub record DealInRange (d : Deal) : Type 0 where
-  pub some : 0 < d.quantity
-  pub most : d.quantity ≤ 10 ^ 12
-  pub priced : d.price < 10 ^ 18
+-- its numbers are a quantity and a price
+abbrev pub DealInRange : Deal → Type 0
+DealInRange d = AreInRange d.quantity d.price
 
 -- each deal of the list has such numbers
 abbrev pub DealsInRange : List Deal → Type 0

@@ -5,6 +5,7 @@ use Rattle.audit_base.specs.Moments.{Moment, is_before}
 use Rattle.audit_base.specs.declared.names.Key.{Key}
 use Rattle.audit_base.specs.declared.terms.Side.{Side}
 use Rattle.audit_base.specs.declared.terms.Which.TheVariants as which
+use Rattle.audit_base.specs.declared.terms.Life.{Life}
 use Rattle.audit_base.specs.declared.terms.Life.TheVariants.{Rests}
 use Rattle.audit_base.specs.declared.records.OrderRecord.{OrderRecord}
 use Rattle.audit_base.specs.declared.records.OrderRecord.TheVariants.{New, Cancel, Replace}
@@ -59,6 +60,12 @@ abbrev pub side_of : OrderRecord → Option Side
 side_of (New key time symbol side quantity price life) = Some side
 side_of (Cancel key time symbol target) = None
 side_of (Replace key time symbol target side quantity price) = Some side
+
+-- the life of the record's order: a replacement rests
+abbrev pub life_of : OrderRecord → Life
+life_of (New key time symbol side quantity price life) = life
+life_of (Cancel key time symbol target) = Rests
+life_of (Replace key time symbol target side quantity price) = Rests
 
 -- a new order of life Market has the market price of its side; no other record is of that life
 abbrev pub HasMarketPrice : OrderRecord → Type 0

@@ -1,9 +1,36 @@
--- The written forms of prices and quantities. The codes of `.` and `0` are 46 and 48.
-use Rattle.std.specs.Prelude.{ℕ, Bool, ◌+◌, ◌-◌, ◌*◌, ◌/◌, ◌%◌, ◌^◌, ◌==◌, ◌&&◌, nat_lt, nat_le, Option, Some, None, List, [], ◌∷◌, ◌++◌, length, take, drop, decimal, if◌then◌else◌}
+-- Prices and quantities: their ranges and their written forms. The codes of `.` and `0` are 46
+-- and 48.
+use Rattle.std.specs.Prelude.{◌<◌, ◌≤◌, ℕ, Bool, ◌+◌, ◌-◌, ◌*◌, ◌/◌, ◌%◌, ◌^◌, ◌==◌, ◌&&◌, nat_lt, nat_le, Option, Some, None, List, [], ◌∷◌, ◌++◌, length, take, drop, decimal, if◌then◌else◌}
 use Rattle.std.specs.List.{list_all, position}
 use Rattle.audit_base.specs.declared.terms.Side.{Side}
 use Rattle.audit_base.specs.declared.terms.Side.TheVariants.{Buy, Sell}
 use Rattle.audit_base.specs.Digits.{digits_form, fraction_digits}
+
+-- the greatest quantity
+abbrev pub greatest_quantity : ℕ
+greatest_quantity = 10 ^ 12
+
+-- the end of prices: the least number of units that is no price
+abbrev pub price_end : ℕ
+price_end = 10 ^ 18
+
+-- a quantity is from 1 to 10^12
+pub record IsQuantity (quantity : ℕ) : Type 0 where
+  pub some : 0 < quantity
+  pub most : quantity ≤ greatest_quantity
+
+-- the same as a test
+abbrev pub is_quantity : ℕ → Bool
+is_quantity quantity = nat_lt 0 quantity && nat_le quantity greatest_quantity
+
+-- a price is from 0 to 10^18 - 1, in units of 10^-8
+abbrev pub IsPrice : ℕ → Type 0
+IsPrice price = price < price_end
+
+-- the numbers of an order, a deal, a trade or a report: a quantity and a price
+pub record AreInRange (quantity price : ℕ) : Type 0 where
+  pub sized : IsQuantity quantity
+  pub priced : IsPrice price
 
 -- the byte of a decimal point
 abbrev pub is_point : ℕ → Bool
@@ -35,7 +62,7 @@ price_form text = price_by_point text (position is_point text)
 
 -- a market order takes any price: a bid the greatest, an ask the least
 abbrev pub market_price : Side → ℕ
-market_price Buy = 10 ^ 18 - 1
+market_price Buy = price_end - 1
 market_price Sell = 0
 
 -- the byte of the digit 0
@@ -45,10 +72,6 @@ is_zero_digit b = b == 48
 -- one or more zeros
 abbrev pub are_zero_digits : List ℕ → Bool
 are_zero_digits text = nat_le 1 (length text) && list_all is_zero_digit text
-
--- a quantity is from 1 to 10^12
-abbrev pub is_quantity : ℕ → Bool
-is_quantity value = nat_lt 0 value && nat_le value (10 ^ 12)
 
 -- the value, where it is a quantity
 abbrev pub quantity_in_range : Option ℕ → Option ℕ

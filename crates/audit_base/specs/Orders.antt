@@ -1,12 +1,12 @@
 -- Orders and order lists. An order is named by its index in the order list, from 0.
-use Rattle.std.specs.Prelude.{◌≡◌, ◌≢◌, ◌<◌, ◌≤◌, ◌^◌, ℕ, Bool, true, false, ◌&&◌, List, [], Option, None, Some, is_none, AllPairs, All, length, slice_index_or, bytes_eq}
+use Rattle.std.specs.Prelude.{◌≡◌, ◌≢◌, ◌<◌, ◌^◌, ℕ, Bool, true, false, ◌&&◌, List, [], Option, None, Some, is_none, AllPairs, All, length, slice_index_or, bytes_eq}
 use Rattle.audit_base.specs.declared.names.Key.{Key}
 use Rattle.audit_base.specs.declared.terms.Side.{Side}
 use Rattle.audit_base.specs.declared.terms.Side.TheVariants.{Buy, Sell}
 use Rattle.audit_base.specs.declared.terms.Life.{Life}
 use Rattle.audit_base.specs.declared.terms.Life.TheVariants.{Rests, Immediate, Market}
 use Rattle.audit_base.specs.declared.orders.Order.{Order}
-use Rattle.audit_base.specs.Numbers.{market_price}
+use Rattle.audit_base.specs.Numbers.{market_price, AreInRange}
 use Rattle.audit_base.specs.Least.{least_with}
 
 -- two names are the same text
@@ -107,11 +107,9 @@ order_on_side_with_key orders side key =
 abbrev pub HasMarketPriceIfMarket : Life → Side → ℕ → Type 0
 HasMarketPriceIfMarket life side price = life ≡ Market → price ≡ market_price side
 
--- what the numbers of an order may be: a quantity from 1 to 10^12, and a limit from 0 to 10^18 - 1
-pub record OrderInRange (o : Order) : Type 0 where
-  pub some : 0 < o.quantity
-  pub most : o.quantity ≤ 10 ^ 12
-  pub priced : o.limit < 10 ^ 18
+-- its quantity and its limit are a quantity and a price
+abbrev pub OrderInRange : Order → Type 0
+OrderInRange o = AreInRange o.quantity o.limit
 
 -- each order of the list has such numbers
 abbrev pub OrdersInRange : List Order → Type 0

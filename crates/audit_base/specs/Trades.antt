@@ -1,6 +1,6 @@
 -- Sound trades: those of the symbol have ids of their own, and each names
 -- a bid and an ask of the history.
-use Rattle.std.specs.Prelude.{◌≡◌, ◌<◌, ◌≤◌, ◌^◌, ℕ, All, List, [], Option, None, Some, is_none, option_map, filter, map, length, slice_index_or, unwrap_or}
+use Rattle.std.specs.Prelude.{◌≡◌, ℕ, All, List, [], Option, None, Some, is_none, option_map, filter, map, length, slice_index_or, unwrap_or}
 use Rattle.std.specs.Option.{option_or}
 use Rattle.std.specs.List.{enumerate_from}
 use Rattle.audit_base.specs.declared.terms.Side.TheVariants.{Buy, Sell}
@@ -12,6 +12,7 @@ use Rattle.audit_base.specs.declared.findings.Property.TheVariants as property
 use Rattle.audit_base.specs.declared.findings.Finding.{Finding}
 use Rattle.audit_base.specs.declared.findings.Shown.TheVariants as shown
 use Rattle.audit_base.specs.Least.{least_answer, least_with, only_if}
+use Rattle.audit_base.specs.Numbers.{AreInRange}
 use Rattle.audit_base.specs.Orders.{same_name, order_past_end, order_on_side_with_key}
 use Rattle.audit_base.specs.Shows.{finding_at_record, show_place}
 
@@ -40,11 +41,9 @@ trade_at listed trade = (slice_index_or listed trade trade_past_end).1
 abbrev pub trade_place : List (ℕ × TradeRecord) → ℕ → ℕ
 trade_place listed trade = (slice_index_or listed trade trade_past_end).0
 
--- what the numbers of a trade may be: a quantity from 1 to 10^12, and a price from 0 to 10^18 - 1
-pub record TradeInRange (t : TradeRecord) : Type 0 where
-  pub some : 0 < t.quantity
-  pub most : t.quantity ≤ 10 ^ 12
-  pub priced : t.price < 10 ^ 18
+-- its numbers are a quantity and a price
+abbrev pub TradeInRange : TradeRecord → Type 0
+TradeInRange t = AreInRange t.quantity t.price
 
 -- each trade of the log has such numbers
 abbrev pub TradesInRange : List TradeRecord → Type 0

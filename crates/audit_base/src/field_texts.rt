@@ -5,7 +5,7 @@ ghost use Rattle.std.specs.Prelude.{◌≡◌, ◌<◌, ◌^◌, IfOk, IsTrue, S
 ghost use Rattle.std.specs.List.{list_all};
 ghost use Rattle.audit_base.specs.Moments.{end_of_time};
 ghost use Rattle.audit_base.specs.Names.{is_name, is_name_byte};
-ghost use Rattle.audit_base.specs.Numbers.{is_quantity, price_form, price_text, quantity_form};
+ghost use Rattle.audit_base.specs.Numbers.{is_quantity, IsPrice, price_form, price_text, quantity_form};
 ghost use Rattle.audit_base.specs.Stamps.{stamp_form, stamp_text};
 
 use super::faults::NoMemory;
@@ -52,7 +52,7 @@ pub fn price_text(alloc: Global, price: Price) -> Result<Vec<u8>, NoMemory>
     ensures name { IfOk result (λ text. IsTrue (is_name text.items)) }
     ensures again { price_form (price_text price) ≡ Some price }
     ensures unquoted { IsTrue (list_all is_name_byte (price_text price)) }
-    ensures in_range { price < 10 ^ 18 }
+    ensures in_range { IsPrice price }
 {
     let mut text = Vec::new(alloc);
     write_price(alloc, price.units(), &mut text)?;

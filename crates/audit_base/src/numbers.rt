@@ -15,13 +15,14 @@ pub struct Price {
 }
 
 impl Model for Price {
-    ghost use Rattle.std.specs.Prelude.{ℕ, ◌<◌, ◌^◌};
+    ghost use Rattle.std.specs.Prelude.{ℕ};
+    ghost use Rattle.audit_base.specs.Numbers.{IsPrice};
 
     ghost Value = { ℕ };
 
     ghost view = { λ p. p.units };
 
-    ghost invariant = { λ p. p.units < 10 ^ 18 };
+    ghost invariant = { λ p. IsPrice p.units };
 
     ghost inverse = { λ n. record { units = n } };
 }
@@ -29,7 +30,7 @@ impl Model for Price {
 impl Price {
     /// The price of this many units; None exactly from 10^18 on.
     pub fn of(units: u64) -> Option<Self>
-        ensures { result ≡ (if nat_lt units (10 ^ 18) then Some units else None) }
+        ensures { result ≡ (if nat_lt units form.price_end then Some units else None) }
     {
         if units < 1_000_000_000_000_000_000 {
             Some(Price { units })
@@ -41,7 +42,7 @@ impl Price {
     /// The price in units of 10^-8, below 10^18.
     pub fn units(self) -> u64
         ensures same { result ≡ self }
-        ensures in_range { self < 10 ^ 18 }
+        ensures in_range { form.IsPrice self }
     {
         self.units
     }
@@ -67,13 +68,14 @@ pub struct Quantity {
 }
 
 impl Model for Quantity {
-    ghost use Rattle.std.specs.Prelude.{ℕ, ◌<◌, ◌≤◌, ◌^◌};
+    ghost use Rattle.std.specs.Prelude.{ℕ};
+    ghost use Rattle.audit_base.specs.Numbers.{IsQuantity};
 
     ghost Value = { ℕ };
 
     ghost view = { λ q. q.value };
 
-    ghost invariant = { λ q. (0 < q.value) × (q.value ≤ 10 ^ 12) };
+    ghost invariant = { λ q. IsQuantity q.value };
 
     ghost inverse = { λ n. record { value = n } };
 }
@@ -93,8 +95,7 @@ impl Quantity {
     /// The number, from 1 to 1,000,000,000,000.
     pub fn value(self) -> u64
         ensures same { result ≡ self }
-        ensures positive { 0 < self }
-        ensures in_range { self ≤ 10 ^ 12 }
+        ensures in_range { form.IsQuantity self }
     {
         self.value
     }

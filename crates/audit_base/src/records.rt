@@ -43,10 +43,10 @@ pub enum OrderRecord {
 
 impl OrderRecord {
     /// The key of the record itself.
-    pub fn key(&self) -> Key
-        ensures { result ≡ history.key_of self.now }
+    pub fn key(&self) -> &Key
+        ensures { result.now ≡ history.key_of self.now }
     {
-        match *self {
+        match self {
             OrderRecord::New { key, .. } => key,
             OrderRecord::Cancel { key, .. } => key,
             OrderRecord::Replace { key, .. } => key,
@@ -72,6 +72,17 @@ impl OrderRecord {
             OrderRecord::New { side, .. } => Some(side),
             OrderRecord::Cancel { .. } => None,
             OrderRecord::Replace { side, .. } => Some(side),
+        }
+    }
+
+    /// The life of the record's order. A replacement rests.
+    pub fn life(&self) -> Life
+        ensures { result ≡ history.life_of self.now }
+    {
+        match *self {
+            OrderRecord::New { life, .. } => life,
+            OrderRecord::Cancel { .. } => Life::Rests,
+            OrderRecord::Replace { .. } => Life::Rests,
         }
     }
 
@@ -134,15 +145,15 @@ pub trait LogRecord: Copy + Drop {
     ghost symbol_of: { Self → List ℕ };
 
     /// The symbol that it trades.
-    fn symbol(&self) -> Name
-        ensures { result ≡ symbol_of self.now };
+    fn symbol(&self) -> &Name
+        ensures { result.now ≡ symbol_of self.now };
 }
 
 impl LogRecord for OrderRecord {
     ghost symbol_of = { history.symbol_of };
 
-    fn symbol(&self) -> Name {
-        match *self {
+    fn symbol(&self) -> &Name {
+        match self {
             OrderRecord::New { symbol, .. } => symbol,
             OrderRecord::Cancel { symbol, .. } => symbol,
             OrderRecord::Replace { symbol, .. } => symbol,
@@ -153,7 +164,7 @@ impl LogRecord for OrderRecord {
 impl LogRecord for TradeRecord {
     ghost symbol_of = { λ trade. trade.symbol };
 
-    fn symbol(&self) -> Name {
-        self.symbol
+    fn symbol(&self) -> &Name {
+        &self.symbol
     }
 }

@@ -8,7 +8,7 @@ ghost use Rattle.std.specs.Vec.{vec_capacity};
 ghost use Rattle.std.specs.List.{list_all};
 ghost use Rattle.audit_base.specs.Names.{is_name_byte};
 ghost use Rattle.audit_base.specs.Digits.{fraction_digits};
-ghost use Rattle.audit_base.specs.Numbers.{point_and_digits, is_quantity, price_form, price_text, quantity_form};
+ghost use Rattle.audit_base.specs.Numbers.{point_and_digits, is_quantity, price_end, IsPrice, price_form, price_text, quantity_form};
 ghost use Rattle.audit_base.specs.Stamps.{stamp_form, stamp_text, date_text, clock_text, nano_text};
 
 use super::digits::{append_byte, append_digits, append_fraction_digits};
@@ -35,10 +35,10 @@ pub fn write_number(_alloc: Global, number: u128, out: &mut Vec<u8>) -> Result<(
 /// `units` is at most 10^18, whose text `10000000000` is the one that is not read again.
 /// Out of memory, it leaves `out` as it was.
 pub fn write_price(_alloc: Global, units: u64, out: &mut Vec<u8>) -> Result<(), NoMemory>
-    requires { units ≤ 10 ^ 18 }
+    requires { units ≤ price_end }
     ensures appended { OnOk result (out.new.items ≡ out.old.items ++ price_text units) }
     ensures unchanged { OnErr result (out.new.items ≡ out.old.items) }
-    ensures read_again { units < 10 ^ 18 → price_form (price_text units) ≡ Some units }
+    ensures read_again { IsPrice units → price_form (price_text units) ≡ Some units }
     ensures unquoted { IsTrue (list_all is_name_byte (price_text units)) }
 {
     let mut buffer = Buffer::new();

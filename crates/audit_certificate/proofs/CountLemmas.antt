@@ -20,7 +20,7 @@ module _ (orders : List Order) (deals : List Deal) (k : ℕ) (lt : k < length de
   ask-inside = omega (arith, is.totals.count, named_here.ask_inside)
 
   pub bid-fits : get_or so_far d.bid 0 + quantity ≤ (k + 1) * 10 ^ 12
-  bid-fits = omega (arith, is.bounded d.bid named_here.bid_inside, same, range.most)
+  bid-fits = omega (arith, is.bounded d.bid named_here.bid_inside, same, range.sized.most)
 
   abbrev pub with_bid : List ℕ
   with_bid = slice_set so_far d.bid (get_or so_far d.bid 0 + quantity)
@@ -29,13 +29,13 @@ module _ (orders : List Order) (deals : List Deal) (k : ℕ) (lt : k < length de
   ask-stays = get_or-set_other {A = ℕ} so_far d.bid d.ask (get_or so_far d.bid 0 + quantity) 0 (λ e. apart orders d named_here (sym e))
 
   most : quantity ≤ 10 ^ 12
-  most = omega (arith, same, range.most)
+  most = omega (arith, same, range.sized.most)
 
   pub ask-inside_after : d.ask < length with_bid
   ask-inside_after = omega (arith, length-set {A = ℕ} so_far d.bid (get_or so_far d.bid 0 + quantity), ask-inside)
 
   pub ask-fits : get_or with_bid d.ask 0 + quantity ≤ (k + 1) * 10 ^ 12
-  ask-fits = omega (arith, ask-stays, is.bounded d.ask named_here.ask_inside, same, range.most)
+  ask-fits = omega (arith, ask-stays, is.bounded d.ask named_here.ask_inside, same, range.sized.most)
 
   pub counted : (half whole : List ℕ) → half ≡ with_bid → whole ≡ slice_set half d.ask (get_or half d.ask 0 + quantity)
       → AreTotalsSoFar orders deals (k + 1) whole (total + quantity)

@@ -1,7 +1,8 @@
 -- When a certificate agrees with an order list and deals: what each of its lines has to meet. An
 -- order takes part where no record cancels it.
-use Rattle.std.specs.Prelude.{◌≡◌, ◌≤◌, ◌<◌, ◌+◌, ◌^◌, ℕ, zero, suc, List, [], ◌∷◌, ◌++◌, Option, None, Some, All, IsSomeAnd, ⊤, length, option_map}
+use Rattle.std.specs.Prelude.{◌≡◌, ◌≤◌, ◌<◌, ◌+◌, ℕ, zero, suc, List, [], ◌∷◌, ◌++◌, Option, None, Some, All, IsSomeAnd, ⊤, length, option_map}
 use Rattle.std.specs.List.{flat_map, range_with_len}
+use Rattle.audit_base.specs.Numbers.{price_end}
 use Rattle.audit_base.specs.declared.terms.Rule.{Rule}
 use Rattle.audit_base.specs.declared.terms.VolumeRule.{VolumeRule}
 use Rattle.audit_base.specs.declared.terms.VolumeRule.TheVariants as of_volume
@@ -48,7 +49,7 @@ ShowsNoGreaterVolume of_volume.Uniform orders reached price =
 pub record IsBoundLine (the_rule : VolumeRule) (orders : List Order) (reached : ℕ)
     (text : List ℕ) : Type 0 where
   pub price : ℕ
-  pub in_range : price ≤ 10 ^ 18
+  pub in_range : price ≤ price_end
   pub text_is : text ≡ bound_text price reached
   pub shows : ShowsNoGreaterVolume the_rule orders reached price
 
@@ -162,7 +163,7 @@ certificate_text the_rule symbol orders deals price bid ask =
 -- a price from 0 to 10^18 that passes line 2, and none below it does
 abbrev pub IsLeastPrice : VolumeRule → List Order → ℕ → ℕ → Type 0
 IsLeastPrice the_rule orders reached price =
-    IsLeast (λ q. (q ≤ 10 ^ 18) × ShowsNoGreaterVolume the_rule orders reached q) price
+    IsLeast (λ q. (q ≤ price_end) × ShowsNoGreaterVolume the_rule orders reached q) price
 
 -- the certificate of these orders and deals: it has the least price
 pub record IsCertificate (the_rule : VolumeRule) (symbol : List ℕ) (orders : List Order)

@@ -1,11 +1,11 @@
 -- How line 2 is read, and the price that is written.
-use Rattle.std.specs.Prelude.{◌≡◌, ℕ, zero, suc, ◌+◌, ◌^◌, ◌==◌, ◌&&◌, nat_lt, max, Bool, List, Option, None, Some, slice_index, take, drop, length, if◌then◌else◌}
+use Rattle.std.specs.Prelude.{◌≡◌, ℕ, zero, suc, ◌+◌, ◌==◌, ◌&&◌, nat_lt, max, Bool, List, Option, None, Some, slice_index, take, drop, length, if◌then◌else◌}
 use Rattle.std.specs.List.{position}
 use Rattle.audit_base.specs.declared.terms.VolumeRule.{VolumeRule}
 use Rattle.audit_base.specs.declared.terms.VolumeRule.TheVariants as of_volume
 use Rattle.audit_base.specs.declared.terms.Side.TheVariants.{Buy}
 use Rattle.audit_base.specs.declared.orders.Order.{Order}
-use Rattle.audit_base.specs.Numbers.{price_form}
+use Rattle.audit_base.specs.Numbers.{price_form, price_end}
 use Rattle.audit_base.specs.Orders.{order_at, is_uncancelled_on}
 use Rattle.audit_base.specs.Bounds.{IsLeastCut}
 pub use Rattle.audit_base.specs.Names.{is_comma}
@@ -21,7 +21,7 @@ before_comma text = take_upto text (position is_comma text)
 
 -- the price that was read, or 10^18, which is above every price, where there is none
 abbrev pub price_or_above : Option ℕ → ℕ
-price_or_above None = 10 ^ 18
+price_or_above None = price_end
 price_or_above (Some price) = price
 
 -- the price that a text writes, or 10^18 where it writes none
@@ -31,7 +31,7 @@ price_in_text text = price_or_above (price_form text)
 -- the price after the six bytes `bound,`
 abbrev pub named_price : List ℕ → ℕ
 named_price line =
-    if nat_lt (length line) 6 then 10 ^ 18 else price_in_text (before_comma (drop 6 line))
+    if nat_lt (length line) 6 then price_end else price_in_text (before_comma (drop 6 line))
 
 -- one unit above the limit of a bid that takes part and trades less than its quantity; else 0
 abbrev pub above_if_short : Order → ℕ → ℕ

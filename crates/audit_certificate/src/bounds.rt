@@ -1,6 +1,7 @@
 //! Line 2: a price that shows the volume to be the greatest.
 ghost use Rattle.std.specs.Prelude.{◌≡◌, ◌<◌, ◌≤◌, ◌↔◌, ◌^◌, ℕ, List, IfOk, IsTrue, length};
 ghost use Rattle.std.specs.List.{position};
+ghost use Rattle.audit_base.specs.Numbers.{price_end};
 ghost use Rattle.audit_certificate.specs.Agreement.{IsBoundLine, ShowsNoGreaterVolume};
 ghost use Rattle.audit_certificate.specs.Bounds as bound;
 ghost use Rattle.audit_certificate.specs.Texts.{bound_text};
@@ -56,7 +57,7 @@ fn before_comma(text: &[u8]) -> &[u8]
 /// The price that the text writes; where it writes none, the one whose text is not read as a price.
 fn price_in_text(text: &[u8]) -> u64
     ensures same { result ≡ bound.price_in_text text.now }
-    ensures in_range { result ≤ 10 ^ 18 }
+    ensures in_range { result ≤ price_end }
 {
     match read_price(text) {
         Some(price) => price.units(),
@@ -67,7 +68,7 @@ fn price_in_text(text: &[u8]) -> u64
 /// The price that a line 2 has after `bound,`; of any other line some price.
 fn named_price(line: &[u8]) -> u64
     ensures same { result ≡ bound.named_price line.now }
-    ensures in_range { result ≤ 10 ^ 18 }
+    ensures in_range { result ≤ price_end }
 {
     if line.len() < 6 {
         return ABOVE_ALL_PRICES;
@@ -83,7 +84,7 @@ fn is_bound_text(
     line: &[u8],
     text: &mut Vec<u8>,
 ) -> Result<bool, NoMemory>
-    requires { price ≤ 10 ^ 18 }
+    requires { price ≤ price_end }
     ensures { IfOk result (λ same. IsTrue same ↔ (line.now ≡ bound_text price volume)) }
 {
     text.clear();
@@ -115,7 +116,7 @@ pub fn is_bound_line(
 /// quantity; else 0.
 fn above_if_short(order: &ListedOrder<'_>, traded: u128) -> u64
     ensures same { result ≡ bound.above_if_short order.now traded }
-    ensures in_range { result ≤ 10 ^ 18 }
+    ensures in_range { result ≤ price_end }
 {
     let quantity = order.quantity().value();
     if order.is_uncancelled_on(Side::Buy) && traded < u128::from(quantity) {
@@ -129,7 +130,7 @@ fn above_if_short(order: &ListedOrder<'_>, traded: u128) -> u64
 fn above_short_bids(orders: &OrderList<'_>, traded: &[u128]) -> u64
     requires { length traded.now ≡ length orders.now }
     ensures same { result ≡ bound.above_short_bids orders.now traded.now (length orders.now) }
-    ensures in_range { result ≤ 10 ^ 18 }
+    ensures in_range { result ≤ price_end }
 {
     let mut price = 0;
     for index in 0..orders.len() {
@@ -150,7 +151,7 @@ pub fn least_price(
     requires fits_indices { length orders.now < 2 ^ 32 }
     requires count { length traded.now ≡ length orders.now }
     ensures price { IfOk result (bound.IsCertificatePrice rule orders.now traded.now) }
-    ensures in_range { IfOk result (λ price. price ≤ 10 ^ 18) }
+    ensures in_range { IfOk result (λ price. price ≤ price_end) }
 {
     match rule {
         VolumeRule::Maximum => Ok(least_cut(alloc, orders)?.price),

@@ -1,5 +1,6 @@
 //! The certificate of deals that conform.
-ghost use Rattle.std.specs.Prelude.{◌≡◌, ◌<◌, ◌≤◌, ◌^◌, ◌++◌, ◌∷◌, [], IfOk, IsTrue, OnOk, length};
+ghost use Rattle.std.specs.Prelude.{◌≡◌, ◌≤◌, ◌++◌, ◌∷◌, [], IfOk, IsTrue, OnOk, length};
+ghost use Rattle.audit_base.specs.Numbers.{price_end};
 ghost use Rattle.audit_base.specs.Deals.{IsDealList};
 ghost use Rattle.audit_base.specs.Orders.{IsOrderList};
 ghost use Rattle.audit_base.specs.Rules.{Conforms};
@@ -48,7 +49,7 @@ fn append_front(
     volume: u128,
     out: &mut Vec<u8>,
 ) -> Result<(), NoMemory>
-    requires { price ≤ 10 ^ 18 }
+    requires { price ≤ price_end }
     ensures { OnOk result (out.new.items
         ≡ out.old.items ++ spec.front_lines rule symbol.now price volume) }
 {
@@ -68,7 +69,7 @@ fn certificate_of(
     price: u64,
 ) -> Result<Vec<u8>, NoMemory>
     requires count { length counts.now.traded.items ≡ length orders.now }
-    requires price { price ≤ 10 ^ 18 }
+    requires price { price ≤ price_end }
     ensures { IfOk result (λ text. text.items
         ≡ spec.written_text rule symbol.now orders.now counts.now price) }
 {

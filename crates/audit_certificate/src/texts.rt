@@ -1,5 +1,6 @@
 //! The texts of the lines, appended to one buffer. No LF is written here.
-ghost use Rattle.std.specs.Prelude.{◌≡◌, ◌≤◌, ◌^◌, ◌++◌, OnOk};
+ghost use Rattle.std.specs.Prelude.{◌≡◌, ◌≤◌, ◌++◌, OnOk};
+ghost use Rattle.audit_base.specs.Numbers.{price_end};
 ghost use Rattle.audit_certificate.specs.Texts as text;
 
 use audit_base::faults::NoMemory;
@@ -35,7 +36,7 @@ pub fn append_bound(
     volume: u128,
     out: &mut Vec<u8>,
 ) -> Result<(), NoMemory>
-    requires { price ≤ 10 ^ 18 }
+    requires { price ≤ price_end }
     ensures { OnOk result (out.new.items ≡ out.old.items ++ text.bound_text price volume) }
 {
     append(b"bound,", out)?;

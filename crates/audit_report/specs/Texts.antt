@@ -1,7 +1,8 @@
 -- The text of a verdict: its lines in order.
-use Rattle.std.specs.Prelude.{ℕ, ◌≤◌, ◌^◌, Option, Some, None, List, [], ◌++◌}
+use Rattle.std.specs.Prelude.{ℕ, ◌≤◌, Option, Some, None, List, [], ◌++◌}
 use Rattle.std.specs.Option.{ForSome}
 use Rattle.std.specs.List.{flat_map}
+use Rattle.audit_base.specs.Numbers.{price_end}
 use Rattle.audit_base.specs.declared.findings.Finding.{Finding}
 use Rattle.audit_base.specs.declared.orders.Cut.{Cut}
 use Rattle.audit_report.specs.Lines.{accepted_line, totals_line, bound_line, table_line, rejected_line, volume_line, shown_line, malformed_line}
@@ -34,7 +35,7 @@ verdict_text (verdict.Malformed log bad) = malformed_line log bad
 
 -- the price of a bound is at most 10^18 units
 abbrev pub IsBoundInRange : Cut → Type 0
-IsBoundInRange cut = cut.price ≤ 10 ^ 18
+IsBoundInRange cut = cut.price ≤ price_end
 
 -- the price of a bound that a verdict has is at most 10^18 units
 abbrev pub IsVerdictInRange : Verdict → Type 0

@@ -129,7 +129,7 @@ module _ (orders : List Order) (list : IsOrderList orders) (units price : â„• â†
       let is = p.is in
       let at = p.at in
       record {
-        keeps = record { bid_stands = b; ask_stands = a; least = omega (arith, m, at); most = omega (arith, m, at) };
+        keeps = record { bid_stands = b; ask_stands = a; limits = record { least = omega (arith, m, at); most = omega (arith, m, at) } };
         some = p.some;
         most = omega (arith, is, c.1, f.most d.bid d.ask);
       }
@@ -164,7 +164,7 @@ module _ (orders : List Order) (list : IsOrderList orders) (units price : â„• â†
   pairs-ranges ranges = Î» n e lt.
       let m = met n e lt in
       let o = ranges (get_or deals n e).bid order_past_end m.keeps.bid_stands.inside in
-      record { some = m.some; most = omega (arith, m.most, o.most); priced = omega (arith, m.keeps.most, o.priced) }
+      record { sized = record { some = m.some; most = omega (arith, m.most, o.sized.most) }; priced = omega (arith, m.keeps.limits.most, o.priced) }
 
   pub fills-reach : Reaches orders deals total
   fills-reach = record {

@@ -39,7 +39,7 @@ module _ (orders : List Order) (c : Cut) (list : IsOrderList orders) (ranges : O
         let k = All-head (IsMatchingDeal orders) d ds m.kept in
         let price : d.price ≡ one.price = All-head (λ e. e.price ≡ one.price) d ds one.each in
         let under : limit_at orders d.bid < 10 ^ 18 = (ranges d.bid order_past_end k.bid_stands.inside).priced in
-        omega (arith, volume-le-uniform orders (d ∷ ds) one.price m one.each, best.greatest one.price (omega (arith, k.most)))
+        omega (arith, volume-le-uniform orders (d ∷ ds) one.price m one.each, best.greatest one.price (omega (arith, k.limits.most)))
 
     pub uniform-conforms : ConformsUniform orders uniform
     uniform-conforms = record {

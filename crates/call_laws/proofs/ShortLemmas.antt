@@ -73,7 +73,7 @@ module _ (orders : List Order) (deals : List Deal) (m : Matching orders deals) (
 
   both-trade : (n : ℕ) (e : Deal) → n < length deals → (0 < traded deals (get_or deals n e).bid) × (0 < traded deals (get_or deals n e).ask)
   both-trade n e lt =
-      let d = get_or deals n e in let some = (ranges n e lt).some in
+      let d = get_or deals n e in let some = (ranges n e lt).sized.some in
       (omega (arith, get_or-le-sum_by (quantity_traded_by d.bid) deals n e lt, part-bid d), omega (arith, get_or-le-sum_by (quantity_traded_by d.ask) deals n e lt, part-ask d))
 
   -- fairness: no bid that trades is below the short one, and no ask above it
@@ -92,7 +92,7 @@ module _ (orders : List Order) (deals : List Deal) (m : Matching orders deals) (
             let full = fair.fills Buy i d.bid bid.stands kept.bid_stands better s.0 in let b = bid.below in absurd (omega arith)
         | inr le ↦ le
       ] in
-      record { bid_stands = kept.bid_stands; ask_stands = kept.ask_stands; least = low; most = omega arith }
+      record { bid_stands = kept.bid_stands; ask_stands = kept.ask_stands; limits = record { least = low; most = omega arith } }
 
   more-traded : (j : ℕ) → traded more j ≡ traded deals j + cond (eqb i j || eqb k j) 1 0
   more-traded j = sum_by_push (quantity_traded_by j) same_price one_more ∙ ap (λ x. x + cond (eqb i j || eqb k j) 1 0) (sum_by-map (quantity_traded_by j) (at_price (limit_at orders k)) deals)
@@ -100,7 +100,7 @@ module _ (orders : List Order) (deals : List Deal) (m : Matching orders deals) (
   more-matching : Matching orders more
   more-matching = record {
     kept = All-push (IsMatchingDeal orders) same_price one_more (All-map (IsMatchingDeal orders) (at_price (limit_at orders k)) deals still-keeps)
-        (record { bid_stands = bid.stands; ask_stands = ask.stands; least = omega arith; most = meet });
+        (record { bid_stands = bid.stands; ask_stands = ask.stands; limits = record { least = omega arith; most = meet } });
     within = λ j lt.
         let e = more-traded j in
         elim (cases_eq i j) [
@@ -125,8 +125,8 @@ module _ (orders : List Order) (deals : List Deal) (m : Matching orders deals) (
   more-ranges =
       let priced : limit_at orders k < 10 ^ 18 = (orders_range k order_past_end ask.stands.inside).priced in
       All-push DealInRange same_price one_more
-      (All-map DealInRange (at_price (limit_at orders k)) deals (λ n e lt. let r = ranges n e lt in record { some = r.some; most = r.most; priced = priced }))
-      (record { some = omega arith; most = omega arith; priced = priced })
+      (All-map DealInRange (at_price (limit_at orders k)) deals (λ n e lt. record { sized = (ranges n e lt).sized; priced = priced }))
+      (record { sized = record { some = omega arith; most = omega arith }; priced = priced })
 
   not-greatest : Greatest orders deals → ⊥
   not-greatest g = absurd (omega (arith, g more more-ranges more-matching, more-volume))

@@ -1,5 +1,6 @@
 -- The greatest volumes of a call, and the trades that reach them, as statements.
-use Rattle.std.specs.Prelude.{◌≡◌, ◌≤◌, ◌<◌, ◌^◌, ℕ, List, All}
+use Rattle.std.specs.Prelude.{◌≡◌, ◌≤◌, ℕ, List, All}
+use Rattle.audit_base.specs.Numbers.{IsPrice, price_end}
 use Rattle.audit_base.specs.declared.orders.Order.{Order}
 use Rattle.audit_base.specs.declared.orders.Deal.{Deal}
 use Rattle.audit_base.specs.declared.orders.Cut.{Cut}
@@ -54,9 +55,9 @@ MaximumTradesAreExpected = (orders : List Order) (c : Cut)
 abbrev pub UniformUnitsSuffice : Type 0
 UniformUnitsSuffice =
     (orders : List Order) (c : Cut) → OrdersInRange orders → IsGreatestExecutableVolume orders c
-    → (c.volume ≤ demand orders 0) × (c.volume ≤ supply orders (10 ^ 18)) × (c.price < 10 ^ 18)
+    → (c.volume ≤ demand orders 0) × (c.volume ≤ supply orders price_end) × (IsPrice c.price)
 
 -- under `maximum` both sides have units enough for the least cut
 abbrev pub MaximumUnitsSuffice : Type 0
 MaximumUnitsSuffice = (orders : List Order) (c : Cut) → OrdersInRange orders → IsLeastCut orders c
-    → (c.volume ≤ demand orders 0) × (c.volume ≤ supply orders (10 ^ 18))
+    → (c.volume ≤ demand orders 0) × (c.volume ≤ supply orders price_end)

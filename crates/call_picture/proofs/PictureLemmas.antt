@@ -35,7 +35,7 @@ sum-most f (d ∷ ds) all =
 
 part-most : (order : ℕ) (d : Deal) → DealInRange d → quantity_traded_by order d ≤ 10 ^ 12
 part-most order d is = elim (cases_Bool (names_order order d)) [
-  | inl t ↦ omega (arith, is.most, cond-true (names_order order d) d.quantity 0 t)
+  | inl t ↦ omega (arith, is.sized.most, cond-true (names_order order d) d.quantity 0 t)
   | inr f ↦ omega (arith, cond-false (names_order order d) d.quantity 0 f)
 ]
 
@@ -62,7 +62,7 @@ groups-sum orders deals (g ∷ gs) =
 quantities-most : (orders : List Order) (ranks : List ℕ) → OrdersInRange orders → All (λ order. order < length orders) ranks → sum_by (quantity_at orders) ranks ≤ length ranks * 10 ^ 12
 quantities-most orders [] in_range inside = omega arith
 quantities-most orders (r ∷ rs) in_range inside =
-    let most = (in_range r order_past_end (All-head (λ order. order < length orders) r rs inside)).most in
+    let most = (in_range r order_past_end (All-head (λ order. order < length orders) r rs inside)).sized.most in
     let rest = quantities-most orders rs in_range (All-tail (λ order. order < length orders) r rs inside) in
     omega (arith, most, rest, sum_by-cons (quantity_at orders) r rs)
 
@@ -87,7 +87,7 @@ side-most orders deals side reached picture is in_range =
     omega (arith, before, shown, part, all, most)
 
 volume-most : (deals : List Deal) → DealsInRange deals → volume deals ≤ length deals * 10 ^ 12
-volume-most deals in_range = sum-most (λ d. d.quantity) deals (λ k d lt. (in_range k d lt).most)
+volume-most deals in_range = sum-most (λ d. d.quantity) deals (λ k d lt. (in_range k d lt).sized.most)
 
 pub picture-in-range : (orders : List Order) (deals : List Deal) (picture : CallPicture) → IsOrderList orders → OrdersInRange orders → IsDealList orders deals → DealsInRange deals
     → IsCallPicture orders deals picture → IsPictureInRange picture

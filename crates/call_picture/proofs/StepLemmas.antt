@@ -258,7 +258,7 @@ ranked-limits orders side ranks ranked k lt j d below =
 
 pub small-first : (orders : List Order) (totals : List ℕ) (r : ℕ) (step : SideStep) → step ≡ step_of_order orders totals r → OrdersInRange orders → r < length orders → AreTotalsSmall totals → IsStepSmall 1 step
 small-first orders totals r step is in_range lt small =
-    let most = (in_range r order_past_end lt).most in
+    let most = (in_range r order_past_end lt).sized.most in
     let few : number_at totals r ≤ 2 ^ 72 = small r in
     subst (IsStepSmall 1) (sym is) (record { few = omega arith; bounded = omega (arith, most); small = omega (arith, few) })
 

@@ -1,5 +1,6 @@
 -- How the steps of a side are made, order by order.
 use Rattle.std.specs.Prelude.{◌≡◌, ◌≤◌, ◌+◌, ◌*◌, ◌^◌, ℕ, Bool, ◌==◌, ◌&&◌, List, [], ◌∷◌, ◌++◌, map, slice_index, if◌then◌else◌}
+use Rattle.audit_base.specs.Numbers.{greatest_quantity}
 use Rattle.audit_base.specs.declared.terms.Side.{Side}
 use Rattle.audit_base.specs.declared.orders.Order.{Order}
 use Rattle.audit_base.specs.declared.orders.Deal.{Deal}
@@ -46,7 +47,7 @@ AreTotalsSmall traded = (order : ℕ) → number_at traded order ≤ 2 ^ 72
 -- the numbers of a step of so many orders are no greater than these can make them
 pub record IsStepSmall (count : ℕ) (step : SideStep) : Type 0 where
   pub few : step.orders ≤ count
-  pub bounded : step.quantity ≤ count * 10 ^ 12
+  pub bounded : step.quantity ≤ count * greatest_quantity
   pub small : step.traded ≤ count * 2 ^ 72
 
 -- of the ranked orders so far, the finished steps, and the one that is made

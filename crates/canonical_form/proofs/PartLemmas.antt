@@ -156,6 +156,6 @@ pub sorted-parts : (deals : List Deal) (from parts : List DealPart) → from ≡
 sorted-parts deals from parts is ranges moved =
     let moved' : IsPermutation (map part_of_deal deals) parts = subst (λ (xs : List DealPart). IsPermutation xs parts) is moved in (
       length_permutation (map part_of_deal deals) parts moved' ∙ length-map deals part_of_deal,
-      All-permutation IsPartOfDeal (map part_of_deal deals) parts moved' (All-map IsPartOfDeal part_of_deal deals (λ k d lt. let r = ranges k d lt in record { positive = r.some; bounded = r.most })),
+      All-permutation IsPartOfDeal (map part_of_deal deals) parts moved' (All-map IsPartOfDeal part_of_deal deals (λ k d lt. let r = ranges k d lt in record { positive = r.sized.some; bounded = r.sized.most })),
       λ bid ask. sum_by-IsPermutation (part_of_pair bid ask) (map part_of_deal deals) parts moved' ∙ fold-map (λ (n : ℕ) (p : DealPart). n + part_of_pair bid ask p) part_of_deal 0 deals,
     )

@@ -135,8 +135,7 @@ module _ (orders : List Order) (symbol : List ℕ) (deals : List Deal) where
   pub trades-ranges : DealsInRange deals → TradesInRange trades
   trades-ranges ranges k t lt =
       let inside : k < length deals = rw (← trade-length) lt in
-      let r = ranges k deal_past_end inside in
-      subst TradeInRange (sym (trade-is k t inside)) (record { some = r.some; most = r.most; priced = r.priced })
+      subst TradeInRange (sym (trade-is k t inside)) (ranges k deal_past_end inside)
 
 -- the ids are names
 pub id_is_name : (number : ℕ) → number ≤ 2 ^ 32 → is_name (84 ∷ decimal number) ≡ true

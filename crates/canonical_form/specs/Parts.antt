@@ -1,7 +1,8 @@
 -- The parts that deals add to shares.
-use Rattle.std.specs.Prelude.{◌≡◌, ◌<◌, ◌≤◌, ◌+◌, ◌^◌, ℕ, Bool, ◌==◌, ◌&&◌, List, [], ◌∷◌, ◌++◌, All, AllPairs, sum_by, take, slice_index_or, ◌*◌, if◌then◌else◌}
+use Rattle.std.specs.Prelude.{◌≡◌, ◌<◌, ◌≤◌, ◌+◌, ℕ, Bool, ◌==◌, ◌&&◌, List, [], ◌∷◌, ◌++◌, All, AllPairs, sum_by, take, slice_index_or, ◌*◌, if◌then◌else◌}
 use Rattle.std.specs.Ordering.{nat_cmp, ordering_then}
 use Rattle.std.specs.declared.cmp.Ordering.{Ordering}
+use Rattle.audit_base.specs.Numbers.{greatest_quantity}
 use Rattle.audit_base.specs.declared.orders.Deal.{Deal}
 use Rattle.audit_base.specs.Deals.{pair}
 use Rattle.canonical_form.specs.declared.parts.DealPart.{DealPart}
@@ -30,7 +31,7 @@ share_of_pair bid ask s = if (s.bid == bid) && (s.ask == ask) then s.quantity el
 -- a part is of a quantity that a deal may have
 pub record IsPartOfDeal (p : DealPart) : Type 0 where
   pub positive : 0 < p.quantity
-  pub bounded : p.quantity ≤ 10 ^ 12
+  pub bounded : p.quantity ≤ greatest_quantity
 
 -- the part of a deal
 abbrev pub part_of_deal : Deal → DealPart
@@ -76,4 +77,4 @@ pub record AreSharesSoFar (parts : List DealPart) (at : ℕ) (shares : List Shar
   pub positive_here : 0 < s.quantity
   pub ascending : AllPairs ShareBefore shares
   pub under : All (λ t. ShareBefore t s) shares
-  pub fits : s.quantity ≤ at * 10 ^ 12
+  pub fits : s.quantity ≤ at * greatest_quantity

@@ -1,5 +1,6 @@
 -- What is known of the Expected trades before an order arrives, and after it has traded.
-use Rattle.std.specs.Prelude.{◌≡◌, ◌<◌, ◌≤◌, ◌+◌, ◌-◌, ◌^◌, ℕ, suc, List, [], All, length, replicate}
+use Rattle.std.specs.Prelude.{◌≡◌, ◌<◌, ◌≤◌, ◌+◌, ◌-◌, ℕ, suc, List, [], All, length, replicate}
+use Rattle.audit_base.specs.Numbers.{greatest_quantity}
 use Rattle.audit_base.specs.declared.orders.Order.{Order}
 use Rattle.audit_base.specs.declared.orders.Deal.{Deal}
 use Rattle.audit_base.specs.Orders.{place_at}
@@ -38,7 +39,7 @@ pub record AreTradesSoFar (orders : List Order) (n waiting : ℕ) (t : TradesSoF
   pub traded_count : length t.traded.items ≡ length orders
   pub order_numbers : AreNumbersInBounds orders n t.order_numbers
   pub traded_fits : (order : ℕ) → number_at t.traded.items order
-      + number_at t.order_numbers.left.items order ≤ 10 ^ 12
+      + number_at t.order_numbers.left.items order ≤ greatest_quantity
   pub dealt : All (IsFillPairInRange (length orders)) t.pairs.items
   pub within : length t.pairs.items + resting_count t.books_so_far.books + waiting ≤ n
 

@@ -1,5 +1,6 @@
 -- What is known of each order, and what its arrival at its own record adds.
 use Rattle.std.specs.Prelude.{◌≡◌, ◌≤◌, ◌*◌, ◌^◌, ℕ, List, true, false, replicate, slice_set}
+use Rattle.audit_base.specs.Numbers.{greatest_quantity}
 use Rattle.audit_base.specs.declared.orders.Order.{Order}
 use Rattle.audit_base.specs.declared.orders.Deal.{Deal}
 use Rattle.audit_base.specs.Continuous.{chain_traded_quantity, has_entered, size_of_order}
@@ -26,7 +27,7 @@ pub record IsArrivalOfOrder (orders : List Order) (deals : List Deal) (order : �
 pub record IsArrivalBounded (orders : List Order) (order : ℕ) (arrival : Arrival) : Type 0 where
   pub bounded : arrival.chain_traded ≤ order * 2 ^ 72
   pub chain_ended : arrival.chain_ended ≡ true → HasChainEnded orders order
-  pub most : arrival.size ≤ 10 ^ 12
+  pub most : arrival.size ≤ greatest_quantity
 
 -- the arrival of an order is noted, and nothing else changes
 pub record IsArrivalNoted (order : ℕ) (arrival : Arrival) (old new : OrderNumbers) : Type 0 where

@@ -1,7 +1,8 @@
 -- The pairs of a bid and an ask that trade with each other.
-use Rattle.std.specs.Prelude.{◌≡◌, ◌<◌, ◌≤◌, ◌+◌, ◌^◌, ◌⊎◌, ℕ, List, All, AllPairs, EachIndex, Contains, length, map, slice_index_or}
+use Rattle.std.specs.Prelude.{◌≡◌, ◌<◌, ◌≤◌, ◌+◌, ◌⊎◌, ℕ, List, All, AllPairs, EachIndex, Contains, length, map, slice_index_or}
 use Rattle.std.specs.Ordering.{nat_cmp, ordering_then}
 use Rattle.std.specs.declared.cmp.Ordering.{Ordering}
+use Rattle.audit_base.specs.Numbers.{greatest_quantity}
 use Rattle.audit_base.specs.declared.terms.Side.{Side}
 use Rattle.audit_base.specs.declared.terms.Side.TheVariants.{Buy, Sell}
 use Rattle.audit_base.specs.declared.orders.Order.{Order}
@@ -62,7 +63,7 @@ pub record IsFillPairInRange (count : ℕ) (p : FillPair) : Type 0 where
   pub bid_inside : p.bid < count
   pub ask_inside : p.ask < count
   pub some : 0 < p.quantity
-  pub most : p.quantity ≤ 10 ^ 12
+  pub most : p.quantity ≤ greatest_quantity
 
 -- the deal of a pair, with a number, at the limit of the earlier order
 abbrev pub fill_pair_deal : List Order → ℕ → FillPair → Deal

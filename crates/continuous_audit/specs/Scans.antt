@@ -1,5 +1,6 @@
 -- What the first deals add up to, and where the deals of an order begin.
 use Rattle.std.specs.Prelude.{◌≡◌, ◌<◌, ◌≤◌, ◌-◌, ◌*◌, ◌^◌, ◌⊎◌, ℕ, suc, false, List, Option, None, Some, length, slice_index_or}
+use Rattle.audit_base.specs.Numbers.{greatest_quantity}
 use Rattle.audit_base.specs.declared.orders.Order.{Order}
 use Rattle.audit_base.specs.declared.orders.Deal.{Deal}
 use Rattle.audit_base.specs.Deals.{names_order, deal_at, number_at}
@@ -26,7 +27,7 @@ pub record AreRunningTotals (orders : List Order) (deals : List Deal)
   pub count : length traded ≡ length orders
   pub sums : (order : ℕ) → order < length orders → number_at traded order
       ≡ running_total deals incoming_deals added order
-  pub fits : (order : ℕ) → order < length orders → number_at traded order ≤ added * 10 ^ 12
+  pub fits : (order : ℕ) → order < length orders → number_at traded order ≤ added * greatest_quantity
 
 -- the incoming deals before an index are those of the orders before this one
 pub record IsSplitAt (incoming_deals : List IncomingDeal) (order index : ℕ) : Type 0 where
@@ -61,7 +62,7 @@ pub record IsLeftRefreshed (deals : List Deal) (incoming_deals : List IncomingDe
 
 -- each number is at most 10^12, the greatest Size
 abbrev pub AreWithinGreatestSize : List ℕ → Type 0
-AreWithinGreatestSize numbers = (order : ℕ) → number_at numbers order ≤ 10 ^ 12
+AreWithinGreatestSize numbers = (order : ℕ) → number_at numbers order ≤ greatest_quantity
 
 -- what each order has traded is there, and at most 2^72
 pub record AreTotalsSmall (orders : List Order) (traded : List ℕ) : Type 0 where

@@ -1,5 +1,6 @@
 //! The arrival of an order at its own record.
-ghost use Rattle.std.specs.Prelude.{◌≡◌, ◌<◌, ◌≤◌, ◌^◌, ℕ, List, None, Some, true, length};
+ghost use Rattle.std.specs.Prelude.{◌≡◌, ◌<◌, ◌≤◌, ℕ, List, None, Some, true, length};
+ghost use Rattle.audit_base.specs.Numbers.{greatest_quantity};
 ghost use Rattle.audit_base.specs.Orders.{IsOrderList};
 ghost use Rattle.audit_base.specs.declared.orders.Deal.{Deal as ADeal};
 ghost use Rattle.continuous_audit.specs.Chains.{IsKnownBeforeArrival, AreNumbersInBounds};
@@ -45,7 +46,7 @@ fn target_rests(
 /// What is left of a quantity of which this much is taken, and 0 where the order didn't enter.
 fn size_left(entered: bool, quantity: Quantity, chain_traded: u128) -> u64
     ensures same { result ≡ size_left entered quantity chain_traded }
-    ensures most { result ≤ 10 ^ 12 }
+    ensures most { result ≤ greatest_quantity }
 {
     let quantity = quantity.value();
     if entered && chain_traded < quantity as u128 {

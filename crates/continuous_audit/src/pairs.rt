@@ -1,5 +1,6 @@
 //! The pairs of a bid and an ask that trade, in their order, and their deals.
 ghost use Rattle.std.specs.Prelude.{◌≡◌, ◌<◌, ◌≤◌, ◌++◌, ◌^◌, IfOk, OnOk, All, IsPermutation, IsSorted, length, map};
+ghost use Rattle.audit_base.specs.Numbers.{greatest_quantity};
 ghost use Rattle.audit_base.specs.Orders.{order_at};
 ghost use Rattle.audit_base.specs.Deals.{DealsInRange};
 ghost use Rattle.audit_base.specs.Expected.{resting_limit};
@@ -80,7 +81,7 @@ fn resting_limit(orders: &OrderList<'_>, bid: usize, ask: usize) -> Price
 /// The quantity of a pair.
 fn quantity_of(pair: &FillPair) -> Quantity
     requires some { 0 < pair.now.quantity }
-    requires most { pair.now.quantity ≤ 10 ^ 12 }
+    requires most { pair.now.quantity ≤ greatest_quantity }
     ensures { result ≡ pair.now.quantity }
 {
     match Quantity::of(pair.quantity) {

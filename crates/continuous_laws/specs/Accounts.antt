@@ -7,9 +7,8 @@ use Rattle.audit_base.specs.declared.orders.Order.{Order}
 use Rattle.audit_base.specs.declared.orders.Deal.{Deal}
 use Rattle.audit_base.specs.Orders.{order_at, place_at, other_side}
 use Rattle.audit_base.specs.Priority.{outranks}
-use Rattle.audit_base.specs.Deals.{names_order}
+use Rattle.audit_base.specs.Deals.{names_order, KeepsLimits}
 use Rattle.audit_base.specs.Continuous.{cause, traded_before, traded_at, uncancelled_before, size_in_ledger, rests_before_in_ledger, left_before_in_ledger}
-use Rattle.audit_base.specs.ContinuousRules.{KeepsLimits}
 use Rattle.continuous_laws.specs.Fills.{share_by_rank}
 
 -- the order at k is active after the record at place i: it came with the record, or it came before

@@ -5,10 +5,10 @@ use Rattle.audit_base.specs.declared.faults.Reason.{Reason}
 use Rattle.audit_base.specs.declared.terms.Life.{Life}
 use Rattle.audit_base.specs.declared.terms.Life.TheVariants as life
 use Rattle.audit_base.specs.Columns.{order_columns, trade_columns}
-use Rattle.audit_base.specs.Numbers.{price_form, quantity_form}
+use Rattle.audit_base.specs.Numbers.{IsPrice, IsQuantity, price_form, quantity_form}
 use Rattle.audit_base.specs.RecordRanges.{RecordInRange}
 use Rattle.audit_base.specs.Trades.{TradeInRange}
-use Rattle.audit_base.proofs.RangeLemmas.{IsQuantity, market-range, price-range, quantity-range}
+use Rattle.audit_base.proofs.RangeLemmas.{market-range, price-range, quantity-range}
 use Rattle.csv_logs.specs.declared.orders.LineHead.{LineHead}
 use Rattle.csv_logs.specs.declared.orders.LineKind.{LineKind}
 use Rattle.csv_logs.specs.declared.orders.LineKind.TheVariants as kind
@@ -31,9 +31,6 @@ column-known : (Q : ℕ → Type 0) (number : ℕ) (found : Option ℕ) → ((va
 column-known Q number None each = tt
 column-known Q number (Some value) each = each value refl
 
-abbrev IsPrice : ℕ → Type 0
-IsPrice price = price < 10 ^ 18
-
 quantity-known : (number : ℕ) (fields : List (List ℕ)) → IfOk (row_quantity number fields) IsQuantity
 quantity-known number fields = column-known IsQuantity number (quantity_form (column_text number fields)) (quantity-range (column_text number fields))
 
@@ -45,21 +42,21 @@ unfolding trade_of_row
 trade-known fields =
     behind TradeInRange (row_name 1 fields) _ (λ trade. behind TradeInRange (row_stamp 2 fields) _ (λ time. behind TradeInRange (row_name 3 fields) _ (λ symbol. behind TradeInRange (row_parties fields) _ (λ parties.
     behind-known IsQuantity TradeInRange (row_quantity 8 fields) _ (quantity-known 8 fields) (λ quantity is.
-    behind-known IsPrice TradeInRange (row_price 9 fields) _ (price-known 9 fields) (λ price priced. record { some = is.some; most = is.most; priced = priced }))))))
+    behind-known IsPrice TradeInRange (row_price 9 fields) _ (price-known 9 fields) (λ price priced. record { sized = is; priced = priced }))))))
 
 limit-known : (head : LineHead) (the_life : Life) (fields : List (List ℕ)) → IfOk (row_limit_order head the_life fields) RecordInRange
 limit-known head the_life fields =
     behind RecordInRange (row_side 6 fields) _ (λ side.
     behind-known IsQuantity RecordInRange (row_quantity 7 fields) _ (quantity-known 7 fields) (λ quantity is.
     behind-known IsPrice RecordInRange (row_price 8 fields) _ (price-known 8 fields) (λ price priced.
-    behind RecordInRange (row_blank 9 fields) _ (λ none. record { some = is.some; most = is.most; priced = priced }))))
+    behind RecordInRange (row_blank 9 fields) _ (λ none. record { sized = is; priced = priced }))))
 
 market-known : (head : LineHead) (fields : List (List ℕ)) → IfOk (row_market_order head fields) RecordInRange
 market-known head fields =
     behind RecordInRange (row_side 6 fields) _ (λ side.
     behind-known IsQuantity RecordInRange (row_quantity 7 fields) _ (quantity-known 7 fields) (λ quantity is.
     behind RecordInRange (row_blank 8 fields) _ (λ none.
-    behind RecordInRange (row_blank 9 fields) _ (λ nothing. record { some = is.some; most = is.most; priced = market-range side }))))
+    behind RecordInRange (row_blank 9 fields) _ (λ nothing. record { sized = is; priced = market-range side }))))
 
 cancel-known : (head : LineHead) (fields : List (List ℕ)) → IfOk (row_cancel head fields) RecordInRange
 cancel-known head fields =
@@ -70,7 +67,7 @@ replace-known head fields =
     behind RecordInRange (row_side 6 fields) _ (λ side.
     behind-known IsQuantity RecordInRange (row_quantity 7 fields) _ (quantity-known 7 fields) (λ quantity is.
     behind-known IsPrice RecordInRange (row_price 8 fields) _ (price-known 8 fields) (λ price priced.
-    behind RecordInRange (row_name 9 fields) _ (λ target. record { some = is.some; most = is.most; priced = priced }))))
+    behind RecordInRange (row_name 9 fields) _ (λ target. record { sized = is; priced = priced }))))
 
 kind-known : (k : LineKind) (head : LineHead) (fields : List (List ℕ)) → IfOk (order_of_kind k head fields) RecordInRange
 kind-known kind.New head fields = limit-known head life.Rests fields

@@ -227,9 +227,9 @@ impl LogLine for OrderRecord {
         writer: &mut Writer<W>,
     ) -> Result<(), NoMemory> {
         let head = LineHead {
-            key: self.key(),
+            key: *self.key(),
             time: self.time(),
-            symbol: self.symbol(),
+            symbol: *self.symbol(),
         };
         match *self {
             OrderRecord::New {

@@ -4,13 +4,13 @@ use Rattle.std.proofs.lemmas.List.{length-append, take_all, append_assoc, map-ap
 use Rattle.std.proofs.Math.Seq.{drop-append_seam}
 use Rattle.std.proofs.lemmas.List.Elements.{All-weaker, All-head, All-tail, All-push}
 use Rattle.audit_base.specs.Names.{is_name}
-use Rattle.audit_base.specs.Histories.{symbol_of}
+use Rattle.audit_base.specs.Histories.{key_of, symbol_of}
 use Rattle.audit_base.specs.declared.records.OrderRecord.{OrderRecord}
 use Rattle.audit_base.specs.declared.records.OrderRecord.TheVariants as entry_of
 use Rattle.day_records.specs.declared.kept_orders.KeptOrder.{KeptOrder}
 use Rattle.day_records.specs.NameRows.{part_of, name_at}
 use Rattle.day_records.proofs.NameRowLemmas.{name-kept, part-between, is-name}
-use Rattle.day_records.specs.KeptOrders.{record_of, with_names, kept_order, names_of, key_of_entry, target_text, HasNames, IsInside, AreInside, entries_of}
+use Rattle.day_records.specs.KeptOrders.{record_of, with_names, kept_order, names_of, target_text, HasNames, IsInside, AreInside, entries_of}
 
 -- Bytes behind the others change nothing.
 
@@ -81,8 +81,8 @@ entries-push bytes orders entry place inside named =
 
 pub inside-push : (bytes : List ℕ) (orders : List KeptOrder) (entry : OrderRecord) (place : ℕ) → AreInside bytes orders → AreInside (bytes ++ names_of entry) (orders ++ kept_order entry (length bytes) place ∷ [])
 inside-push bytes orders entry place inside =
-    let firm = (key_of_entry entry).firm in
-    let id = (key_of_entry entry).id in
+    let firm = (key_of entry).firm in
+    let id = (key_of entry).id in
     let target = target_text entry in
     All-push (IsInside (bytes ++ names_of entry)) orders (kept_order entry (length bytes) place) (inside-kept bytes (names_of entry) orders inside)
     (omega (arith, length-append bytes (firm ++ (id ++ target)), length-append firm (id ++ target), length-append id target))

@@ -1,6 +1,6 @@
 -- The order records of one symbol, by what is kept of them.
 use Rattle.std.specs.Prelude.{◌≤◌, ◌+◌, IsTrue, ℕ, List, ◌∷◌, [], ◌++◌, All, length, map}
-use Rattle.audit_base.specs.Histories.{time_of}
+use Rattle.audit_base.specs.Histories.{key_of, time_of}
 use Rattle.audit_base.specs.Moments.{Moment}
 use Rattle.audit_base.specs.Names.{is_name}
 use Rattle.audit_base.specs.declared.names.Key.{Key}
@@ -27,12 +27,6 @@ terms_of (entry_of.New key time symbol side quantity price life) =
 terms_of (entry_of.Cancel key time symbol target) = kept_terms kind.Cancel Sell 1 0 Rests
 terms_of (entry_of.Replace key time symbol target side quantity price) =
     kept_terms kind.Replace side quantity price Rests
-
--- the key of a record
-abbrev pub key_of_entry : OrderRecord → Key
-key_of_entry (entry_of.New key time symbol side quantity price life) = key
-key_of_entry (entry_of.Cancel key time symbol target) = key
-key_of_entry (entry_of.Replace key time symbol target side quantity price) = key
 
 -- the id of a record's target; of a new order nothing
 abbrev pub target_text : OrderRecord → List ℕ
@@ -76,7 +70,7 @@ HasNames (entry_of.Replace key time symbol target side quantity price) =
 
 -- the names of a record, one after another
 abbrev pub names_of : OrderRecord → List ℕ
-names_of entry = (key_of_entry entry).firm ++ ((key_of_entry entry).id ++ target_text entry)
+names_of entry = (key_of entry).firm ++ ((key_of entry).id ++ target_text entry)
 
 -- what is kept of a record at its place, whose names begin here
 abbrev pub kept_order : OrderRecord → ℕ → ℕ → KeptOrder
@@ -85,8 +79,8 @@ kept_order entry start place = record {
   time = time_of entry;
   start = start;
   place = place;
-  firm_size = length (key_of_entry entry).firm;
-  id_size = length (key_of_entry entry).id;
+  firm_size = length (key_of entry).firm;
+  id_size = length (key_of entry).id;
   target_size = length (target_text entry);
 }
 

@@ -90,12 +90,12 @@ impl<D: AuditedShare> DayOrders<D> {
     {
         self.count += 1;
         let symbol = entry.symbol();
-        let index = self.symbols.meet(&symbol)?;
+        let index = self.symbols.meet(symbol)?;
         if !self.share.has(index) {
             return Ok(());
         }
         let share_index = self.share.index_in_share(index);
-        self.make_room(share_index, symbol)?;
+        self.make_room(share_index, *symbol)?;
         self.kept[share_index].push(entry, self.count)
     }
 

@@ -96,17 +96,6 @@ fn terms_of(entry: &OrderRecord) -> KeptTerms
     }
 }
 
-/// The key of a record.
-fn key_of(entry: &OrderRecord) -> &Key
-    ensures { result.now ≡ spec.key_of_entry entry.now }
-{
-    match entry {
-        OrderRecord::New { key, .. } => key,
-        OrderRecord::Cancel { key, .. } => key,
-        OrderRecord::Replace { key, .. } => key,
-    }
-}
-
 /// The id of the record's target; of a new order nothing.
 fn target_text(entry: &OrderRecord) -> &[u8]
     ensures same { result.now ≡ spec.target_text entry.now }
@@ -196,7 +185,7 @@ fn have_names(entry: &OrderRecord)
 fn kept_order(entry: &OrderRecord, start: u32, place: u32) -> KeptOrder
     ensures { result ≡ spec.kept_order entry.now start place }
 {
-    let key = key_of(entry);
+    let key = entry.key();
     KeptOrder {
         terms: terms_of(entry),
         time: entry.time(),
@@ -213,7 +202,7 @@ fn put_names(bytes: &mut Vec<u8>, entry: &OrderRecord) -> Result<(), NoMemory>
     ensures adds { OnOk result (bytes.new.items ≡ bytes.old.items ++ spec.names_of entry.now) }
     ensures longer { HasMoreBytes bytes.old.items bytes.new.items }
 {
-    let key = key_of(entry);
+    let key = entry.key();
     bytes.extend_from_slice(key.firm.bytes())?;
     bytes.extend_from_slice(key.id.bytes())?;
     bytes.extend_from_slice(target_text(entry))?;

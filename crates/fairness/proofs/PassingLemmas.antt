@@ -142,7 +142,7 @@ module _ (orders : List Order) (deals : List Deal) (numbers : List ℕ) (list : 
     unfair-breaks o found ranges fair =
         let kept = matching.kept k deal_past_end lt in
         let here : unfair_flaw orders numbers bid ask (deal_at deals k) ≡ Some o = ap (unfair_flaw orders numbers bid ask) (sym d_is) ∙ found in
-        let positive = (ranges k deal_past_end lt).some in
+        let positive = (ranges k deal_past_end lt).sized.some in
         elim (option_or-cases _ _ o here) [
           | inl bids ↦ not-fair Buy bid bid_is k lt positive kept.bid_stands o bids fair
           | inr asks ↦ not-fair Sell ask ask_is k lt positive kept.ask_stands o asks.1 fair

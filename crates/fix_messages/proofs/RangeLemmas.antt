@@ -5,10 +5,10 @@ use Rattle.std.proofs.lemmas.Bool.{cases_Bool}
 use Rattle.audit_base.specs.declared.faults.BadPlace.{BadPlace}
 use Rattle.audit_base.specs.declared.records.OrderRecord.{OrderRecord}
 use Rattle.audit_base.specs.declared.terms.Side.{Side}
-use Rattle.audit_base.specs.Numbers.{market_price, price_form, quantity_form}
-use Rattle.audit_base.specs.RecordRanges.{AreInRange, RecordInRange}
+use Rattle.audit_base.specs.Numbers.{IsPrice, IsQuantity, market_price, price_form, quantity_form}
+use Rattle.audit_base.specs.RecordRanges.{RecordInRange}
 use Rattle.audit_base.specs.Trades.{TradesInRange}
-use Rattle.audit_base.proofs.RangeLemmas.{IsQuantity, market-range, price-range, quantity-range}
+use Rattle.audit_base.proofs.RangeLemmas.{market-range, price-range, quantity-range}
 use Rattle.fix_fields.specs.Grammar.{TagValue}
 use Rattle.fix_messages.specs.declared.meanings.MessageFault.{MessageFault}
 use Rattle.fix_messages.specs.declared.orders.OrderType.{OrderType}
@@ -24,9 +24,6 @@ use Rattle.fix_messages.proofs.PricedLemmas.{behind, behind-known, log_sound}
 use Rattle.trade_reports.specs.declared.reports.Report.{Report}
 use Rattle.trade_reports.specs.Pairings.{pairing}
 use Rattle.trade_reports.specs.Ranges.{ReportsInRange, PairedTradesAreInRange}
-
-abbrev IsPrice : ℕ → Type 0
-IsPrice price = price < 10 ^ 18
 
 form-known : (Q : ℕ → Type 0) (tag : ℕ) (found : Option ℕ) → ((value : ℕ) → found ≡ Some value → Q value) → IfOk (in_form tag found) Q
 form-known Q tag None each = tt
@@ -49,7 +46,7 @@ new-known fields =
     behind-known IsQuantity RecordInRange (message_quantity 38 fields) _ (quantity-known 38 fields) (λ quantity is.
     behind RecordInRange (message_order_type 40 fields) _ (λ chosen.
     behind-known IsPrice RecordInRange (price_of_order_type chosen side 44 fields) _ (by-limits chosen side 44 fields) (λ price priced.
-    behind RecordInRange (message_life 59 fields) _ (λ _. behind RecordInRange (no_quantity_condition fields) _ (λ _. record { some = is.some; most = is.most; priced = priced }))))))))
+    behind RecordInRange (message_life 59 fields) _ (λ _. behind RecordInRange (no_quantity_condition fields) _ (λ _. record { sized = is; priced = priced }))))))))
 
 cancel-known : (fields : List TagValue) → IfOk (message_cancel fields) RecordInRange
 unfolding message_cancel
@@ -62,7 +59,7 @@ replace-known fields =
     behind-known IsQuantity RecordInRange (message_quantity 38 fields) _ (quantity-known 38 fields) (λ quantity is.
     behind RecordInRange (message_limit_type 40 fields) _ (λ _.
     behind-known IsPrice RecordInRange (message_price 44 fields) _ (price-known 44 fields) (λ price priced.
-    behind RecordInRange (message_resting_life 59 fields) _ (λ _. behind RecordInRange (no_quantity_condition fields) _ (λ _. record { some = is.some; most = is.most; priced = priced })))))))))
+    behind RecordInRange (message_resting_life 59 fields) _ (λ _. behind RecordInRange (no_quantity_condition fields) _ (λ _. record { sized = is; priced = priced })))))))))
 
 abbrev IsEntry : Option OrderRecord → Type 0
 IsEntry entry = IfSome entry RecordInRange
@@ -98,7 +95,7 @@ unfolding trade_report
 trade-known fields =
     behind IsReport (message_type_row (codes "8") fields) _ (λ _. behind IsReport (message_word (codes "F") 150 fields) _ (λ _. behind IsReport (message_name 527 fields) _ (λ _. behind IsReport (message_head 56 fields) _ (λ _. behind IsReport (message_side 54 fields) _ (λ _.
     behind-known IsQuantity IsReport (message_quantity 32 fields) _ (quantity-known 32 fields) (λ quantity is.
-    behind-known IsPrice IsReport (message_price 31 fields) _ (price-known 31 fields) (λ price priced. record { some = is.some; most = is.most; priced = priced })))))))
+    behind-known IsPrice IsReport (message_price 31 fields) _ (price-known 31 fields) (λ price priced. record { sized = is; priced = priced })))))))
 
 report-entry-known : (report : Result Report MessageFault) → IfOk report IsReport → IfOk (report_table.some_report report) (λ found. IfSome found IsReport)
 report-entry-known (Ok report) is = is

@@ -4,7 +4,7 @@ use Rattle.std.specs.Prelude.{ℕ, ◌<◌, ◌^◌, IsTrue, List, [], ◌∷◌
 use Rattle.std.specs.List.{flat_map}
 use Rattle.audit_base.specs.Moments.{Moment, end_of_time}
 use Rattle.audit_base.specs.Names.{is_name}
-use Rattle.audit_base.specs.Numbers.{is_quantity, price_text}
+use Rattle.audit_base.specs.Numbers.{is_quantity, price_text, IsPrice}
 use Rattle.audit_base.specs.Histories.{HasMarketPrice}
 use Rattle.audit_base.specs.Stamps.{stamp_text}
 use Rattle.audit_base.specs.declared.names.Key.{Key}
@@ -95,7 +95,7 @@ pub record IsHead (key : Key) (time : Moment) (symbol : List ℕ) : Type 0 where
 -- A quantity and a price in their ranges.
 pub record AreTerms (quantity price : ℕ) : Type 0 where
   pub quantity_range : IsTrue (is_quantity quantity)
-  pub price_range : price < 10 ^ 18
+  pub price_range : IsPrice price
 
 -- all parts of an order are in their forms
 abbrev pub IsOrderInForm : OrderRecord → Type 0

@@ -1,8 +1,8 @@
 //! Writing logs: one message for an order, two for a trade. A value of a field is always the
 //! canonical text of what it says.
-ghost use Rattle.std.specs.Prelude.{◌≡◌, ◌<◌, ◌^◌, ◌∷◌, ◌++◌, [], IfOk, IsTrue, Ok, OnErr, OnOk, map};
+ghost use Rattle.std.specs.Prelude.{◌≡◌, ◌∷◌, ◌++◌, [], IfOk, IsTrue, Ok, OnErr, OnOk, map};
 ghost use Rattle.audit_base.specs.Names.{is_name};
-ghost use Rattle.audit_base.specs.Numbers.{is_quantity};
+ghost use Rattle.audit_base.specs.Numbers.{is_quantity, IsPrice};
 ghost use Rattle.fix_fields.specs.Grammar.{bytes_of};
 ghost use Rattle.fix_messages.specs.Logs.{fix_order_records, fix_report_records};
 ghost use Rattle.trade_reports.specs.Pairings.{pairing};
@@ -107,7 +107,7 @@ fn write_size(alloc: Global, terms: &MessageTerms, body: &mut Vec<u8>) -> Result
 fn write_limit(alloc: Global, life: Life, price: Price, body: &mut Vec<u8>) -> Result<(), NoMemory>
     ensures appended { let fields = limit_fields life price in
         OnOk result (body.new.items ≡ body.old.items ++ bytes_of fields) }
-    ensures in_range { OnOk result (price < 10 ^ 18) }
+    ensures in_range { OnOk result (IsPrice price) }
 {
     let text = price_text(alloc, price)?;
     match life {

@@ -4,7 +4,6 @@ use Rattle.std.specs.Prelude.{◌≡◌, ℕ, zero, suc, ◌&&◌, List, [], ◌
 use Rattle.std.specs.List.{enumerate_from}
 use Rattle.audit_base.specs.Moments.{Moment, is_before}
 use Rattle.audit_base.specs.declared.names.Key.{Key}
-use Rattle.audit_base.specs.declared.terms.Life.{Life}
 use Rattle.audit_base.specs.declared.terms.Life.TheVariants.{Rests}
 use Rattle.audit_base.specs.declared.records.OrderRecord.{OrderRecord}
 use Rattle.audit_base.specs.declared.records.OrderRecord.TheVariants.{New, Cancel, Replace}
@@ -123,12 +122,6 @@ with_target_ended orders (Some t) place = slice_set orders t (with_ending place 
 abbrev pub own_end : List Order → Option ℕ → ℕ → Option ℕ
 own_end orders None place = None
 own_end orders (Some t) place = if is_none (order_at orders t).cancelled then None else Some place
-
--- the life of the order of a record: a replacement rests
-abbrev pub life_of : OrderRecord → Life
-life_of (New key time symbol side quantity price life) = life
-life_of (Cancel key time symbol named) = Rests
-life_of (Replace key time symbol named side quantity price) = Rests
 
 -- the order of a record, by its target, of which a new order has none
 abbrev pub order_by_target : List Order → OrderRecord → Option ℕ → ℕ → Option Order

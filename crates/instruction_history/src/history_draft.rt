@@ -17,7 +17,7 @@ use super::symbol_history::SymbolHistory;
 use audit_base::faults::NoMemory;
 use audit_base::findings::Finding;
 use audit_base::names::Name;
-use audit_base::records::OrderRecord;
+use audit_base::records::{LogRecord, OrderRecord};
 use log_source::collector::Collector;
 use seeded_hash::seed::HashSeed;
 use std::alloc::Global;
@@ -35,23 +35,11 @@ impl AuditedSymbol for Brand {
     ghost symbol = { [] };
 }
 
-/// The symbol of a record.
-fn symbol_of(entry: &OrderRecord) -> &Name
-    ensures { result.now ≡ symbol_of entry.now }
-{
-    match entry {
-        OrderRecord::New { symbol, .. } => symbol,
-        OrderRecord::Cancel { symbol, .. } => symbol,
-        OrderRecord::Replace { symbol, .. } => symbol,
-    }
-}
-
-/// Whether the record is one of this symbol. The name is compared in its place, since a copy
-/// of it has 65 bytes.
+/// Whether the record is one of this symbol.
 fn has_symbol(entry: &OrderRecord, symbol: &Name) -> bool
     ensures { result ≡ same_name (symbol_of entry.now) symbol.now }
 {
-    *symbol_of(entry) == *symbol
+    *entry.symbol() == *symbol
 }
 
 /// What is known of the history of a symbol after some records of an order log: its orders so far,

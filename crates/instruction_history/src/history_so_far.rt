@@ -15,9 +15,8 @@ ghost use Rattle.order_list.specs.Stored.{order_with, orders_of, AreKeysNumbered
 use super::findings::{LastRecord, record_evidence};
 use audit_base::faults::NoMemory;
 use audit_base::flaws::Flaw;
-use audit_base::names::{Key, Name};
+use audit_base::names::Name;
 use audit_base::records::OrderRecord;
-use audit_base::terms::Life;
 use order_list::keys::{KeyNumber, Keys, SeenRecord};
 use order_list::lists::OrderList;
 use order_list::stored::{OrderParts, StoredOrder};
@@ -129,17 +128,6 @@ fn push(orders: &mut Vec<StoredOrder>, parts: &OrderParts) -> Result<(), NoMemor
     Ok(())
 }
 
-/// The life of the order of a record. A replacement rests.
-fn life_of(entry: &OrderRecord) -> Life
-    ensures { result ≡ draft.life_of entry.now }
-{
-    match entry {
-        OrderRecord::New { life, .. } => *life,
-        OrderRecord::Cancel { .. } => Life::Rests,
-        OrderRecord::Replace { .. } => Life::Rests,
-    }
-}
-
 /// Adds the order of a new order, which has no target, or of a replacement. `own_end` is the own
 /// place of a replacement whose target was ended before, and `number` that of its key.
 fn push_order(
@@ -182,24 +170,13 @@ fn push_order(
                 place,
                 time: *time,
                 side: *side,
-                life: life_of(entry),
+                life: entry.life(),
                 quantity: *quantity,
                 limit: *price,
                 cancelled: own_end,
                 target,
             },
         ),
-    }
-}
-
-/// The key of a record.
-fn key_of(entry: &OrderRecord) -> &Key
-    ensures { result.now ≡ key_of entry.now }
-{
-    match entry {
-        OrderRecord::New { key, .. } => key,
-        OrderRecord::Cancel { key, .. } => key,
-        OrderRecord::Replace { key, .. } => key,
     }
 }
 
@@ -254,7 +231,7 @@ impl HistorySoFar {
         let target = target_of(&self.list(), &self.keys, entry);
         let seen = seen_as(entry, place, self.orders.len() as u32);
         // One look-up gives what the key named and adds it.
-        let added = self.keys.add(key_of(entry), seen)?;
+        let added = self.keys.add(entry.key(), seen)?;
         if let Some(evidence) = record_evidence(added.earlier, self.last, entry, target) {
             return Ok(Some(Flaw { place, evidence }));
         }

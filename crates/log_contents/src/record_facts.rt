@@ -88,7 +88,7 @@ impl<R: TimedRecord> Collector for RecordFacts<R> {
     fn take(&mut self, entry: R) -> Result<(), NoMemory> {
         self.count += 1;
         self.times = Some(span_with(self.times, entry.made_at()));
-        self.symbols.meet(&entry.symbol())?;
+        self.symbols.meet(entry.symbol())?;
         Ok(())
     }
 

@@ -1,5 +1,6 @@
 -- Before, Entered and Size of the first orders.
 use Rattle.std.specs.Prelude.{◌≡◌, ◌<◌, ◌≤◌, ◌*◌, ◌^◌, ◌&&◌, ℕ, Bool, true, false, not, List, Option, None, Some, length, slice_index_or}
+use Rattle.audit_base.specs.Numbers.{greatest_quantity}
 use Rattle.audit_base.specs.declared.orders.Order.{Order}
 use Rattle.audit_base.specs.declared.orders.Deal.{Deal}
 use Rattle.audit_base.specs.Continuous.{chain_traded_quantity, has_entered, is_cancelled_at_place, size_of_order}
@@ -46,4 +47,4 @@ enters_where order target_rests =
 pub record AreTradedSums (m : DealtOrders) (order : ℕ) (s : TradedSums) : Type 0 where
   pub families : AreFamilies m.orders.now s.sums.families
   pub traded : HaveTraded m order s.added s.sums.amounts
-  pub total : amount_total s.sums.amounts ≤ s.added * (2 * 10 ^ 12)
+  pub total : amount_total s.sums.amounts ≤ s.added * (2 * greatest_quantity)

@@ -1,5 +1,6 @@
 -- A book as the list of the orders that rest on a side, and what its calls make of this list.
-use Rattle.std.specs.Prelude.{◌≡◌, ◌<◌, ◌-◌, ◌^◌, ◌⊎◌, ℕ, Bool, ◌==◌, ◌&&◌, nat_lt, List, [], ◌∷◌, Option, None, Some, IsTrue, if◌then◌else◌}
+use Rattle.std.specs.Prelude.{◌≡◌, ◌<◌, ◌-◌, ◌⊎◌, ℕ, Bool, ◌==◌, ◌&&◌, nat_lt, List, [], ◌∷◌, Option, None, Some, IsTrue, if◌then◌else◌}
+use Rattle.audit_base.specs.Numbers.{IsPrice}
 use Rattle.audit_base.specs.declared.terms.Side.{Side}
 use Rattle.audit_base.specs.Priority.{better_limit}
 use Rattle.order_book.specs.declared.books.Resting.{Resting}
@@ -12,7 +13,7 @@ pub record BookSide : Type 0 where
 -- what holds of each: something is left, and its limit is a price
 pub record IsRestingOrder (r : Resting) : Type 0 where
   pub positive : 0 < r.left
-  pub priced : r.limit < 10 ^ 18
+  pub priced : IsPrice r.limit
 
 -- the first is ahead of the second: a better limit, or the same limit and a lower index
 abbrev pub IsAheadInBook : Side → Resting → Resting → Type 0

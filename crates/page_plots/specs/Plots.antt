@@ -1,6 +1,7 @@
 -- Where the numbers and prices of a plot lie on its paper, and what is marked on its axes.
 use Rattle.std.specs.Prelude.{◌≡◌, ◌≤◌, ◌+◌, ◌-◌, ◌/◌, ◌^◌, ℕ, List, [], ◌∷◌, map, max, min, nat_lt, if◌then◌else◌}
 use Rattle.std.specs.List.{flat_map}
+use Rattle.audit_base.specs.Numbers.{price_end}
 use Rattle.page_plots.specs.Axes.{IsAxis, point_of}
 use Rattle.page_plots.specs.Rounds.{IsLeastRound}
 use Rattle.page_plots.specs.Ticks.{AreTicks}
@@ -69,7 +70,7 @@ placed_number plot number = record { number = number; x = x_of plot number }
 -- a marked price, at its place, where the number is a price
 abbrev pub placed_price : Plot → ℕ → List PriceTick
 placed_price plot number =
-    if nat_lt number (10 ^ 18) then record { price = number; y = y_of plot number } ∷ [] else []
+    if nat_lt number price_end then record { price = number; y = y_of plot number } ∷ [] else []
 
 -- the numbers of the first axis that are marked, each at its place
 pub record AreNumberTicks (plot : Plot) (ticks : List NumberTick) : Type 0 where

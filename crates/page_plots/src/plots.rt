@@ -2,6 +2,7 @@
 //! lower end, as they lie from the start of their axis. A number beyond an axis lies at its end.
 ghost use Rattle.std.specs.Prelude.{◌≡◌, ◌<◌, ◌≤◌, ◌-◌, ◌^◌, ◌++◌, ◌∷◌, [], IfOk, OnOk, map, nat_lt, if◌then◌else◌, Some, None};
 ghost use Rattle.std.specs.List.{flat_map};
+ghost use Rattle.audit_base.specs.Numbers.{price_end};
 ghost use Rattle.page_plots.specs.Axes.{IsAxis};
 ghost use Rattle.page_plots.specs.Plots as spec;
 ghost use Rattle.page_plots.specs.Plots.{AreAxesOf, AreMarks, AreNumberTicks, ArePriceTicks, IsPlot};
@@ -81,7 +82,7 @@ fn marks_of(alloc: Global, axis: Axis, most: u128) -> Result<Vec<u128>, NoMemory
 
 /// The price of this many units, if there is one.
 fn price_at(number: u128) -> Option<Price>
-    ensures { result ≡ (if nat_lt number (10 ^ 18) then Some number else None) }
+    ensures { result ≡ (if nat_lt number price_end then Some number else None) }
 {
     match u64::try_from(number) {
         Ok(units) => Price::of(units),

@@ -1,7 +1,8 @@
 -- The ranks that the code sorts in place of the orders of a side.
-use Rattle.std.specs.Prelude.{◌≡◌, ◌<◌, ◌-◌, ◌^◌, ℕ, List, [], ◌∷◌, All, AllPairs, Contains, if◌then◌else◌}
+use Rattle.std.specs.Prelude.{◌≡◌, ◌<◌, ◌-◌, ℕ, List, [], ◌∷◌, All, AllPairs, Contains, if◌then◌else◌}
 use Rattle.std.specs.Ordering.{nat_cmp, ordering_then}
 use Rattle.std.specs.declared.cmp.Ordering.{Ordering}
+use Rattle.audit_base.specs.Numbers.{IsPrice, price_end}
 use Rattle.audit_base.specs.declared.terms.Side.{Side}
 use Rattle.audit_base.specs.declared.terms.Side.TheVariants.{Buy, Sell}
 use Rattle.audit_base.specs.declared.orders.Order.{Order}
@@ -11,7 +12,7 @@ use Rattle.rank_order.specs.declared.ranks.Rank.{Rank}
 -- the weight of a limit, of which less is better: of a bid 10^18 less the limit, of an ask the
 -- limit itself
 abbrev pub weight_of : Side → ℕ → ℕ
-weight_of Buy limit = 10 ^ 18 - limit
+weight_of Buy limit = price_end - limit
 weight_of Sell limit = limit
 
 -- the rank of an order of a side at an index with this limit
@@ -38,7 +39,7 @@ index_of r = r.index
 pub record IsRankOf (orders : List Order) (side : Side) (r : Rank) : Type 0 where
   pub stands : IsUncancelledOn orders side r.index
   pub is : r ≡ order_rank r.index (order_at orders r.index)
-  pub priced : limit_at orders r.index < 10 ^ 18
+  pub priced : IsPrice (limit_at orders r.index)
 
 -- these are the ranks of the first n orders, by rising index
 pub record AreRanks (orders : List Order) (side : Side) (n : ℕ) (ranks : List Rank) : Type 0 where

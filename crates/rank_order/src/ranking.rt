@@ -1,5 +1,6 @@
 //! The orders of a side from the best to the worst.
-ghost use Rattle.std.specs.Prelude.{◌≡◌, ◌<◌, ◌^◌, ◌++◌, IfOk, OnOk, length, map};
+ghost use Rattle.std.specs.Prelude.{◌≡◌, ◌++◌, IfOk, OnOk, length, map};
+ghost use Rattle.audit_base.specs.Numbers.{IsPrice};
 ghost use Rattle.audit_base.specs.Orders.{IsOrderList};
 ghost use Rattle.audit_base.specs.Priority.{IsRanked};
 ghost use Rattle.audit_base.specs.declared.terms.Side.TheVariants.{Buy, Sell};
@@ -22,7 +23,7 @@ fn add_rank(
 ) -> Result<(), NoMemory>
     ensures ranks { let more = rank_if side index order.now in
         OnOk result (ranks.new.items ≡ ranks.old.items ++ more) }
-    ensures priced { order.now.limit < 10 ^ 18 }
+    ensures priced { IsPrice order.now.limit }
 {
     let rank = Rank::of(order.side(), index, order.limit());
     if order.is_uncancelled_on(side) {

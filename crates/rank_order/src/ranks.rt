@@ -1,5 +1,6 @@
 //! Ranks, which sort as the orders of a side do.
-ghost use Rattle.std.specs.Prelude.{◌≡◌, ◌<◌, ◌^◌};
+ghost use Rattle.std.specs.Prelude.{◌≡◌};
+ghost use Rattle.audit_base.specs.Numbers.{IsPrice};
 ghost use Rattle.rank_order.specs.Ranks.{rank_of};
 
 use audit_base::numbers::Price;
@@ -22,7 +23,7 @@ impl Rank {
     /// The rank of the order at this index with this limit.
     pub fn of(side: Side, index: usize, limit: Price) -> Rank
         ensures same { result ≡ rank_of side index limit }
-        ensures priced { limit < 10 ^ 18 }
+        ensures priced { IsPrice limit }
     {
         let units = limit.units();
         let weight = match side {

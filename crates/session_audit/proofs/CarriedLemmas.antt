@@ -63,11 +63,11 @@ module _ (phases : List Phase) (orders : List Order) (list : IsOrderList orders)
         let is = written i in_orders in
         let b = in-phase-le orders (first_place phases k) (left_after_phases phases orders deals k) (chain_before_phase phases orders deals k) i (rest-le k i) in
         let most = quantity-le (end_place phases k) (order_at orders i) (what k i) b in
-        let some = quantity-some (end_place phases k) (order_at orders i) (what k i) (in-phase-some orders (first_place phases k) (left_after_phases phases orders deals k) (chain_before_phase phases orders deals k) i) is.some in
+        let some = quantity-some (end_place phases k) (order_at orders i) (what k i) (in-phase-some orders (first_place phases k) (left_after_phases phases orders deals k) (chain_before_phase phases orders deals k) i) is.sized.some in
         let limit : (phase_order (end_place phases k) (order_at orders i) (what k i)).limit ≡ (order_at orders i).limit = keeps (λ o. o.limit) (λ o q c t. refl) (end_place phases k) (order_at orders i) (what k i) in
-        let w = is.most in
+        let w = is.sized.most in
         let p = is.priced in
-        let ordered : OrderInRange (phase_order (end_place phases k) (order_at orders i) (what k i)) = record { some = some; most = omega arith; priced = omega arith } in
+        let ordered : OrderInRange (phase_order (end_place phases k) (order_at orders i) (what k i)) = record { sized = record { some = some; most = omega arith }; priced = omega arith } in
         subst OrderInRange (sym (at k i lt)) ordered
 
     -- the order lists of phases have numbers in range

@@ -156,7 +156,7 @@ sum-most f (x ∷ xs) h =
     omega arith
 
 part-most : (i : ℕ) (d : Deal) → DealInRange d → quantity_traded_by i d ≤ 10 ^ 12
-part-most i d is = let most = is.most in elim (cases_Bool (names_order i d)) [
+part-most i d is = let most = is.sized.most in elim (cases_Bool (names_order i d)) [
   | inl t ↦ let e = cond-true (names_order i d) d.quantity 0 t in omega arith
   | inr f ↦ let e = cond-false (names_order i d) d.quantity 0 f in omega arith
 ]

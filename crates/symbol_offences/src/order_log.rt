@@ -36,7 +36,7 @@ impl AskedOrders for Brand {
 fn has_symbol(entry: &OrderRecord, symbol: &Name) -> bool
     ensures { result ≡ same_name (symbol_of entry.now) symbol.now }
 {
-    entry.symbol() == *symbol
+    *entry.symbol() == *symbol
 }
 
 /// Keeps one record more, where records are kept.

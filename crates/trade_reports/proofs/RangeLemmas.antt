@@ -5,7 +5,7 @@ use Rattle.std.specs.List.{All}
 use Rattle.std.proofs.lemmas.Grind.{reverse_onto}
 use Rattle.std.proofs.lemmas.List.Elements.{All-append, All-cons, All-head, All-nil, All-tail}
 use Rattle.audit_base.specs.declared.records.TradeRecord.{TradeRecord}
-use Rattle.audit_base.specs.RecordRanges.{AreInRange}
+use Rattle.audit_base.specs.Numbers.{AreInRange}
 use Rattle.audit_base.specs.Trades.{TradesInRange, TradeInRange}
 use Rattle.trade_reports.specs.declared.reports.UnpairedReport.{UnpairedReport}
 use Rattle.trade_reports.specs.declared.reports.PlacedReport.{PlacedReport}
@@ -40,7 +40,7 @@ all-trades : (listed : List ReportPair) → All IsPair listed → TradesInRange 
 all-trades [] are = All-nil TradeInRange
 all-trades (pair ∷ listed) are =
     let is = All-head IsPair pair listed are in
-    All-cons TradeInRange (trade_of_reports pair.first.report pair.second.report) (trades_of_pairs listed) (record { some = is.some; most = is.most; priced = is.priced }) (all-trades listed (All-tail IsPair pair listed are))
+    All-cons TradeInRange (trade_of_reports pair.first.report pair.second.report) (trades_of_pairs listed) is (all-trades listed (All-tail IsPair pair listed are))
 
 unless-lone : (lone : Option UnpairedReport) (trades : List TradeRecord) → TradesInRange trades → IfOk (trades_unless_unpaired lone trades) TradesInRange
 unless-lone None trades are = are

@@ -1,7 +1,7 @@
 -- What the numbers of a trade report may be, and, as a statement,
 -- that the trades of reports keep it.
 use Rattle.std.specs.Prelude.{IfOk, All, List}
-use Rattle.audit_base.specs.RecordRanges.{AreInRange}
+use Rattle.audit_base.specs.Numbers.{AreInRange}
 use Rattle.audit_base.specs.Trades.{TradesInRange}
 use Rattle.trade_reports.specs.declared.reports.Report.{Report}
 use Rattle.trade_reports.specs.Pairings.{pairing}

@@ -28,8 +28,8 @@ pub struct Report {
 impl LogRecord for Report {
     ghost symbol_of = { λ report. report.symbol };
 
-    fn symbol(&self) -> Name {
-        self.symbol
+    fn symbol(&self) -> &Name {
+        &self.symbol
     }
 }
 

@@ -1,5 +1,6 @@
 -- Lots: what the orders of a side trade of a volume, in rank order.
-use Rattle.std.specs.Prelude.{◌≡◌, ◌<◌, ◌≤◌, ◌-◌, ◌^◌, ℕ, min, List, All, AllPairs, EachIndex, ◌≢◌, length, take, sum_by, slice_index, slice_index_or}
+use Rattle.std.specs.Prelude.{◌≡◌, ◌<◌, ◌≤◌, ◌-◌, ℕ, min, List, All, AllPairs, EachIndex, ◌≢◌, length, take, sum_by, slice_index, slice_index_or}
+use Rattle.audit_base.specs.Numbers.{greatest_quantity}
 use Rattle.audit_base.specs.declared.orders.Order.{Order}
 use Rattle.audit_base.specs.Orders.{quantity_at}
 use Rattle.unit_pairs.specs.declared.lots.Lot.{Lot}
@@ -34,7 +35,7 @@ lot_of orders ranks volume k = record {
 -- what the quantity of a lot may be: 1 to 10^12
 pub record IsLot (l : Lot) : Type 0 where
   pub positive : 0 < l.quantity
-  pub bounded : l.quantity ≤ 10 ^ 12
+  pub bounded : l.quantity ≤ greatest_quantity
 
 -- each lot has a quantity that a lot may have, and no two are of one order
 pub record AreLots (lots : List Lot) : Type 0 where

@@ -1,5 +1,6 @@
 -- The pairs that two lists of lots make where their units meet in order.
 use Rattle.std.specs.Prelude.{◌≡◌, ◌<◌, ◌≤◌, ◌+◌, ◌-◌, ◌^◌, ◌⊎◌, ℕ, min, max, List, All, Contains, length, map}
+use Rattle.audit_base.specs.Numbers.{greatest_quantity}
 use Rattle.unit_pairs.specs.declared.lots.Lot.{Lot}
 use Rattle.unit_pairs.specs.declared.meeting.UnitPair.{UnitPair}
 use Rattle.unit_pairs.specs.declared.meeting.Progress.{Progress}
@@ -35,7 +36,7 @@ pub record IsUnitPair (bids asks : List Lot) (p : UnitPair) : Type 0 where
   pub bid_is : p.bid ≡ (lot_at bids bid_lot).order
   pub ask_is : p.ask ≡ (lot_at asks ask_lot).order
   pub positive : 0 < p.quantity
-  pub bounded : p.quantity ≤ 10 ^ 12
+  pub bounded : p.quantity ≤ greatest_quantity
   pub is : p.quantity ≡ overlap bids asks bid_lot ask_lot
 
 -- each pair is of two lots that have units in common, and each two such lots are a pair

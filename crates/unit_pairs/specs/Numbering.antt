@@ -1,5 +1,6 @@
 -- Deals that are made of pairs: their numbers and their prices.
-use Rattle.std.specs.Prelude.{◌≡◌, ◌<◌, ◌≤◌, ◌^◌, ℕ, ◌+◌, List, AllPairs, EachIndex, length, slice_index_or}
+use Rattle.std.specs.Prelude.{◌≡◌, ◌<◌, ◌≤◌, ℕ, ◌+◌, List, AllPairs, EachIndex, length, slice_index_or}
+use Rattle.audit_base.specs.Numbers.{greatest_quantity}
 use Rattle.audit_base.specs.declared.orders.Order.{Order}
 use Rattle.audit_base.specs.declared.orders.Deal.{Deal}
 use Rattle.audit_base.specs.Orders.{limit_at}
@@ -26,7 +27,7 @@ unit_pair_price orders AskLimit ask = limit_at orders ask
 pub record IsUnitPairInRange (orders : List Order) (p : UnitPair) : Type 0 where
   pub ask_inside : p.ask < length orders
   pub positive : 0 < p.quantity
-  pub bounded : p.quantity ≤ 10 ^ 12
+  pub bounded : p.quantity ≤ greatest_quantity
 
 -- the deal of a pair, with a number
 abbrev pub unit_pair_deal : List Order → DealPrice → ℕ → UnitPair → Deal

@@ -2,7 +2,8 @@
 //!
 //! `maximum` takes the bids' lots from last to first. That reversal and the price are all in which
 //! the two rules differ.
-ghost use Rattle.std.specs.Prelude.{◌≡◌, ◌<◌, ◌≤◌, ◌^◌, IfOk, All, length, min, sum_by};
+ghost use Rattle.std.specs.Prelude.{◌≡◌, ◌<◌, ◌≤◌, IfOk, All, length, min, sum_by};
+ghost use Rattle.audit_base.specs.Numbers.{greatest_quantity};
 ghost use Rattle.audit_base.specs.Orders.{IsOrderList, quantity_at};
 ghost use Rattle.rank_order.specs.Sides.{AreRanked};
 ghost use Rattle.unit_pairs.specs.Lots.{AreLotsOf, lots_total};
@@ -29,7 +30,7 @@ fn quantity_within(order: &ListedOrder<'_>, left: u128) -> u64
     requires { 0 < left }
     ensures lesser { result ≡ min order.now.quantity left }
     ensures some { 0 < result }
-    ensures most { result ≤ 10 ^ 12 }
+    ensures most { result ≤ greatest_quantity }
 {
     let quantity = order.quantity().value();
     if (quantity as u128) < left {

@@ -1,5 +1,6 @@
 //! The deals of pairs, numbered in their order.
 ghost use Rattle.std.specs.Prelude.{◌≡◌, ◌<◌, ◌≤◌, ◌^◌, IfOk, All, length};
+ghost use Rattle.audit_base.specs.Numbers.{greatest_quantity};
 ghost use Rattle.unit_pairs.specs.Numbering.{AreUnitPairDeals, IsUnitPairInRange, unit_pair_price};
 
 use super::meeting::UnitPair;
@@ -32,7 +33,7 @@ fn price_at(orders: &OrderList<'_>, price: &DealPrice, ask: usize) -> Price
 /// The quantity of a pair.
 fn quantity_of(pair: &UnitPair) -> Quantity
     requires some { 0 < pair.now.quantity }
-    requires most { pair.now.quantity ≤ 10 ^ 12 }
+    requires most { pair.now.quantity ≤ greatest_quantity }
     ensures { result ≡ pair.now.quantity }
 {
     match Quantity::of(pair.quantity) {

@@ -54,11 +54,11 @@ module _ (orders : List Order) (past : ℕ → ℕ → ℕ) where
       let at = p.at in
       let bid = ranges x.bid order_past_end p.bid_inside in
       let ask = ranges x.ask order_past_end p.ask_inside in
-      let most = pair-most (10 ^ 12) x.bid x.ask bid.most ask.most in
+      let most = pair-most (10 ^ 12) x.bid x.ask bid.sized.most ask.sized.most in
       let s = shared orders past x.bid x.ask (omega arith) in
       let priced = bid.priced in
       let high = s.most in
-      record { some = some; most = omega arith; priced = omega arith }
+      record { sized = record { some = some; most = omega arith }; priced = omega arith }
 
 expected-ranges : (orders : List Order) (deals : List Deal) → OrdersInRange orders → IsExpectedContinuous orders deals → DealsInRange deals
 expected-ranges orders deals ranges e = subst DealsInRange (sym e) (made-ranges orders (traded_before orders deals) ranges)

@@ -2,6 +2,7 @@
 use Rattle.std.specs.Prelude.{◌≡◌, ◌≤◌, ◌*◌, ◌^◌, ℕ, List, map, sum_by, nat_lt, nat_le, if◌then◌else◌}
 use Rattle.std.specs.List.{filter}
 use Rattle.std.specs.List.Sorted.{IsNonDecreasingBy}
+use Rattle.audit_base.specs.Numbers.{greatest_quantity}
 use Rattle.audit_base.specs.declared.terms.Side.{Side}
 use Rattle.audit_base.specs.declared.orders.Order.{Order}
 use Rattle.audit_base.specs.Orders.{is_uncancelled_on}
@@ -36,4 +37,4 @@ quantity_from limits p = sum_by (λ l. if nat_le p l.limit then l.quantity else 
 pub record AreLimitsSummed (limits : List LimitQuantity) (quantity : ℕ) : Type 0 where
   pub rising : IsNonDecreasingBy (λ l. l.limit) limits
   pub whole : quantity ≡ quantity_of_limits limits
-  pub small : quantity ≤ 2 ^ 32 * 10 ^ 12
+  pub small : quantity ≤ 2 ^ 32 * greatest_quantity

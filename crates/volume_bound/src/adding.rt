@@ -1,6 +1,7 @@
 //! The limits of a side that are added up to a price, and from there up to the next one.
 ghost use Rattle.std.specs.Prelude.{◌≡◌, ◌≤◌, ◌*◌, ◌^◌};
 ghost use Rattle.std.specs.List.Sorted.{IsNonDecreasingBy};
+ghost use Rattle.audit_base.specs.Numbers.{greatest_quantity};
 ghost use Rattle.volume_bound.specs.declared.limits.LimitQuantity.{LimitQuantity};
 ghost use Rattle.volume_bound.specs.Adding.{AllCount, AreAddedLimits, limit_counts, counted_quantity};
 ghost use Rattle.volume_bound.specs.Limits.{quantity_of_limits};
@@ -60,7 +61,7 @@ pub fn start_of(limits: &[LimitQuantity], edge: Edge, added: AddedLimits) -> Add
 /// Adds the limits that count and are not added yet.
 pub fn add_from(limits: &[LimitQuantity], edge: Edge, start: AddedLimits) -> AddedLimits
     requires rising { IsNonDecreasingBy (λ (l : LimitQuantity). l.limit) limits.now }
-    requires small { quantity_of_limits limits.now ≤ 2 ^ 32 * 10 ^ 12 }
+    requires small { quantity_of_limits limits.now ≤ 2 ^ 32 * greatest_quantity }
     requires added { AreAddedLimits limits.now start }
     requires count { AllCount edge limits.now start.count }
     ensures added { AreAddedLimits limits.now result }

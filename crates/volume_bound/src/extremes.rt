@@ -6,6 +6,7 @@
 //! in, which is at its limit; so the greatest, and the least price that reaches it, are found
 //! among 0 and each ask limit.
 ghost use Rattle.std.specs.Prelude.{◌≡◌, ◌≤◌, ◌<◌, ◌^◌, List, IfOk, OnOk, length};
+ghost use Rattle.audit_base.specs.Numbers.{price_end};
 ghost use Rattle.audit_base.specs.Bounds.{IsLeastCut, IsGreatestExecutableVolume};
 ghost use Rattle.audit_base.specs.Orders.{OrdersInRange};
 ghost use Rattle.audit_base.specs.declared.orders.Order.{Order};
@@ -74,7 +75,7 @@ fn executable_after(sums: &Sums, last: CountedSides, price: u64) -> CountedSides
 /// price that reaches it.
 pub fn least_cut_of(sums: &Sums) -> Cut
     ensures least { ForOrdersOf sums.now (λ orders. IsLeastCut orders result) }
-    ensures in_range { result.price ≤ 10 ^ 18 }
+    ensures in_range { result.price ≤ price_end }
 {
     let mut last = sums.cut_after(CountedSides::NONE, 0);
     let mut best = last.cut;
@@ -89,7 +90,7 @@ pub fn least_cut_of(sums: &Sums) -> Cut
 /// price that reaches it.
 pub fn best_uniform_of(sums: &Sums) -> Cut
     ensures best { ForOrdersOf sums.now (λ orders. IsGreatestExecutableVolume orders result) }
-    ensures in_range { result.price ≤ 10 ^ 18 }
+    ensures in_range { result.price ≤ price_end }
 {
     let mut last = sums.executable_after(CountedSides::NONE, 0);
     let mut best = last.cut;
@@ -105,7 +106,7 @@ pub fn best_uniform_of(sums: &Sums) -> Cut
 pub fn least_cut(alloc: Global, orders: &OrderList<'_>) -> Result<Cut, NoMemory>
     requires fits_indices { length orders.now < 2 ^ 32 }
     ensures least { IfOk result (IsLeastCut orders.now) }
-    ensures in_range { IfOk result (λ cut. cut.price ≤ 10 ^ 18) }
+    ensures in_range { IfOk result (λ cut. cut.price ≤ price_end) }
     ensures numbers { OnOk result (OrdersInRange orders.now) }
 {
     let sums = Sums::build(alloc, orders)?;
@@ -117,7 +118,7 @@ pub fn least_cut(alloc: Global, orders: &OrderList<'_>) -> Result<Cut, NoMemory>
 pub fn best_uniform(alloc: Global, orders: &OrderList<'_>) -> Result<Cut, NoMemory>
     requires fits_indices { length orders.now < 2 ^ 32 }
     ensures best { IfOk result (IsGreatestExecutableVolume orders.now) }
-    ensures in_range { IfOk result (λ cut. cut.price ≤ 10 ^ 18) }
+    ensures in_range { IfOk result (λ cut. cut.price ≤ price_end) }
     ensures numbers { OnOk result (OrdersInRange orders.now) }
 {
     let sums = Sums::build(alloc, orders)?;

@@ -1,6 +1,7 @@
 //! The limits of one side by rising limit, with the quantities of those up to a price.
 ghost use Rattle.std.specs.Prelude.{◌≡◌, ◌≤◌, ◌<◌, ◌*◌, ◌^◌, length};
 ghost use Rattle.std.specs.List.Sorted.{IsPermutation};
+ghost use Rattle.audit_base.specs.Numbers.{greatest_quantity};
 ghost use Rattle.volume_bound.specs.Adding.{AreAddedLimits, counted_quantity};
 ghost use Rattle.volume_bound.specs.Limits.{quantity_of_limits, quantity_below, quantity_upto, quantity_from};
 
@@ -39,7 +40,7 @@ impl Model for SortedLimits {
 fn total_of(limits: &[LimitQuantity]) -> u128
     requires fits_indices { length limits.now < 2 ^ 32 }
     ensures same { result ≡ quantity_of_limits limits.now }
-    ensures small { result ≤ 2 ^ 32 * 10 ^ 12 }
+    ensures small { result ≤ 2 ^ 32 * greatest_quantity }
 {
     let mut sum: u128 = 0;
     for limit_quantity in limits {
@@ -73,7 +74,7 @@ impl SortedLimits {
         ensures added { AreAddedLimits self.now result }
         ensures same { result.sum ≡ counted_quantity edge self.now }
         ensures part { result.sum ≤ quantity_of_limits self.now }
-        ensures small { result.sum ≤ 2 ^ 32 * 10 ^ 12 }
+        ensures small { result.sum ≤ 2 ^ 32 * greatest_quantity }
     {
         let start = start_of(&self.limits, edge, added);
         add_from(&self.limits, edge, start)
@@ -83,7 +84,7 @@ impl SortedLimits {
     pub(crate) fn rest_of(&self, price: u64, below: AddedLimits) -> u128
         requires { below.sum ≡ quantity_below self.now price }
         ensures same { result ≡ quantity_from self.now price }
-        ensures small { result ≤ 2 ^ 32 * 10 ^ 12 }
+        ensures small { result ≤ 2 ^ 32 * greatest_quantity }
     {
         self.quantity - below.sum
     }

@@ -15,7 +15,7 @@ deals-preserved c =
     let lt : k < length deals = c.deals-test.true in
     let d_is : c.deal-item.result ≡ deal_at deals k = c.deal-item.is ∙ get_or-default deals k c.deal-item.result deal_past_end lt in
     let first_is : c.index-deals-0.result ≡ deal_at deals 0 = c.index-deals-0.is ∙ get_or-default deals 0 c.index-deals-0.result deal_past_end (omega arith) in
-    listed-further orders deals k lt c.requires.named c.deal-item.result d_is c.deals.traded.items c.value-quantity.result c.deals.invariant.totals c.value-quantity.ensures.same (rw c.value-quantity.ensures.same c.value-quantity.ensures.in_range)
+    listed-further orders deals k lt c.requires.named c.deal-item.result d_is c.deals.traded.items c.value-quantity.result c.deals.invariant.totals c.value-quantity.ensures.same (rw c.value-quantity.ensures.same c.value-quantity.ensures.in_range.most)
     c.args.uniform c.deals.found.items c.push_answer.new.answers.items c.add_deal-bid_traded.new.traded.items c.deal_offence-offence.result c.index-deals-0.result c.add_deal-bid_traded.result.0 c.add_deal-bid_traded.result.1
     c.deals.invariant.found_is first_is c.add_deal-bid_traded.ensures.bid c.add_deal-bid_traded.ensures.ask c.add_deal-bid_traded.ensures.added c.deal_offence-offence.ensures.first c.in_ok-push_answer.ensures c.deals.invariant.inside c.deal_offence-offence.ensures.inside
 

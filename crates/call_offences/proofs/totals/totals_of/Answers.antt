@@ -10,7 +10,7 @@ deals-preserved c =
     let deals = c.args.deals.now in
     let k = c.deals.deal-index in
     let d_is : c.deal-item.result ≡ deal_at deals k = c.deal-item.is ∙ get_or-default deals k c.deal-item.result deal_past_end c.deals-test.true in
-    totals-further orders deals k c.deals-test.true c.requires.named c.deal-item.result d_is c.deals.traded.items c.value-quantity.result c.deals.invariant c.value-quantity.ensures.same (rw c.value-quantity.ensures.same c.value-quantity.ensures.in_range)
+    totals-further orders deals k c.deals-test.true c.requires.named c.deal-item.result d_is c.deals.traded.items c.value-quantity.result c.deals.invariant c.value-quantity.ensures.same (rw c.value-quantity.ensures.same c.value-quantity.ensures.in_range.most)
     c.add_deal.new.traded.items c.add_deal.ensures.added
 
 pub returns : goal.returns

@@ -32,10 +32,10 @@ returns-in-Some-clause-found c =
     let d = c.index-deals-incoming.result in
     let deal_record : RecordOfDeal = record { place = c.place.result; entered = c.args.entered } in
     let accounts : Accounts = record { bid = c.account.result; ask = c.account-in-loop-running.result } in
-    let is = finding-read orders c.requires.market.order_list c.args.market.now.deals.now c.requires.market.deal_list c.args.market.now.incoming_deals.now c.requires.market.incoming_deals c.args.order c.requires.order at c.loop-running-test.true c.loop-running.running.traded.items c.loop-running.invariant.totals d c.index-deals-incoming.is c.value-quantity.result c.value-quantity.ensures.same c.value-quantity.ensures.in_range
+    let is = finding-read orders c.requires.market.order_list c.args.market.now.deals.now c.requires.market.deal_list c.args.market.now.incoming_deals.now c.requires.market.incoming_deals c.args.order c.requires.order at c.loop-running-test.true c.loop-running.running.traded.items c.loop-running.invariant.totals d c.index-deals-incoming.is c.value-quantity.result c.value-quantity.ensures.same c.value-quantity.ensures.in_range.most
     c.if-incoming-order.false deal_record c.args.order_numbers.now c.requires.known c.at.result c.at-bid.result c.at-ask.result c.at.ensures c.at-bid.ensures c.at-ask.ensures c.place.ensures
     accounts c.add_quantity-bid_traded.result.0 c.add_quantity-bid_traded.result.1 c.account.ensures c.account-in-loop-running.ensures c.add_quantity-bid_traded.ensures.bid c.add_quantity-bid_traded.ensures.ask in
-    let inside = inside-read orders c.requires.market.order_list c.args.market.now.deals.now c.requires.market.deal_list c.args.market.now.incoming_deals.now c.requires.market.incoming_deals c.args.order c.requires.order at c.loop-running-test.true c.loop-running.running.traded.items c.loop-running.invariant.totals d c.index-deals-incoming.is c.value-quantity.result c.value-quantity.ensures.same c.value-quantity.ensures.in_range
+    let inside = inside-read orders c.requires.market.order_list c.args.market.now.deals.now c.requires.market.deal_list c.args.market.now.incoming_deals.now c.requires.market.incoming_deals c.args.order c.requires.order at c.loop-running-test.true c.loop-running.running.traded.items c.loop-running.invariant.totals d c.index-deals-incoming.is c.value-quantity.result c.value-quantity.ensures.same c.value-quantity.ensures.in_range.most
     c.at-bid.result c.at-ask.result deal_record c.args.order_numbers.now accounts c.add_quantity-bid_traded.result.0 c.add_quantity-bid_traded.result.1 c.account.ensures c.account-in-loop-running.ensures in
     let h : c.deal_evidence.result ≡ by_deal.deal_evidence d c.at-bid.result c.at-ask.result deal_record accounts = search rules in
     let made = sym h ∙ c.in-Some.is in
@@ -54,10 +54,10 @@ loop-running-preserved c =
     let d = c.index-deals-incoming.result in
     let deal_record : RecordOfDeal = record { place = c.place.result; entered = c.args.entered } in
     let accounts : Accounts = record { bid = c.account.result; ask = c.account-in-loop-running.result } in
-    let is = finding-read orders c.requires.market.order_list deals c.requires.market.deal_list c.args.market.now.incoming_deals.now c.requires.market.incoming_deals c.args.order c.requires.order at c.loop-running-test.true c.loop-running.running.traded.items c.loop-running.invariant.totals d c.index-deals-incoming.is c.value-quantity.result c.value-quantity.ensures.same c.value-quantity.ensures.in_range
+    let is = finding-read orders c.requires.market.order_list deals c.requires.market.deal_list c.args.market.now.incoming_deals.now c.requires.market.incoming_deals c.args.order c.requires.order at c.loop-running-test.true c.loop-running.running.traded.items c.loop-running.invariant.totals d c.index-deals-incoming.is c.value-quantity.result c.value-quantity.ensures.same c.value-quantity.ensures.in_range.most
     c.if-incoming-order.false deal_record c.args.order_numbers.now c.requires.known c.at.result c.at-bid.result c.at-ask.result c.at.ensures c.at-bid.ensures c.at-ask.ensures c.place.ensures
     accounts c.add_quantity-bid_traded.result.0 c.add_quantity-bid_traded.result.1 c.account.ensures c.account-in-loop-running.ensures c.add_quantity-bid_traded.ensures.bid c.add_quantity-bid_traded.ensures.ask in
-    let run = running-read orders c.requires.market.order_list deals c.requires.market.deal_list c.args.market.now.incoming_deals.now c.requires.market.incoming_deals c.args.order c.requires.order at c.loop-running-test.true c.loop-running.running.traded.items c.loop-running.invariant.totals d c.index-deals-incoming.is c.value-quantity.result c.value-quantity.ensures.same c.value-quantity.ensures.in_range
+    let run = running-read orders c.requires.market.order_list deals c.requires.market.deal_list c.args.market.now.incoming_deals.now c.requires.market.incoming_deals c.args.order c.requires.order at c.loop-running-test.true c.loop-running.running.traded.items c.loop-running.invariant.totals d c.index-deals-incoming.is c.value-quantity.result c.value-quantity.ensures.same c.value-quantity.ensures.in_range.most
     c.add_quantity-bid_traded.new.traded.items c.add_quantity-bid_traded.ensures.added in
     let h : c.deal_evidence.result ≡ by_deal.deal_evidence d c.at-bid.result c.at-ask.result deal_record accounts = search rules in
     let none : conservation_finding orders deals (place_at orders c.args.order) (deal_index_at c.args.market.now.incoming_deals.now at) ≡ None =
@@ -69,7 +69,7 @@ loop-running-preserved c =
         | inr ne ↦ c.loop-running.invariant.own i le (omega (arith, ne))
       ];
       totals = run;
-      most = most-read orders c.requires.market.order_list deals c.requires.market.deal_list c.args.market.now.incoming_deals.now c.requires.market.incoming_deals c.args.order c.requires.order at c.loop-running-test.true c.loop-running.running.traded.items c.loop-running.invariant.totals d c.index-deals-incoming.is c.value-quantity.result c.value-quantity.ensures.same c.value-quantity.ensures.in_range
+      most = most-read orders c.requires.market.order_list deals c.requires.market.deal_list c.args.market.now.incoming_deals.now c.requires.market.incoming_deals c.args.order c.requires.order at c.loop-running-test.true c.loop-running.running.traded.items c.loop-running.invariant.totals d c.index-deals-incoming.is c.value-quantity.result c.value-quantity.ensures.same c.value-quantity.ensures.in_range.most
           c.loop-running.invariant.most c.at-bid.result c.at-ask.result deal_record c.args.order_numbers.now c.requires.known.sizes.most accounts c.add_quantity-bid_traded.result.0 c.add_quantity-bid_traded.result.1 c.account.ensures c.account-in-loop-running.ensures c.add_quantity-bid_traded.ensures.bid c.add_quantity-bid_traded.ensures.ask (sym h ∙ c.in_default.is)
           c.add_quantity-bid_traded.new.traded.items c.add_quantity-bid_traded.ensures.added;
       clean = λ i le lt. elim (cases_eq i at) [

@@ -24,7 +24,7 @@ loop-running-preserved c =
     let at = c.loop-running.running.added in
     let d = c.index-deals-incoming.result in
     let read = first-read orders c.requires.market.order_list m.deals.now c.requires.market.deal_list m.incoming_deals.now c.requires.market.incoming_deals c.args.order c.requires.order c.args.arrivals.now c.requires.arrivals c.args.before.now c.requires.before.is at c.loop-running-test.true c.if-incoming-order.false
-    c.loop-running.running.traded.items c.loop-running.invariant.totals d c.index-deals-incoming.is c.value-quantity.result c.value-quantity.ensures.same c.value-quantity.ensures.in_range
+    c.loop-running.running.traded.items c.loop-running.invariant.totals d c.index-deals-incoming.is c.value-quantity.result c.value-quantity.ensures.same c.value-quantity.ensures.in_range.most
     c.args.running.now.added c.loop-running.invariant.from c.loop-running.first c.first_of-first.result c.add_deal-up_to.result.0 c.add_deal-up_to.result.1 c.add_deal-up_to.ensures.bid c.add_deal-up_to.ensures.ask
     (c.first_of-first.ensures ∙ ap (option_or c.loop-running.first) (c.deal_offence.ensures ∙ ap (deal_offence d) c.deal_facts-facts.ensures)) c.loop-running.invariant.found c.loop-running.invariant.inside in
     record {
@@ -34,7 +34,7 @@ loop-running-preserved c =
         | inr ne ↦ c.loop-running.invariant.own i le (omega (arith, ne))
       ];
       totals = running-read orders c.requires.market.order_list m.deals.now c.requires.market.deal_list m.incoming_deals.now c.requires.market.incoming_deals c.args.order c.requires.order at c.loop-running-test.true c.loop-running.running.traded.items c.loop-running.invariant.totals
-          d c.index-deals-incoming.is c.value-quantity.result c.value-quantity.ensures.same c.value-quantity.ensures.in_range c.add_deal-up_to.new.traded.items c.add_deal-up_to.ensures.added;
+          d c.index-deals-incoming.is c.value-quantity.result c.value-quantity.ensures.same c.value-quantity.ensures.in_range.most c.add_deal-up_to.new.traded.items c.add_deal-up_to.ensures.added;
       found = read.0;
       inside = read.1;
     }

@@ -16,9 +16,9 @@ deals-preserved c =
     let lt : k < length deals = c.deals-test.true in
     let d_is : c.deal-item.result ≡ deal_at deals k = c.deal-item.is ∙ get_or-default deals k c.deal-item.result deal_past_end lt in
     let first_is : c.index-deals-0.result ≡ deal_at deals 0 = c.index-deals-0.is ∙ get_or-default deals 0 c.index-deals-0.result deal_past_end (omega arith) in
-    let read = finding_read c.args.uniform orders deals k lt c.requires.named c.deal-item.result d_is c.deals.traded.items c.deals.volume c.value-quantity.result c.deals.invariant c.value-quantity.ensures.same (rw c.value-quantity.ensures.same c.value-quantity.ensures.in_range) c.index-deals-0.result c.add_deal-bid_traded.result.0 c.add_deal-bid_traded.result.1 first_is c.add_deal-bid_traded.ensures.bid c.add_deal-bid_traded.ensures.ask in
+    let read = finding_read c.args.uniform orders deals k lt c.requires.named c.deal-item.result d_is c.deals.traded.items c.deals.volume c.value-quantity.result c.deals.invariant c.value-quantity.ensures.same (rw c.value-quantity.ensures.same c.value-quantity.ensures.in_range.most) c.index-deals-0.result c.add_deal-bid_traded.result.0 c.add_deal-bid_traded.result.1 first_is c.add_deal-bid_traded.ensures.bid c.add_deal-bid_traded.ensures.ask in
     let none : matching_finding c.args.uniform orders deals k ≡ None = sym read ∙ ap (option_map (finding_at_deal orders c.deal-item.result)) (sym c.matching_evidence.ensures.first ∙ c.in_default.is) in
-    gone_further c.args.uniform orders deals k lt c.requires.named c.deal-item.result d_is c.deals.traded.items c.deals.volume c.value-quantity.result c.deals.invariant c.value-quantity.ensures.same (rw c.value-quantity.ensures.same c.value-quantity.ensures.in_range) c.add_deal-bid_traded.new.traded.items c.add_deal-bid_traded.ensures.added none
+    gone_further c.args.uniform orders deals k lt c.requires.named c.deal-item.result d_is c.deals.traded.items c.deals.volume c.value-quantity.result c.deals.invariant c.value-quantity.ensures.same (rw c.value-quantity.ensures.same c.value-quantity.ensures.in_range.most) c.add_deal-bid_traded.new.traded.items c.add_deal-bid_traded.ensures.added none
 
 pub returns-in-Some-clause-found : goal.returns-in-Some-clause-found
 returns-in-Some-clause-found c finding is =
@@ -28,7 +28,7 @@ returns-in-Some-clause-found c finding is =
     let lt : k < length deals = c.deals-test.true in
     let d_is : c.deal-item.result ≡ deal_at deals k = c.deal-item.is ∙ get_or-default deals k c.deal-item.result deal_past_end lt in
     let first_is : c.index-deals-0.result ≡ deal_at deals 0 = c.index-deals-0.is ∙ get_or-default deals 0 c.index-deals-0.result deal_past_end (omega arith) in
-    let read = finding_read c.args.uniform orders deals k lt c.requires.named c.deal-item.result d_is c.deals.traded.items c.deals.volume c.value-quantity.result c.deals.invariant c.value-quantity.ensures.same (rw c.value-quantity.ensures.same c.value-quantity.ensures.in_range) c.index-deals-0.result c.add_deal-bid_traded.result.0 c.add_deal-bid_traded.result.1 first_is c.add_deal-bid_traded.ensures.bid c.add_deal-bid_traded.ensures.ask in
+    let read = finding_read c.args.uniform orders deals k lt c.requires.named c.deal-item.result d_is c.deals.traded.items c.deals.volume c.value-quantity.result c.deals.invariant c.value-quantity.ensures.same (rw c.value-quantity.ensures.same c.value-quantity.ensures.in_range.most) c.index-deals-0.result c.add_deal-bid_traded.result.0 c.add_deal-bid_traded.result.1 first_is c.add_deal-bid_traded.ensures.bid c.add_deal-bid_traded.ensures.ask in
     let here : finding_at_deal orders c.deal-item.result c.in-Some.evidence ≡ finding = sym c.finding.ensures ∙ cc in
     let found : matching_finding c.args.uniform orders deals k ≡ Some finding = sym read ∙ ap (option_map (finding_at_deal orders c.deal-item.result)) (sym c.matching_evidence.ensures.first ∙ c.in-Some.is) ∙ ap Some here in
     least-at (matching_finding c.args.uniform orders deals) (length deals) k finding lt c.deals.invariant.clean found

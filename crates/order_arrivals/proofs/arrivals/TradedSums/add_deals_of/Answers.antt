@@ -17,7 +17,7 @@ loop-self-preserved c =
     let one = c.add.ensures.total in
     let two = c.add-in-loop-self.ensures.total in
     let q = c.value-quantity.ensures.same in
-    let most = c.value-quantity.ensures.in_range in
+    let most = c.value-quantity.ensures.in_range.most in
     let total = c.loop-self.invariant.total in
     record {
       from = let l = c.loop-self.invariant.from in omega arith;

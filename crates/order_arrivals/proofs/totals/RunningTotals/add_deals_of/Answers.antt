@@ -16,7 +16,7 @@ loop-self-preserved c =
         | inr ne ↦ c.loop-self.invariant.own i le (omega (arith, ne))
       ];
       totals = running-read m.orders.now c.requires.market.order_list m.deals.now c.requires.market.deal_list m.incoming_deals.now c.requires.market.incoming_deals c.args.order c.requires.order at c.loop-self-test.true c.loop-self.self.traded.items c.loop-self.invariant.totals
-          c.index-deals-incoming.result c.index-deals-incoming.is c.value-quantity.result c.value-quantity.ensures.same c.value-quantity.ensures.in_range c.add_deal.new.traded.items c.add_deal.ensures.added;
+          c.index-deals-incoming.result c.index-deals-incoming.is c.value-quantity.result c.value-quantity.ensures.same c.value-quantity.ensures.in_range.most c.add_deal.new.traded.items c.add_deal.ensures.added;
     }
 
 pub returns-then-incoming-order : goal.returns-then-incoming-order
