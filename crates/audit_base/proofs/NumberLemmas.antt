@@ -2,7 +2,7 @@
 use Rattle.std.proofs.Common.{◌≡◌, ℕ, true, false, ◌+◌, ◌-◌, ◌*◌, ◌/◌, ◌%◌, ◌^◌, ◌<◌, ◌≤◌, inl, inr, Some, None, List, [], ◌∷◌, ◌++◌, length, take, drop, refl, ap, ◌∙◌, sym, arith, suc, zero}
 use Rattle.std.proofs.Math.Nat.{pow-suc, mul_assoc}
 use Rattle.std.proofs.Math.Seq.{take-append_seam, drop-append-add}
-use Rattle.std.proofs.lemmas.Bool.{cases_Bool, cases_eq, cond-true, cond-false, cond_both, eqb-true, ne_eqb, lt-ltb, le-ltb, leb-true, ltb-true, and_parts}
+use Rattle.std.proofs.lemmas.Bool.{cases_Bool, cases_eq, cond-true, cond-false, cond_both, eqb-true, ne_eqb, lt-ltb, le-ltb, leb-true, ltb-true, le-leb, and_parts, and_from}
 use Rattle.std.proofs.lemmas.List.{append-nil, length-append}
 use Rattle.std.specs.Char.{is_ascii_digit}
 use Rattle.std.specs.Cmp.{first_so, second_so}
@@ -177,17 +177,20 @@ price_again units below =
           ap price_form text ∙ split_again whole fraction (fraction_digits 8 fraction) room (fraction_digits_write 8 fraction positive less) ∙ ap Some same)
     ]
 
--- the test says that it is a quantity
+-- the test says that it is a quantity, and the other way round
 pub test-quantity : (quantity : ℕ) → is_quantity quantity ≡ true → IsQuantity quantity
 test-quantity quantity is =
     let parts = and_parts (nat_lt 0 quantity) (nat_le quantity greatest_quantity) is in
     record { some = ltb-true _ _ parts.0; most = leb-true _ _ parts.1 }
 
+pub quantity-test : (quantity : ℕ) → IsQuantity quantity → is_quantity quantity ≡ true
+quantity-test quantity is = and_from _ _ (lt-ltb 0 quantity is.some) (le-leb quantity greatest_quantity is.most)
+
 -- a quantity is read again from its text
-pub quantity_again : (number : ℕ) → is_quantity number ≡ true → quantity_form (decimal number) ≡ Some number
+pub quantity_again : (number : ℕ) → IsQuantity number → quantity_form (decimal number) ≡ Some number
 quantity_again number is =
-    let most = (test-quantity number is).most in
+    let most = is.most in
     let small : number < 10 ^ 64 = omega arith in
     let at = position_none (decimal number) (decimal_digits number small) in
     let form = decimal_form 13 number (omega arith) (omega arith) small in
-    (λ i. quantity_by_point (decimal number) (at i)) ∙ (λ i. quantity_in_range (form i)) ∙ cond-true _ _ _ is
+    (λ i. quantity_by_point (decimal number) (at i)) ∙ (λ i. quantity_in_range (form i)) ∙ cond-true _ _ _ (quantity-test number is)

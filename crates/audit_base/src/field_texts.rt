@@ -5,7 +5,7 @@ ghost use Rattle.std.specs.Prelude.{◌≡◌, ◌<◌, ◌^◌, IfOk, IsTrue, S
 ghost use Rattle.std.specs.List.{list_all};
 ghost use Rattle.audit_base.specs.Moments.{end_of_time};
 ghost use Rattle.audit_base.specs.Names.{is_name, is_name_byte};
-ghost use Rattle.audit_base.specs.Numbers.{is_quantity, IsPrice, price_form, price_text, quantity_form};
+ghost use Rattle.audit_base.specs.Numbers.{IsPrice, IsQuantity, price_form, price_text, quantity_form};
 ghost use Rattle.audit_base.specs.Stamps.{stamp_form, stamp_text};
 
 use super::faults::NoMemory;
@@ -38,7 +38,7 @@ pub fn quantity_text(alloc: Global, quantity: Quantity) -> Result<Vec<u8>, NoMem
     ensures name { IfOk result (λ text. IsTrue (is_name text.items)) }
     ensures again { quantity_form (decimal quantity) ≡ Some quantity }
     ensures unquoted { IsTrue (list_all is_name_byte (decimal quantity)) }
-    ensures in_range { IsTrue (is_quantity quantity) }
+    ensures in_range { IsQuantity quantity }
 {
     let mut text = Vec::new(alloc);
     write_number(alloc, u128::from(quantity.value()), &mut text)?;

@@ -8,7 +8,7 @@ ghost use Rattle.std.specs.Vec.{vec_capacity};
 ghost use Rattle.std.specs.List.{list_all};
 ghost use Rattle.audit_base.specs.Names.{is_name_byte};
 ghost use Rattle.audit_base.specs.Digits.{fraction_digits};
-ghost use Rattle.audit_base.specs.Numbers.{point_and_digits, is_quantity, price_end, IsPrice, price_form, price_text, quantity_form};
+ghost use Rattle.audit_base.specs.Numbers.{point_and_digits, price_end, IsPrice, IsQuantity, price_form, price_text, quantity_form};
 ghost use Rattle.audit_base.specs.Stamps.{stamp_form, stamp_text, date_text, clock_text, nano_text};
 
 use super::digits::{append_byte, append_digits, append_fraction_digits};
@@ -21,8 +21,7 @@ use std::alloc::Global;
 pub fn write_number(_alloc: Global, number: u128, out: &mut Vec<u8>) -> Result<(), NoMemory>
     ensures appended { OnOk result (out.new.items ≡ out.old.items ++ decimal number) }
     ensures unchanged { OnErr result (out.new.items ≡ out.old.items) }
-    ensures read_again { IsTrue (is_quantity number)
-        → quantity_form (decimal number) ≡ Some number }
+    ensures read_again { IsQuantity number → quantity_form (decimal number) ≡ Some number }
     ensures unquoted { IsTrue (list_all is_name_byte (decimal number)) }
 {
     let mut buffer = Buffer::new();

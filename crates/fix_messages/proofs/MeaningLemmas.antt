@@ -4,7 +4,7 @@ use Rattle.std.specs.Prelude.{decimal, nat_le, nat_lt}
 use Rattle.std.proofs.lemmas.Bool.{and_parts, leb-true}
 use Rattle.audit_base.specs.Moments.{Moment}
 use Rattle.audit_base.specs.Names.{is_name}
-use Rattle.audit_base.specs.Numbers.{is_quantity, price_text}
+use Rattle.audit_base.specs.Numbers.{AreInRange, price_text}
 use Rattle.audit_base.specs.Stamps.{stamp_form, stamp_text}
 use Rattle.audit_base.specs.declared.names.Key.{Key}
 use Rattle.audit_base.specs.declared.records.OrderRecord.{OrderRecord}
@@ -23,7 +23,7 @@ use Rattle.fix_messages.specs.OrderTables.{message_cancel, message_new_order, or
 use Rattle.fix_messages.specs.ReportTable.{report_of_message, trade_report}
 use Rattle.fix_messages.specs.Rows.{message_head, message_side_form}
 use Rattle.audit_base.specs.Histories.{HasMarketPrice}
-use Rattle.fix_messages.specs.Written.{AreTerms, IsHead, IsOrderInForm, IsReportInForm, IsWritable, order_fields, report_fields, message_side_text}
+use Rattle.fix_messages.specs.Written.{IsHead, IsOrderInForm, IsReportInForm, IsWritable, order_fields, report_fields, message_side_text}
 use Rattle.fix_messages.proofs.WrittenLemmas.{AreWritten, length-written, written, written-ordinary}
 
 side-again : (s : Side) → message_side_form (message_side_text s) ≡ Some s
@@ -34,27 +34,24 @@ side-name : (s : Side) → is_name (message_side_text s) ≡ true
 side-name side.Buy = refl
 side-name side.Sell = refl
 
-quantity-most : (quantity : ℕ) → is_quantity quantity ≡ true → quantity ≤ 10 ^ 12
-quantity-most quantity is = leb-true quantity (10 ^ 12) (and_parts (nat_lt 0 quantity) (nat_le quantity (10 ^ 12)) is).1
+quantity-name : (quantity price : ℕ) → AreInRange quantity price → is_name (decimal quantity) ≡ true
+quantity-name quantity price are = quantity_is_name quantity are.sized.most
 
-quantity-name : (quantity price : ℕ) → AreTerms quantity price → is_name (decimal quantity) ≡ true
-quantity-name quantity price are = quantity_is_name quantity (quantity-most quantity are.quantity_range)
-
-price-name : (quantity price : ℕ) → AreTerms quantity price → is_name (price_text price) ≡ true
-price-name quantity price are = price_is_name price (omega (arith, are.price_range))
+price-name : (quantity price : ℕ) → AreInRange quantity price → is_name (price_text price) ≡ true
+price-name quantity price are = price_is_name price (omega (arith, are.priced))
 
 time-again : (key : Key) (time : Moment) (symbol : List ℕ) → IsHead key time symbol → stamp_form (stamp_text time) ≡ Some time
 time-again key time symbol is = stamp_again time is.second_range is.nano_range
 
-new-again : (key : Key) (time : Moment) (symbol : List ℕ) (s : Side) (quantity price : ℕ) (l : Life) → IsHead key time symbol → AreTerms quantity price
+new-again : (key : Key) (time : Moment) (symbol : List ℕ) (s : Side) (quantity price : ℕ) (l : Life) → IsHead key time symbol → AreInRange quantity price
     → HasMarketPrice (record_of.New key time symbol s quantity price l) → order_of_message (order_fields (record_of.New key time symbol s quantity price l)) ≡ Ok (Some (record_of.New key time symbol s quantity price l))
 unfolding order_of_message message_head message_new_order
 new-again key time symbol s quantity price life.Rests head terms priced =
-    rw (head.firm_form, head.id_form, time-again key time symbol head, head.symbol_form, side-again s, quantity_again quantity terms.quantity_range, price_again price terms.price_range) refl
+    rw (head.firm_form, head.id_form, time-again key time symbol head, head.symbol_form, side-again s, quantity_again quantity terms.sized, price_again price terms.priced) refl
 new-again key time symbol s quantity price life.Immediate head terms priced =
-    rw (head.firm_form, head.id_form, time-again key time symbol head, head.symbol_form, side-again s, quantity_again quantity terms.quantity_range, price_again price terms.price_range) refl
+    rw (head.firm_form, head.id_form, time-again key time symbol head, head.symbol_form, side-again s, quantity_again quantity terms.sized, price_again price terms.priced) refl
 new-again key time symbol s quantity price life.Market head terms priced =
-    rw (head.firm_form, head.id_form, time-again key time symbol head, head.symbol_form, side-again s, quantity_again quantity terms.quantity_range, priced refl) refl
+    rw (head.firm_form, head.id_form, time-again key time symbol head, head.symbol_form, side-again s, quantity_again quantity terms.sized, priced refl) refl
 
 cancel-again : (key : Key) (time : Moment) (symbol target : List ℕ) → IsHead key time symbol → is_name target ≡ true
     → order_of_message (order_fields (record_of.Cancel key time symbol target)) ≡ Ok (Some (record_of.Cancel key time symbol target))
@@ -62,11 +59,11 @@ unfolding order_of_message message_head message_cancel
 cancel-again key time symbol target head named =
     rw (head.firm_form, head.id_form, time-again key time symbol head, head.symbol_form, named) refl
 
-replace-again : (key : Key) (time : Moment) (symbol target : List ℕ) (s : Side) (quantity price : ℕ) → IsHead key time symbol → is_name target ≡ true → AreTerms quantity price
+replace-again : (key : Key) (time : Moment) (symbol target : List ℕ) (s : Side) (quantity price : ℕ) → IsHead key time symbol → is_name target ≡ true → AreInRange quantity price
     → order_of_message (order_fields (record_of.Replace key time symbol target s quantity price)) ≡ Ok (Some (record_of.Replace key time symbol target s quantity price))
 unfolding order_of_message message_head message_replacement
 replace-again key time symbol target s quantity price head named terms =
-    rw (head.firm_form, head.id_form, time-again key time symbol head, head.symbol_form, named, side-again s, quantity_again quantity terms.quantity_range, price_again price terms.price_range) refl
+    rw (head.firm_form, head.id_form, time-again key time symbol head, head.symbol_form, named, side-again s, quantity_again quantity terms.sized, price_again price terms.priced) refl
 
 -- the fields of an order mean the order
 pub order-again : (entry : OrderRecord) → IsWritable entry → order_of_message (order_fields entry) ≡ Ok (Some entry)
@@ -78,14 +75,14 @@ order-again (record_of.Replace key time symbol target s quantity price) is = rep
 pub report-again : (entry : Report) → IsReportInForm entry → report_of_message (report_fields entry) ≡ Ok (Some entry)
 unfolding report_of_message message_head trade_report
 report-again entry is =
-    rw (is.trade_form, is.head.firm_form, is.head.id_form, time-again entry.key entry.time entry.symbol is.head, is.head.symbol_form, side-again entry.side, quantity_again entry.quantity is.terms.quantity_range, price_again entry.price is.terms.price_range) refl
+    rw (is.trade_form, is.head.firm_form, is.head.id_form, time-again entry.key entry.time entry.symbol is.head, is.head.symbol_form, side-again entry.side, quantity_again entry.quantity is.terms.sized, price_again entry.price is.terms.priced) refl
 
 -- The fields that are written are in their forms, and few.
 
 abbrev many : List TagValue → Type 0
 many fields = AreWritten None fields × (length fields ≤ 13) × (begins_with_type fields ≡ true)
 
-new-written : (key : Key) (time : Moment) (symbol : List ℕ) (s : Side) (quantity price : ℕ) (l : Life) → IsHead key time symbol → AreTerms quantity price
+new-written : (key : Key) (time : Moment) (symbol : List ℕ) (s : Side) (quantity price : ℕ) (l : Life) → IsHead key time symbol → AreInRange quantity price
     → many (order_fields (record_of.New key time symbol s quantity price l))
 new-written key time symbol s quantity price life.Rests head terms = (
   (
@@ -209,7 +206,7 @@ cancel-written key time symbol target head named = (
   refl,
 )
 
-replace-written : (key : Key) (time : Moment) (symbol target : List ℕ) (s : Side) (quantity price : ℕ) → IsHead key time symbol → is_name target ≡ true → AreTerms quantity price
+replace-written : (key : Key) (time : Moment) (symbol target : List ℕ) (s : Side) (quantity price : ℕ) → IsHead key time symbol → is_name target ≡ true → AreInRange quantity price
     → many (order_fields (record_of.Replace key time symbol target s quantity price))
 replace-written key time symbol target s quantity price head named terms = (
   (

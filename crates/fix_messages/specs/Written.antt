@@ -4,7 +4,7 @@ use Rattle.std.specs.Prelude.{ℕ, ◌<◌, ◌^◌, IsTrue, List, [], ◌∷◌
 use Rattle.std.specs.List.{flat_map}
 use Rattle.audit_base.specs.Moments.{Moment, end_of_time}
 use Rattle.audit_base.specs.Names.{is_name}
-use Rattle.audit_base.specs.Numbers.{is_quantity, price_text, IsPrice}
+use Rattle.audit_base.specs.Numbers.{AreInRange, price_text}
 use Rattle.audit_base.specs.Histories.{HasMarketPrice}
 use Rattle.audit_base.specs.Stamps.{stamp_text}
 use Rattle.audit_base.specs.declared.names.Key.{Key}
@@ -92,25 +92,20 @@ pub record IsHead (key : Key) (time : Moment) (symbol : List ℕ) : Type 0 where
   pub second_range : time.second < end_of_time
   pub nano_range : time.nano < 10 ^ 9
 
--- A quantity and a price in their ranges.
-pub record AreTerms (quantity price : ℕ) : Type 0 where
-  pub quantity_range : IsTrue (is_quantity quantity)
-  pub price_range : IsPrice price
-
 -- all parts of an order are in their forms
 abbrev pub IsOrderInForm : OrderRecord → Type 0
 IsOrderInForm (record_of.New key time symbol side quantity price life) =
-    IsHead key time symbol × AreTerms quantity price
+    IsHead key time symbol × AreInRange quantity price
 IsOrderInForm (record_of.Cancel key time symbol target) =
     IsHead key time symbol × IsTrue (is_name target)
 IsOrderInForm (record_of.Replace key time symbol target side quantity price) =
-    IsHead key time symbol × IsTrue (is_name target) × AreTerms quantity price
+    IsHead key time symbol × IsTrue (is_name target) × AreInRange quantity price
 
 -- All parts of a report are in their forms.
 pub record IsReportInForm (report : Report) : Type 0 where
   pub trade_form : IsTrue (is_name report.trade)
   pub head : IsHead report.key report.time report.symbol
-  pub terms : AreTerms report.quantity report.price
+  pub terms : AreInRange report.quantity report.price
 
 -- All parts of a trade are in their forms, since those of its two reports are.
 pub record IsTradeInForm (trade : TradeRecord) : Type 0 where

@@ -2,7 +2,7 @@
 //! canonical text of what it says.
 ghost use Rattle.std.specs.Prelude.{◌≡◌, ◌∷◌, ◌++◌, [], IfOk, IsTrue, Ok, OnErr, OnOk, map};
 ghost use Rattle.audit_base.specs.Names.{is_name};
-ghost use Rattle.audit_base.specs.Numbers.{is_quantity, IsPrice};
+ghost use Rattle.audit_base.specs.Numbers.{IsPrice, IsQuantity};
 ghost use Rattle.fix_fields.specs.Grammar.{bytes_of};
 ghost use Rattle.fix_messages.specs.Logs.{fix_order_records, fix_report_records};
 ghost use Rattle.trade_reports.specs.Pairings.{pairing};
@@ -17,7 +17,7 @@ use audit_base::faults::NoMemory;
 use audit_base::field_texts::{price_text, quantity_text, stamp_text};
 use audit_base::names::Name;
 use audit_base::numbers::{Price, Quantity};
-use audit_base::records::{OrderRecord, TradeRecord};
+use audit_base::records::{LogRecord, OrderRecord, TradeRecord};
 use audit_base::terms::{Life, Side};
 use fix_fields::write::write_field;
 use fix_framing::writing::write_frame;
@@ -96,7 +96,7 @@ fn write_head(
 fn write_size(alloc: Global, terms: &MessageTerms, body: &mut Vec<u8>) -> Result<(), NoMemory>
     ensures appended { let fields = size_fields terms.now.side terms.now.quantity in
         OnOk result (body.new.items ≡ body.old.items ++ bytes_of fields) }
-    ensures in_range { OnOk result (IsTrue (is_quantity terms.now.quantity)) }
+    ensures in_range { OnOk result (IsQuantity terms.now.quantity) }
 {
     let quantity = quantity_text(alloc, terms.quantity)?;
     let fields: [(u32, &[u8]); 2] = [(54, side_bytes(terms.side)), (38, &quantity)];
@@ -198,56 +198,40 @@ fn write_order_fields(
         OnOk result (body.new.items ≡ body.old.items ++ bytes_of fields) }
     ensures in_form { OnOk result (IsOrderInForm entry.now) }
 {
+    let head = MessageHead {
+        key: *entry.key(),
+        time: entry.time(),
+        symbol: *entry.symbol(),
+    };
     match *entry {
         OrderRecord::New {
-            key,
-            time,
-            symbol,
             side,
             quantity,
             price,
             life,
+            ..
         } => {
             let terms = MessageTerms {
                 side,
                 quantity,
                 price,
             };
-            write_new(
-                alloc,
-                &MessageHead { key, time, symbol },
-                &terms,
-                life,
-                body,
-            )
+            write_new(alloc, &head, &terms, life, body)
         }
-        OrderRecord::Cancel {
-            key,
-            time,
-            symbol,
-            target,
-        } => write_cancel(alloc, &MessageHead { key, time, symbol }, &target, body),
+        OrderRecord::Cancel { target, .. } => write_cancel(alloc, &head, &target, body),
         OrderRecord::Replace {
-            key,
-            time,
-            symbol,
             target,
             side,
             quantity,
             price,
+            ..
         } => {
             let terms = MessageTerms {
                 side,
                 quantity,
                 price,
             };
-            write_replace(
-                alloc,
-                &MessageHead { key, time, symbol },
-                &target,
-                &terms,
-                body,
-            )
+            write_replace(alloc, &head, &target, &terms, body)
         }
     }
 }

@@ -6,10 +6,11 @@ use Rattle.std.proofs.lemmas.Bool.{and_from, cond_both, le-leb, lt-ltb}
 use Rattle.std.proofs.lemmas.Fmt.{length-decimal-le}
 use Rattle.std.proofs.lemmas.List.Elements.{All-nil, All-cons}
 use Rattle.audit_base.specs.Names.{is_name, is_name_byte}
+use Rattle.audit_base.specs.Numbers.{AreInRange}
 use Rattle.audit_base.specs.declared.records.OrderRecord.TheVariants.{New, Cancel}
 use Rattle.audit_base.specs.declared.terms.Life.TheVariants.{Rests}
 use Rattle.audit_base.proofs.UnquotedLemmas.{decimal_is_unquoted}
-use Rattle.fix_messages.specs.Written.{AreTerms, IsHead, IsWritable}
+use Rattle.fix_messages.specs.Written.{IsHead, IsWritable}
 use Rattle.log_maker.specs.Generator.{IsCount, generated_record, generated_records, generated_symbol, id_of_number, key_of_number, price_of_state, quantity_of_state, record_of_state, side_of_state, state_at, time_of_number}
 
 -- a letter and a number are a name
@@ -28,10 +29,10 @@ head-is i few = record {
   nano_range = omega (arith, few);
 }
 
-terms-are : (state : ℕ) → AreTerms (quantity_of_state state) (price_of_state state)
+terms-are : (state : ℕ) → AreInRange (quantity_of_state state) (price_of_state state)
 terms-are state = record {
-  quantity_range = and_from _ _ (lt-ltb 0 (quantity_of_state state) (omega arith)) (le-leb (quantity_of_state state) (10 ^ 12) (omega arith));
-  price_range = omega arith;
+  sized = record { some = omega arith; most = omega arith };
+  priced = omega arith;
 }
 
 record-writable : (i state : ℕ) → i ≤ 1000000 → IsWritable (record_of_state i state)

@@ -8,7 +8,7 @@ use Rattle.audit_base.specs.Columns.{order_columns, trade_columns}
 use Rattle.audit_base.specs.Histories.{HasMarketPrice}
 use Rattle.audit_base.specs.Moments.{Moment}
 use Rattle.audit_base.specs.Names.{is_name, is_name_byte}
-use Rattle.audit_base.specs.Numbers.{is_quantity, price_text}
+use Rattle.audit_base.specs.Numbers.{AreInRange, price_text}
 use Rattle.audit_base.specs.Stamps.{stamp_form, stamp_text}
 use Rattle.audit_base.specs.declared.names.Key.{Key}
 use Rattle.audit_base.specs.declared.records.OrderRecord.{OrderRecord}
@@ -29,7 +29,7 @@ use Rattle.csv_logs.specs.TradeLines.{trade_of_row}
 use Rattle.csv_logs.specs.Written.{csv_orders_text, csv_trades_text, order_row, row_side_text, trade_row}
 use Rattle.csv_logs.specs.WrittenLines.{IsLineOf, IsOrderRow, have_name_bytes}
 use Rattle.csv_logs.proofs.WrittenLemmas.{log-again}
-use Rattle.fix_messages.specs.Written.{AreTerms, IsHead, IsTradeInForm, IsWritable}
+use Rattle.fix_messages.specs.Written.{IsHead, IsTradeInForm, IsWritable}
 
 side-again : (s : Side) → row_side_form (row_side_text s) ≡ Some s
 side-again side.Buy = refl
@@ -45,29 +45,26 @@ name-bytes text is = (and_parts (nat_le 1 (length text) && nat_le (length text) 
 time-bytes : (time : Moment) → list_all is_name_byte (stamp_text time) ≡ true
 time-bytes time = name-bytes (stamp_text time) (stamp_is_name time)
 
-quantity-most : (quantity : ℕ) → is_quantity quantity ≡ true → quantity ≤ 10 ^ 12
-quantity-most quantity is = leb-true quantity (10 ^ 12) (and_parts (nat_lt 0 quantity) (nat_le quantity (10 ^ 12)) is).1
+quantity-bytes : (quantity price : ℕ) → AreInRange quantity price → list_all is_name_byte (decimal quantity) ≡ true
+quantity-bytes quantity price are = name-bytes (decimal quantity) (quantity_is_name quantity are.sized.most)
 
-quantity-bytes : (quantity price : ℕ) → AreTerms quantity price → list_all is_name_byte (decimal quantity) ≡ true
-quantity-bytes quantity price are = name-bytes (decimal quantity) (quantity_is_name quantity (quantity-most quantity are.quantity_range))
-
-price-bytes : (quantity price : ℕ) → AreTerms quantity price → list_all is_name_byte (price_text price) ≡ true
-price-bytes quantity price are = name-bytes (price_text price) (price_is_name price (omega (arith, are.price_range)))
+price-bytes : (quantity price : ℕ) → AreInRange quantity price → list_all is_name_byte (price_text price) ≡ true
+price-bytes quantity price are = name-bytes (price_text price) (price_is_name price (omega (arith, are.priced)))
 
 time-again : (key : Key) (time : Moment) (symbol : List ℕ) → IsHead key time symbol → stamp_form (stamp_text time) ≡ Some time
 time-again key time symbol is = stamp_again time is.second_range is.nano_range
 
 -- What nine fields mean.
 
-new-again : (key : Key) (time : Moment) (symbol : List ℕ) (s : Side) (quantity price : ℕ) (l : Life) → IsHead key time symbol → AreTerms quantity price
+new-again : (key : Key) (time : Moment) (symbol : List ℕ) (s : Side) (quantity price : ℕ) (l : Life) → IsHead key time symbol → AreInRange quantity price
     → HasMarketPrice (record_of.New key time symbol s quantity price l) → order_of_row (order_row (record_of.New key time symbol s quantity price l)) ≡ Ok (record_of.New key time symbol s quantity price l)
 unfolding order_of_row field_at
 new-again key time symbol s quantity price life.Rests head terms priced =
-    rw (head.firm_form, head.id_form, time-again key time symbol head, head.symbol_form, side-again s, quantity_again quantity terms.quantity_range, price_again price terms.price_range) refl
+    rw (head.firm_form, head.id_form, time-again key time symbol head, head.symbol_form, side-again s, quantity_again quantity terms.sized, price_again price terms.priced) refl
 new-again key time symbol s quantity price life.Immediate head terms priced =
-    rw (head.firm_form, head.id_form, time-again key time symbol head, head.symbol_form, side-again s, quantity_again quantity terms.quantity_range, price_again price terms.price_range) refl
+    rw (head.firm_form, head.id_form, time-again key time symbol head, head.symbol_form, side-again s, quantity_again quantity terms.sized, price_again price terms.priced) refl
 new-again key time symbol s quantity price life.Market head terms priced =
-    rw (head.firm_form, head.id_form, time-again key time symbol head, head.symbol_form, side-again s, quantity_again quantity terms.quantity_range, priced refl) refl
+    rw (head.firm_form, head.id_form, time-again key time symbol head, head.symbol_form, side-again s, quantity_again quantity terms.sized, priced refl) refl
 
 cancel-again : (key : Key) (time : Moment) (symbol target : List ℕ) → IsHead key time symbol → is_name target ≡ true
     → order_of_row (order_row (record_of.Cancel key time symbol target)) ≡ Ok (record_of.Cancel key time symbol target)
@@ -75,11 +72,11 @@ unfolding order_of_row field_at
 cancel-again key time symbol target head named =
     rw (head.firm_form, head.id_form, time-again key time symbol head, head.symbol_form, named) refl
 
-replace-again : (key : Key) (time : Moment) (symbol target : List ℕ) (s : Side) (quantity price : ℕ) → IsHead key time symbol → is_name target ≡ true → AreTerms quantity price
+replace-again : (key : Key) (time : Moment) (symbol target : List ℕ) (s : Side) (quantity price : ℕ) → IsHead key time symbol → is_name target ≡ true → AreInRange quantity price
     → order_of_row (order_row (record_of.Replace key time symbol target s quantity price)) ≡ Ok (record_of.Replace key time symbol target s quantity price)
 unfolding order_of_row field_at
 replace-again key time symbol target s quantity price head named terms =
-    rw (head.firm_form, head.id_form, time-again key time symbol head, head.symbol_form, side-again s, quantity_again quantity terms.quantity_range, price_again price terms.price_range, named) refl
+    rw (head.firm_form, head.id_form, time-again key time symbol head, head.symbol_form, side-again s, quantity_again quantity terms.sized, price_again price terms.priced, named) refl
 
 trade-again : (trade : TradeRecord) → IsTradeInForm trade → trade_of_row (trade_row trade) ≡ Ok trade
 unfolding trade_of_row field_at
@@ -92,13 +89,13 @@ trade-again trade is =
       is.buyer.head.id_form,
       is.seller.head.firm_form,
       is.seller.head.id_form,
-      quantity_again trade.quantity is.buyer.terms.quantity_range,
-      price_again trade.price is.buyer.terms.price_range,
+      quantity_again trade.quantity is.buyer.terms.sized,
+      price_again trade.price is.buyer.terms.priced,
     ) refl
 
 -- No field needs quotes.
 
-new-bytes : (key : Key) (time : Moment) (symbol : List ℕ) (s : Side) (quantity price : ℕ) (l : Life) → IsHead key time symbol → AreTerms quantity price
+new-bytes : (key : Key) (time : Moment) (symbol : List ℕ) (s : Side) (quantity price : ℕ) (l : Life) → IsHead key time symbol → AreInRange quantity price
     → have_name_bytes (order_row (record_of.New key time symbol s quantity price l)) ≡ true
 new-bytes key time symbol s quantity price life.Rests head terms =
     rw (name-bytes key.firm head.firm_form, name-bytes key.id head.id_form, time-bytes time, name-bytes symbol head.symbol_form, side-bytes s, quantity-bytes quantity price terms, price-bytes quantity price terms) refl
@@ -112,7 +109,7 @@ cancel-bytes : (key : Key) (time : Moment) (symbol target : List ℕ) → IsHead
 cancel-bytes key time symbol target head named =
     rw (name-bytes key.firm head.firm_form, name-bytes key.id head.id_form, time-bytes time, name-bytes symbol head.symbol_form, name-bytes target named) refl
 
-replace-bytes : (key : Key) (time : Moment) (symbol target : List ℕ) (s : Side) (quantity price : ℕ) → IsHead key time symbol → is_name target ≡ true → AreTerms quantity price
+replace-bytes : (key : Key) (time : Moment) (symbol target : List ℕ) (s : Side) (quantity price : ℕ) → IsHead key time symbol → is_name target ≡ true → AreInRange quantity price
     → have_name_bytes (order_row (record_of.Replace key time symbol target s quantity price)) ≡ true
 replace-bytes key time symbol target s quantity price head named terms =
     rw (name-bytes key.firm head.firm_form, name-bytes key.id head.id_form, time-bytes time, name-bytes symbol head.symbol_form, side-bytes s, quantity-bytes quantity price terms, price-bytes quantity price terms, name-bytes target named) refl
