@@ -12,7 +12,7 @@ use Rattle.page_plots.proofs.SeriesLemmas.{mapped-more}
 use Rattle.page_plots.specs.declared.plots.Plot.{Plot}
 use Rattle.call_drawing.specs.declared.bars.Bar.{Bar}
 use Rattle.call_drawing.specs.declared.bars.PlacedStep.{PlacedStep}
-use Rattle.call_drawing.specs.Bars.{bar_of, end_of, placed_steps, start_of, step_at_place}
+use Rattle.call_drawing.specs.Bars.{bar_of, end_of_steps, placed_steps, start_of, step_at_place}
 
 -- the first steps have their bars, and the next one begins here
 pub record ArePlacedSoFar (plot : Plot) (side : Side) (drawn : Drawn) (count start : ℕ) (steps : List PlacedStep) : Type 0 where
@@ -29,7 +29,7 @@ begins-more drawn index step lt is =
 
 -- and no further than the last one
 pub ends-within : (drawn : Drawn) (index : ℕ) (step : SideStep) → index < length drawn.steps.items → step ≡ get_or drawn.steps.items index step
-    → start_of drawn index + step.quantity ≤ end_of drawn
+    → start_of drawn index + step.quantity ≤ end_of_steps drawn
 ends-within drawn index step lt is =
     let most = sum_by_more_le (λ (s : SideStep). s.quantity) drawn.steps.items index step lt in
     let same : step.quantity ≡ (get_or drawn.steps.items index step).quantity = ap (λ (s : SideStep). s.quantity) is in

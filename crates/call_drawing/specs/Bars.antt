@@ -11,6 +11,7 @@ use Rattle.call_drawing.specs.declared.bars.Bar.{Bar}
 use Rattle.call_drawing.specs.declared.bars.PlacedSide.{PlacedSide}
 use Rattle.call_drawing.specs.declared.bars.PlacedStep.{PlacedStep}
 use Rattle.page_plots.specs.declared.plots.Plot.{Plot}
+use Rattle.page_plots.specs.Measures.{bar_height}
 use Rattle.page_plots.specs.Plots.{x_of, y_of}
 
 -- the quantity at which the step of a side at a place begins: what the better ones ask for or offer
@@ -19,18 +20,22 @@ abbrev pub start_of : Drawn → ℕ → ℕ
 start_of drawn place = drawn.before + quantity_of_steps (take place drawn.steps.items)
 
 -- the quantity at which the last step ends
-abbrev pub end_of : Drawn → ℕ
-end_of drawn = drawn.before + quantity_of_steps drawn.steps.items
+abbrev pub end_of_steps : Drawn → ℕ
+end_of_steps drawn = drawn.before + quantity_of_steps drawn.steps.items
 
 -- the top of a bar: bids lie above their limit, asks below
 abbrev pub bar_top : Side → ℕ → ℕ
-bar_top Buy level = level - 9
+bar_top Buy level = level - bar_height
 bar_top Sell level = level
+
+-- how far the centre of a mark lies from the limit of its bar
+abbrev pub to_mark : ℕ
+to_mark = 20
 
 -- the centre of a mark: on the other side of the limit than the bars of the other side
 abbrev pub mark_centre : Side → ℕ → ℕ
-mark_centre Buy level = level - 20
-mark_centre Sell level = level + 20
+mark_centre Buy level = level - to_mark
+mark_centre Sell level = level + to_mark
 
 -- the bar of a step that begins at a quantity: it reaches as far as the quantity of the step, and is
 -- filled as far as what it traded, at most whole

@@ -1,19 +1,21 @@
 -- What stands below the picture of a call: what its colours and marks are, and what is not drawn.
-use Rattle.std.specs.Prelude.{ℕ, Bool, true, false, not, ◌||◌, ◌&&◌, nat_lt, Option, is_some, List, [], ◌++◌, codes, decimal, if◌then◌else◌}
-use Rattle.audit_base.specs.declared.findings.Shown.{Shown}
-use Rattle.audit_base.specs.declared.terms.Side.TheVariants.{Buy, Sell}
+use Rattle.std.specs.Prelude.{ℕ, Bool, true, false, not, ◌||◌, ◌&&◌, nat_lt, List, [], ◌++◌, codes, decimal, if◌then◌else◌}
 use Rattle.call_drawing.specs.declared.sections.MarkedCall.{MarkedCall}
 use Rattle.call_picture.specs.declared.pictures.CallPicture.{CallPicture}
 use Rattle.call_picture.specs.declared.pictures.SidePicture.{SidePicture}
 use Rattle.call_picture.specs.declared.windows.Drawn.{Drawn}
 use Rattle.page_markup.specs.declared.words.Tag.TheVariants as tag
 use Rattle.page_parts.specs.Elements.{text_element}
-use Rattle.page_plots.specs.Orders.{order_shown}
-use Rattle.page_plots.specs.Sides.{legend_entry}
+use Rattle.page_plots.specs.Marks.{marks_some}
+use Rattle.page_plots.specs.Sides.{sides_legend}
+
+-- where the colour of asks begins in the legend, behind the words of bids
+abbrev pub asks_legend : ℕ
+asks_legend = 124
 
 -- what the two colours are
-abbrev pub legend : List ℕ
-legend = legend_entry Buy 68 (codes "bids") ++ legend_entry Sell 124 (codes "asks")
+abbrev pub call_legend : List ℕ
+call_legend = sides_legend (codes "bids") asks_legend (codes "asks")
 
 -- what a bar of a side is
 unfoldable pub bar_words : Bool → List ℕ
@@ -37,21 +39,17 @@ side_words name picture =
     name ++ bar_words picture.by_limit ++ left_out_words picture.drawn
 
 -- what every picture of a call shows
-unfoldable pub picture_words : List ℕ
-picture_words = codes "A bar is as wide as its quantity, and filled as far as it traded. Bids lie above their limit, asks below, the best ones at the left."
-
--- what is shown is an order, whose step is marked
-abbrev pub is_order : Option Shown → Bool
-is_order it = is_some (order_shown it)
+unfoldable pub call_words : List ℕ
+call_words = codes "A bar is as wide as its quantity, and filled as far as it traded. Bids lie above their limit, asks below, the best ones at the left."
 
 -- what the marks are, where an order is marked
 abbrev pub marks_words : MarkedCall → List ℕ
-marks_words marked = if is_order marked.first || is_order marked.second
+marks_words marked = if marks_some marked.orders
     then codes " The marks are those of the table." else []
 
 -- what the picture shows, and what its marks are
 abbrev pub whole_words : MarkedCall → List ℕ
-whole_words marked = picture_words ++ marks_words marked
+whole_words marked = call_words ++ marks_words marked
 
 -- each step of the side is an order's, and none is left out
 abbrev pub is_plain : SidePicture → Bool

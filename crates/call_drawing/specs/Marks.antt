@@ -1,8 +1,7 @@
 -- The marks of the orders of the evidence, with the numbers of their rows in the table.
-use Rattle.std.specs.Prelude.{ℕ, Bool, true, false, ◌==◌, List, [], ◌++◌, Option, None, Some, codes, slice_get, if◌then◌else◌}
+use Rattle.std.specs.Prelude.{ℕ, Bool, true, false, ◌==◌, List, [], ◌++◌, codes, slice_get, if◌then◌else◌}
 use Rattle.std.specs.List.{flat_map}
 use Rattle.audit_base.specs.declared.findings.OrderLine.{OrderLine}
-use Rattle.audit_base.specs.declared.findings.Shown.{Shown}
 use Rattle.audit_base.specs.declared.orders.Order.{Order}
 use Rattle.audit_base.specs.declared.terms.Side.{Side}
 use Rattle.audit_base.specs.declared.terms.Side.TheVariants.{Buy, Sell}
@@ -12,8 +11,8 @@ use Rattle.call_drawing.specs.declared.layouts.CallLayout.{CallLayout}
 use Rattle.call_drawing.specs.declared.bars.PlacedSide.{PlacedSide}
 use Rattle.call_drawing.specs.declared.bars.PlacedStep.{PlacedStep}
 use Rattle.page_plots.specs.declared.shapes.Point.{Point}
-use Rattle.page_plots.specs.Orders.{badge, has_place, order_shown}
-use Rattle.call_drawing.specs.Steps.{bar_to}
+use Rattle.page_plots.specs.Orders.{badge, has_place}
+use Rattle.call_drawing.specs.Steps.{step_bar}
 
 -- the step is that of an order, or of its limit
 abbrev pub is_step_of : List Order → Bool → SideStep → OrderLine → Bool
@@ -25,14 +24,14 @@ abbrev pub mark_of : Bar → Point
 mark_of bar = record { x = bar.mark_x; y = bar.mark_y }
 
 -- a mark round a bar, with this number
-abbrev pub mark_shapes : List ℕ → Bar → List ℕ
-mark_shapes number bar = bar_to (codes "mark") bar bar.right
+abbrev pub bar_mark : List ℕ → Bar → List ℕ
+bar_mark number bar = step_bar (codes "mark") bar bar.right
     ++ badge number (mark_of bar)
 
 -- the mark of an order at a step, where it is that of the order
 abbrev pub mark_at_step : List Order → Bool → List ℕ → OrderLine → PlacedStep → List ℕ
 mark_at_step orders by_limit number line placed =
-    if is_step_of orders by_limit placed.step line then mark_shapes number placed.bar else []
+    if is_step_of orders by_limit placed.step line then bar_mark number placed.bar else []
 
 -- the mark of an order of a side, where its step is drawn
 abbrev pub mark_on_side : List Order → List ℕ → OrderLine → PlacedSide → List ℕ
@@ -40,20 +39,11 @@ mark_on_side orders number line placed =
     flat_map (mark_at_step orders placed.by_limit number line) placed.steps.items
 
 -- the steps of a side
-abbrev pub placed_side : CallLayout → Side → PlacedSide
-placed_side layout Buy = layout.bids
-placed_side layout Sell = layout.asks
+abbrev pub steps_of_side : CallLayout → Side → PlacedSide
+steps_of_side layout Buy = layout.bids
+steps_of_side layout Sell = layout.asks
 
 -- the mark of an order
-abbrev pub order_mark : List Order → CallLayout → List ℕ → OrderLine → List ℕ
-order_mark orders layout number line =
-    mark_on_side orders number line (placed_side layout line.side)
-
--- the same, where there is an order
-abbrev pub mark_if_there : List Order → CallLayout → List ℕ → Option OrderLine → List ℕ
-mark_if_there orders layout number None = []
-mark_if_there orders layout number (Some line) = order_mark orders layout number line
-
--- the mark of what is shown, where it is an order
-abbrev pub shown_mark : List Order → CallLayout → List ℕ → Option Shown → List ℕ
-shown_mark orders layout number it = mark_if_there orders layout number (order_shown it)
+abbrev pub step_mark : List Order → CallLayout → List ℕ → OrderLine → List ℕ
+step_mark orders layout number line =
+    mark_on_side orders number line (steps_of_side layout line.side)

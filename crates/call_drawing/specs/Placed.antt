@@ -10,13 +10,23 @@ use Rattle.page_plots.specs.declared.shapes.Anchor.TheVariants.{Start, Middle, E
 use Rattle.page_plots.specs.Plots.{AreAxesOf, x_of, y_of}
 use Rattle.call_drawing.specs.Bars.{IsPlacedSide}
 
+-- from here on words have their middle over an upright line; before, they begin there
+abbrev pub middle_from : ℕ
+middle_from = 168
+
+-- from here on words end over an upright line
+abbrev pub end_from : ℕ
+end_from = 368
+
 -- which point of its words stands over an upright line, so that they stay within the paper
-abbrev pub anchor_at : ℕ → Anchor
-anchor_at x = if nat_lt x 168 then Start else (if nat_lt x 368 then Middle else End)
+abbrev pub anchor_over : ℕ → Anchor
+anchor_over x =
+    if nat_lt x middle_from then Start else (if nat_lt x end_from then Middle else End)
 
 -- the upright line of a quantity
 abbrev pub upright_at : Plot → ℕ → UprightLine
-upright_at plot quantity = record { x = x_of plot quantity; anchor = anchor_at (x_of plot quantity) }
+upright_at plot quantity =
+    record { x = x_of plot quantity; anchor = anchor_over (x_of plot quantity) }
 
 -- where the line of a price lies, if there is one
 abbrev pub price_height : Plot → Option ℕ → ℕ

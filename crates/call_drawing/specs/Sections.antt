@@ -9,26 +9,27 @@ use Rattle.call_picture.specs.declared.pictures.CallPicture.{CallPicture}
 use Rattle.call_picture.specs.Pictures.{IsCallPicture}
 use Rattle.page_plots.specs.PlotAxes.{axes_shapes}
 use Rattle.page_plots.specs.Figures.{figure_section}
+use Rattle.page_plots.specs.Marks.{marks_of, orders_marked_by}
 use Rattle.page_plots.specs.Papers.{plot_paper}
 use Rattle.call_drawing.specs.declared.layouts.CallLayout.{CallLayout}
 use Rattle.call_drawing.specs.declared.sections.MarkedCall.{MarkedCall}
-use Rattle.call_drawing.specs.Captions.{caption, legend}
+use Rattle.call_drawing.specs.Captions.{call_legend, caption}
 use Rattle.call_drawing.specs.Lines.{greatest_shapes, price_shapes, volume_shapes}
-use Rattle.call_drawing.specs.Marks.{shown_mark}
-use Rattle.call_drawing.specs.Extents.{plot_of}
+use Rattle.call_drawing.specs.Marks.{step_mark}
+use Rattle.call_drawing.specs.Extents.{plot_of_call}
 use Rattle.call_drawing.specs.Placed.{IsLayoutOf}
 use Rattle.call_drawing.specs.Steps.{side_shapes}
 
+-- the greatest volume that a finding tells, if it does
+abbrev pub short_of : Option Finding → Option Short
+short_of None = None
+short_of (Some finding) = finding.short
+
 -- what is marked in the picture: of an accepted log the price, of a finding also its orders and the
 -- greatest volume that it tells
-abbrev pub marked_by : Option Finding → Option ℕ → MarkedCall
-marked_by None price = record { first = None; second = None; short = None; price = price }
-marked_by (Some finding) price = record {
-  first = finding.first;
-  second = finding.second;
-  short = finding.short;
-  price = price;
-}
+abbrev pub marked_in_call : Option Finding → Option ℕ → MarkedCall
+marked_in_call finding price =
+    record { orders = orders_marked_by finding; short = short_of finding; price = price }
 
 -- the steps of both sides
 abbrev pub both_sides : List Order → CallLayout → List ℕ
@@ -41,17 +42,12 @@ call_lines numbers marked layout =
     price_shapes layout.price_y marked.price ++ volume_shapes layout.volume numbers.volume
     ++ greatest_shapes layout.greatest marked.short
 
--- the marks of the orders of the evidence
-abbrev pub call_marks : List Order → MarkedCall → CallLayout → List ℕ
-call_marks orders marked layout =
-    shown_mark orders layout (codes "1") marked.first
-    ++ shown_mark orders layout (codes "2") marked.second
-
 -- the shapes of the picture
 abbrev pub call_shapes : List Order → CallPicture → MarkedCall → CallLayout → List ℕ
 call_shapes orders numbers marked layout =
     axes_shapes layout.axes (codes "quantity, best orders first") ++ both_sides orders layout
-    ++ call_lines numbers marked layout ++ call_marks orders marked layout ++ legend
+    ++ call_lines numbers marked layout
+    ++ marks_of (step_mark orders layout) marked.orders ++ call_legend
 
 -- the section: the picture, and its caption
 abbrev pub call_section : List Order → CallPicture → MarkedCall → CallLayout → List ℕ
@@ -69,7 +65,7 @@ greatest_of (Some short) = short.greatest
 pub record IsDrawnSection (orders : List Order) (numbers : CallPicture) (marked : MarkedCall)
     (text : List ℕ) : Type 0 where
   pub layout : CallLayout
-  pub laid_out : IsLayoutOf (plot_of numbers (greatest_of marked.short)) numbers
+  pub laid_out : IsLayoutOf (plot_of_call numbers (greatest_of marked.short)) numbers
       (greatest_of marked.short) marked.price layout
   pub written : text ≡ call_section orders numbers marked layout
 

@@ -1,5 +1,5 @@
 -- What is drawn of a step: its bar, and its title with the numbers of its order.
-use Rattle.std.specs.Prelude.{ℕ, Bool, true, false, ◌-◌, nat_lt, List, [], ◌∷◌, ◌++◌, codes, decimal, length, slice_get, if◌then◌else◌}
+use Rattle.std.specs.Prelude.{ℕ, Bool, true, false, nat_lt, List, [], ◌∷◌, ◌++◌, codes, decimal, length, slice_get, if◌then◌else◌}
 use Rattle.std.specs.List.{flat_map, join_with_byte}
 use Rattle.audit_base.specs.declared.orders.Order.{Order}
 use Rattle.audit_base.specs.declared.terms.Side.{Side}
@@ -11,7 +11,7 @@ use Rattle.call_drawing.specs.declared.bars.Bar.{Bar}
 use Rattle.call_drawing.specs.declared.bars.PlacedSide.{PlacedSide}
 use Rattle.call_drawing.specs.declared.bars.PlacedStep.{PlacedStep}
 use Rattle.page_plots.specs.Orders.{order_title}
-use Rattle.page_plots.specs.Shapes.{group, path, path_point, rectangle}
+use Rattle.page_plots.specs.Shapes.{bar_shape, group, path, path_point}
 use Rattle.page_plots.specs.Sides.{bar_class, filled_class}
 
 -- the title of the orders of one limit: how many they are, SIDE,QUANTITY,LIMIT,TRADED, their
@@ -31,20 +31,20 @@ abbrev pub line_class : Side → List ℕ
 line_class Buy = codes "bidline"
 line_class Sell = codes "askline"
 
--- a bar of a class, from its left to here
-abbrev pub bar_to : List ℕ → Bar → ℕ → List ℕ
-bar_to class bar right = rectangle class (record { x = bar.left; y = bar.top }) (right - bar.left) 9
+-- the bar of a step in a class, from its left to here
+abbrev pub step_bar : List ℕ → Bar → ℕ → List ℕ
+step_bar class bar right = bar_shape class (record { x = bar.left; y = bar.top }) right
 
 -- the traded part of a bar, where the step traded
 abbrev pub traded_bar : Side → PlacedStep → List ℕ
 traded_bar side placed =
-    if nat_lt 0 placed.step.traded then bar_to (filled_class side) placed.bar placed.bar.filled
+    if nat_lt 0 placed.step.traded then step_bar (filled_class side) placed.bar placed.bar.filled
     else []
 
 -- a step: its title, its bar, and its traded part
 abbrev pub step_shapes : List Order → Side → Bool → PlacedStep → List ℕ
 step_shapes orders side by_limit placed = group (step_title orders side by_limit placed.step)
-    (bar_to (bar_class side) placed.bar placed.bar.right ++ traded_bar side placed)
+    (step_bar (bar_class side) placed.bar placed.bar.right ++ traded_bar side placed)
 
 -- the two ends of a bar, at its limit
 abbrev pub ends_of_bar : PlacedStep → List ℕ

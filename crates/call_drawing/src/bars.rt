@@ -2,6 +2,7 @@
 ghost use Rattle.std.specs.Prelude.{◌≡◌, ◌<◌, ◌≤◌, ◌+◌, ◌^◌, ◌++◌, ◌∷◌, [], IfOk, OnOk, min};
 ghost use Rattle.call_drawing.specs.Bars as spec;
 ghost use Rattle.call_drawing.specs.Bars.{IsPlacedSide};
+ghost use Rattle.page_plots.specs.Measures.{lower_end};
 ghost use Rattle.page_plots.specs.Plots.{IsPlot};
 
 use audit_base::faults::NoMemory;
@@ -9,8 +10,12 @@ use audit_base::terms::Side;
 use call_picture::pictures::SidePicture;
 use call_picture::steps::SideStep;
 use call_picture::windows::Drawn;
+use page_plots::measures::BAR_HEIGHT;
 use page_plots::plots::Plot;
 use std::alloc::Global;
+
+/// How far the centre of a mark lies from the limit of its bar.
+const TO_MARK: u16 = 20;
 
 /// Where the bar of a step lies: from the left to the right, how far it is filled, its top, its
 /// limit, and the mark that it may have.
@@ -45,19 +50,19 @@ fn bar_top(side: Side, level: u16) -> u16
     ensures { result ≡ spec.bar_top side level }
 {
     match side {
-        Side::Buy => level.saturating_sub(9),
+        Side::Buy => level.saturating_sub(BAR_HEIGHT as u16),
         Side::Sell => level,
     }
 }
 
 /// The centre of a mark.
 fn mark_centre(side: Side, level: u16) -> u16
-    requires { level ≤ 304 }
+    requires { level ≤ lower_end }
     ensures { result ≡ spec.mark_centre side level }
 {
     match side {
-        Side::Buy => level.saturating_sub(20),
-        Side::Sell => level + 20,
+        Side::Buy => level.saturating_sub(TO_MARK),
+        Side::Sell => level + TO_MARK,
     }
 }
 
@@ -102,7 +107,7 @@ fn placed_steps(
     drawn: &Drawn,
 ) -> Result<Vec<PlacedStep>, NoMemory>
     requires plot { IsPlot plot }
-    requires fits { spec.end_of drawn.now < 2 ^ 80 }
+    requires fits { spec.end_of_steps drawn.now < 2 ^ 80 }
     ensures { IfOk result (λ steps. steps.items ≡ spec.placed_steps plot side drawn.now) }
 {
     let mut steps = Vec::new(alloc);
@@ -122,7 +127,7 @@ pub fn placed_side(
     picture: &SidePicture,
 ) -> Result<PlacedSide, NoMemory>
     requires plot { IsPlot plot }
-    requires fits { spec.end_of picture.now.drawn < 2 ^ 80 }
+    requires fits { spec.end_of_steps picture.now.drawn < 2 ^ 80 }
     ensures { IfOk result (IsPlacedSide plot side picture.now) }
 {
     let steps = placed_steps(alloc, plot, side, &picture.drawn)?;

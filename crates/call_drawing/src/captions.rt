@@ -4,24 +4,23 @@ ghost use Rattle.call_drawing.specs.Captions as spec;
 
 use crate::sections::MarkedCall;
 use audit_base::faults::NoMemory;
-use audit_base::findings::Shown;
-use audit_base::terms::Side;
 use audit_base::texts::write_number;
 use call_picture::pictures::{CallPicture, SidePicture};
 use call_picture::windows::Drawn;
 use page_markup::markup::Markup;
 use page_markup::words::Tag;
 use page_parts::elements::with_text_element;
-use page_plots::orders::order_shown;
-use page_plots::sides::with_legend_entry;
+use page_plots::sides::with_sides_legend;
 use std::alloc::Global;
 
+/// Where the colour of asks begins in the legend, behind the words of bids.
+const ASKS_LEGEND: u32 = 124;
+
 /// With what the two colours are behind it, below the plot.
-pub fn with_legend(alloc: Global, made: Markup) -> Result<Markup, NoMemory>
-    ensures { IfOk result (λ more. more ≡ made ++ spec.legend) }
+pub fn with_call_legend(alloc: Global, made: Markup) -> Result<Markup, NoMemory>
+    ensures { IfOk result (λ more. more ≡ made ++ spec.call_legend) }
 {
-    let made = with_legend_entry(alloc, made, Side::Buy, 68, b"bids")?;
-    with_legend_entry(alloc, made, Side::Sell, 124, b"asks")
+    with_sides_legend(alloc, made, b"bids", ASKS_LEGEND, b"asks")
 }
 
 /// What a bar of a side is.
@@ -68,26 +67,19 @@ fn side_words(alloc: Global, name: &[u8], side: &SidePicture) -> Result<Vec<u8>,
 }
 
 /// What every picture of a call shows.
-#[tactic(auto, unfolding(crate::specs::Captions::picture_words))]
-fn picture_words() -> &'static [u8]
-    ensures { result.now ≡ spec.picture_words }
+#[tactic(auto, unfolding(crate::specs::Captions::call_words))]
+fn call_words() -> &'static [u8]
+    ensures { result.now ≡ spec.call_words }
 {
     b"A bar is as wide as its quantity, and filled as far as it traded. \
       Bids lie above their limit, asks below, the best ones at the left."
-}
-
-/// Whether what is shown is an order, whose step is marked.
-fn is_order(shown: &Option<Shown>) -> bool
-    ensures { result ≡ spec.is_order shown.now }
-{
-    order_shown(shown).is_some()
 }
 
 /// What the marks are, where an order is marked.
 fn marks_words(marked: &MarkedCall) -> &'static [u8]
     ensures { result.now ≡ spec.marks_words marked.now }
 {
-    if is_order(&marked.first) || is_order(&marked.second) {
+    if marked.orders.are_some() {
         b" The marks are those of the table."
     } else {
         b""
@@ -98,7 +90,7 @@ fn marks_words(marked: &MarkedCall) -> &'static [u8]
 fn whole_words(alloc: Global, marked: &MarkedCall) -> Result<Vec<u8>, NoMemory>
     ensures { IfOk result (λ text. text.items ≡ spec.whole_words marked.now) }
 {
-    let mut text = Vec::from_slice(alloc, picture_words())?;
+    let mut text = Vec::from_slice(alloc, call_words())?;
     text.extend_from_slice(marks_words(marked))?;
     Ok(text)
 }

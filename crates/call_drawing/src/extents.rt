@@ -11,9 +11,9 @@ use call_picture::windows::Drawn;
 use page_plots::plots::Plot;
 
 /// The quantity at which the last step of a side ends.
-fn end_of(drawn: &Drawn) -> u128
-    requires { bar.end_of drawn.now < 2 ^ 80 }
-    ensures { result ≡ bar.end_of drawn.now }
+fn end_of_steps(drawn: &Drawn) -> u128
+    requires { bar.end_of_steps drawn.now < 2 ^ 80 }
+    ensures { result ≡ bar.end_of_steps drawn.now }
 {
     let mut end = drawn.before;
     for step in &drawn.steps {
@@ -45,30 +45,30 @@ fn least_limit(number: u64, steps: &[SideStep]) -> u64
 }
 
 /// The greatest limit that is drawn; 0 where there is none.
-fn highest_drawn(picture: &CallPicture) -> u64
-    ensures { result ≡ spec.highest_drawn picture.now }
+fn highest_limit(picture: &CallPicture) -> u64
+    ensures { result ≡ spec.highest_limit picture.now }
 {
     let bids = greatest_limit(0, &picture.bids.drawn.steps);
     greatest_limit(bids, &picture.asks.drawn.steps)
 }
 
 /// The least limit that is drawn; 0 where there is none.
-fn lowest_drawn(picture: &CallPicture) -> u64
-    ensures { result ≡ spec.lowest_drawn picture.now }
+fn lowest_limit(picture: &CallPicture) -> u64
+    ensures { result ≡ spec.lowest_limit picture.now }
 {
-    let bids = least_limit(highest_drawn(picture), &picture.bids.drawn.steps);
+    let bids = least_limit(highest_limit(picture), &picture.bids.drawn.steps);
     least_limit(bids, &picture.asks.drawn.steps)
 }
 
 /// The plot that the steps of both sides, the volume and the greatest volume need.
-pub fn plot_of(picture: &CallPicture, greatest: u128) -> Plot
+pub fn plot_of_call(picture: &CallPicture, greatest: u128) -> Plot
     requires { IsPictureInRange picture.now }
-    ensures same { result ≡ spec.plot_of picture.now greatest }
+    ensures same { result ≡ spec.plot_of_call picture.now greatest }
     ensures plot { IsPlot result }
 {
     let (bids, asks) = (&picture.bids.drawn, &picture.asks.drawn);
     let first = bids.before.min(asks.before);
-    let ends = end_of(bids).max(end_of(asks));
+    let ends = end_of_steps(bids).max(end_of_steps(asks));
     let last = ends.max(picture.volume.max(greatest));
-    Plot::of(first, last, lowest_drawn(picture), highest_drawn(picture))
+    Plot::of(first, last, lowest_limit(picture), highest_limit(picture))
 }

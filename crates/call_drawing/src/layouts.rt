@@ -7,7 +7,7 @@ ghost use Rattle.call_picture.specs.Pictures.{IsPictureInRange};
 ghost use Rattle.page_plots.specs.Plots.{IsPlot};
 
 use crate::bars::{PlacedSide, placed_side};
-use crate::extents::plot_of;
+use crate::extents::plot_of_call;
 use audit_base::faults::NoMemory;
 use audit_base::numbers::Price;
 use audit_base::terms::Side;
@@ -16,6 +16,12 @@ use page_plots::plot_axes::Axes;
 use page_plots::plots::Plot;
 use page_plots::shapes::Anchor;
 use std::alloc::Global;
+
+/// From here on words have their middle over an upright line; before, they begin there.
+const MIDDLE_FROM: u16 = 168;
+
+/// From here on words end over an upright line.
+const END_FROM: u16 = 368;
 
 /// Where an upright line lies, and which point of its words stands over it.
 #[derive(Clone, Copy, Debug)]
@@ -36,12 +42,12 @@ pub struct CallLayout {
 }
 
 /// Which point of its words stands over an upright line, so that they stay within the paper.
-fn anchor_at(x: u16) -> Anchor
-    ensures { result ≡ spec.anchor_at x }
+fn anchor_over(x: u16) -> Anchor
+    ensures { result ≡ spec.anchor_over x }
 {
-    if x < 168 {
+    if x < MIDDLE_FROM {
         Anchor::Start
-    } else if x < 368 {
+    } else if x < END_FROM {
         Anchor::Middle
     } else {
         Anchor::End
@@ -56,7 +62,7 @@ fn upright_at(plot: Plot, quantity: u128) -> UprightLine
     let x = plot.x(quantity);
     UprightLine {
         x,
-        anchor: anchor_at(x),
+        anchor: anchor_over(x),
     }
 }
 
@@ -106,9 +112,9 @@ pub fn layout_of(
 ) -> Result<CallLayout, NoMemory>
     requires { IsPictureInRange picture.now }
     ensures { IfOk result
-        (IsLayoutOf (extent.plot_of picture.now greatest) picture.now greatest price) }
+        (IsLayoutOf (extent.plot_of_call picture.now greatest) picture.now greatest price) }
 {
-    let plot = plot_of(picture, greatest);
+    let plot = plot_of_call(picture, greatest);
     let layout = laid_out(alloc, plot, picture, greatest, price)?;
     Ok(layout)
 }

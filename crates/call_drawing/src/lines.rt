@@ -9,12 +9,21 @@ use audit_base::numbers::Price;
 use audit_base::texts::write_number;
 use page_markup::markup::Markup;
 use page_plots::papers::price_words;
-use page_plots::plot_axes::{BOTTOM, LEFT, RIGHT};
-use page_plots::shapes::{Anchor, Point, with_label, with_line};
+use page_plots::plot_lines::{with_line_across, with_worded_line};
+use page_plots::shapes::{Anchor, Point, with_label};
 use std::alloc::Global;
 
+/// The upper end of the line of the volume, with its words over it, in the row above the plot.
+const VOLUME_TOP: u32 = 33;
+
+/// The upper end of the line of the greatest volume: its words are in a row above those.
+const GREATEST_TOP: u32 = 16;
+
+/// Where the words of the one price end, right before the right end of the plot.
+const PRICE_WORDS_END: u32 = 464;
+
 /// Words and a quantity behind them.
-fn upright_words(alloc: Global, words: &[u8], quantity: u128) -> Result<Vec<u8>, NoMemory>
+fn quantity_words(alloc: Global, words: &[u8], quantity: u128) -> Result<Vec<u8>, NoMemory>
     ensures { IfOk result (λ text. text.items ≡ words.now ++ decimal quantity) }
 {
     let mut text = Vec::from_slice(alloc, words)?;
@@ -23,7 +32,7 @@ fn upright_words(alloc: Global, words: &[u8], quantity: u128) -> Result<Vec<u8>,
 }
 
 /// With an upright line behind it at a quantity, with these words and the quantity over it.
-fn with_upright(
+fn with_quantity_line(
     alloc: Global,
     made: Markup,
     class: &[u8],
@@ -33,13 +42,12 @@ fn with_upright(
     quantity: u128,
 ) -> Result<Markup, NoMemory>
     ensures { IfOk result
-        (λ more. more ≡ made ++ spec.upright class.now words.now top at quantity) }
+        (λ more. more ≡ made ++ spec.quantity_line class.now words.now top at quantity) }
 {
+    let text = quantity_words(alloc, words, quantity)?;
     let x = u32::from(at.x);
-    let (from, to) = (Point { x, y: top }, Point { x, y: BOTTOM });
-    let made = with_line(alloc, made, class, from, to)?;
-    let text = upright_words(alloc, words, quantity)?;
-    with_label(alloc, made, b"label", from, at.anchor, &text)
+    let from = Point { x, y: top };
+    with_worded_line(alloc, made, class, from, top, at.anchor, &text)
 }
 
 /// With the volume behind it.
@@ -51,7 +59,8 @@ pub fn with_volume(
 ) -> Result<Markup, NoMemory>
     ensures { IfOk result (λ more. more ≡ made ++ spec.volume_shapes at volume) }
 {
-    with_upright(alloc, made, b"volume", b"traded ", 33, at, volume)
+    let (class, words) = (b"volume", b"traded ");
+    with_quantity_line(alloc, made, class, words, VOLUME_TOP, at, volume)
 }
 
 /// With the greatest volume behind it, where the finding tells it.
@@ -65,15 +74,9 @@ pub fn with_greatest(
 {
     match short {
         Some(short) => {
-            with_upright(
-                alloc,
-                made,
-                b"greatest",
-                b"possible ",
-                16,
-                at,
-                short.greatest,
-            )
+            let (class, words) = (b"greatest", b"possible ");
+            let greatest = short.greatest;
+            with_quantity_line(alloc, made, class, words, GREATEST_TOP, at, greatest)
         }
         None => Ok(made),
     }
@@ -84,10 +87,12 @@ fn with_price_line(alloc: Global, made: Markup, y: u16, price: Price) -> Result<
     ensures { IfOk result (λ more. more ≡ made ++ spec.price_line y price) }
 {
     let y = u32::from(y);
-    let (from, to) = (Point { x: LEFT, y }, Point { x: RIGHT, y });
-    let made = with_line(alloc, made, b"price", from, to)?;
+    let made = with_line_across(alloc, made, b"price", y)?;
     let text = price_words(alloc, price)?;
-    let at = Point { x: 464, y };
+    let at = Point {
+        x: PRICE_WORDS_END,
+        y,
+    };
     with_label(alloc, made, b"label", at, Anchor::End, &text)
 }
 

@@ -5,14 +5,15 @@ ghost use Rattle.call_drawing.specs.Marks as spec;
 
 use crate::bars::{Bar, PlacedSide, PlacedStep};
 use crate::layouts::CallLayout;
-use crate::steps::with_bar;
+use crate::steps::with_step_bar;
 use audit_base::faults::NoMemory;
-use audit_base::findings::{OrderLine, Shown};
+use audit_base::findings::OrderLine;
 use audit_base::terms::Side;
 use call_picture::steps::SideStep;
 use order_list::lists::OrderList;
 use page_markup::markup::Markup;
-use page_plots::orders::{has_place, order_shown, with_badge};
+use page_plots::marks::MarkedPicture;
+use page_plots::orders::{has_place, with_badge};
 use page_plots::shapes::Point;
 use std::alloc::Global;
 
@@ -39,9 +40,9 @@ fn mark_of(bar: Bar) -> Point
 
 /// With a mark round a bar behind it.
 fn with_mark(alloc: Global, made: Markup, number: &[u8], bar: Bar) -> Result<Markup, NoMemory>
-    ensures { IfOk result (λ more. more ≡ made ++ spec.mark_shapes number.now bar) }
+    ensures { IfOk result (λ more. more ≡ made ++ spec.bar_mark number.now bar) }
 {
-    let made = with_bar(alloc, made, b"mark", bar, bar.right)?;
+    let made = with_step_bar(alloc, made, b"mark", bar, bar.right)?;
     with_badge(alloc, made, number, mark_of(bar))
 }
 
@@ -108,54 +109,22 @@ fn with_mark_on_side(
     )
 }
 
-/// With the mark of an order behind it.
-fn with_order_mark(
-    alloc: Global,
-    made: Markup,
-    orders: &OrderList<'_>,
-    layout: &CallLayout,
-    number: &[u8],
-    line: &OrderLine,
-) -> Result<Markup, NoMemory>
-    ensures { IfOk result
-        (λ more. more ≡ made ++ spec.order_mark orders.now layout.now number.now line.now) }
-{
-    match line.side {
-        Side::Buy => with_mark_on_side(alloc, made, orders, number, line, &layout.bids),
-        Side::Sell => with_mark_on_side(alloc, made, orders, number, line, &layout.asks),
-    }
-}
+impl MarkedPicture for CallLayout {
+    ghost use Rattle.call_drawing.specs.Marks.{step_mark};
 
-/// With the mark of an order behind it, where there is one.
-fn with_mark_if_there(
-    alloc: Global,
-    made: Markup,
-    orders: &OrderList<'_>,
-    layout: &CallLayout,
-    number: &[u8],
-    line: &Option<OrderLine>,
-) -> Result<Markup, NoMemory>
-    ensures { IfOk result
-        (λ more. more ≡ made ++ spec.mark_if_there orders.now layout.now number.now line.now) }
-{
-    match line {
-        Some(line) => with_order_mark(alloc, made, orders, layout, number, line),
-        None => Ok(made),
-    }
-}
+    ghost order_mark = { λ layout orders number line. step_mark orders layout number line };
 
-/// With the mark of what is shown behind it, where it is an order.
-pub fn with_shown_mark(
-    alloc: Global,
-    made: Markup,
-    orders: &OrderList<'_>,
-    layout: &CallLayout,
-    number: &[u8],
-    shown: &Option<Shown>,
-) -> Result<Markup, NoMemory>
-    ensures { IfOk result
-        (λ more. more ≡ made ++ spec.shown_mark orders.now layout.now number.now shown.now) }
-{
-    let line = order_shown(shown);
-    with_mark_if_there(alloc, made, orders, layout, number, &line)
+    fn with_order_mark(
+        &self,
+        alloc: Global,
+        made: Markup,
+        orders: &OrderList<'_>,
+        number: &[u8],
+        line: &OrderLine,
+    ) -> Result<Markup, NoMemory> {
+        match line.side {
+            Side::Buy => with_mark_on_side(alloc, made, orders, number, line, &self.bids),
+            Side::Sell => with_mark_on_side(alloc, made, orders, number, line, &self.asks),
+        }
+    }
 }

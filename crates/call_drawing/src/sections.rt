@@ -5,13 +5,12 @@ ghost use Rattle.audit_base.specs.Orders.{IsOrderList};
 ghost use Rattle.call_drawing.specs.Sections as spec;
 ghost use Rattle.call_picture.specs.Pictures.{IsPictureInRange};
 
-use crate::captions::{caption_of, with_legend};
+use crate::captions::{caption_of, with_call_legend};
 use crate::layouts::{CallLayout, layout_of};
 use crate::lines::{with_greatest, with_price, with_volume};
-use crate::marks::with_shown_mark;
 use crate::steps::with_side;
 use audit_base::faults::NoMemory;
-use audit_base::findings::{Finding, Short, Shown};
+use audit_base::findings::{Finding, Short};
 use audit_base::numbers::Price;
 use audit_base::orders::Deal;
 use audit_base::terms::Side;
@@ -19,6 +18,7 @@ use call_picture::pictures::{CallPicture, call_picture};
 use order_list::lists::OrderList;
 use page_markup::markup::Markup;
 use page_plots::figures::with_figure;
+use page_plots::marks::{MarkedOrders, with_marks};
 use page_plots::papers::plot_paper;
 use page_plots::plot_axes::with_axes;
 use std::alloc::Global;
@@ -26,9 +26,8 @@ use std::alloc::Global;
 /// What is marked in the picture of a call.
 #[derive(Clone, Copy, Debug)]
 pub struct MarkedCall {
-    /// What the finding shows first and second: where it is an order, its step is marked.
-    pub first: Option<Shown>,
-    pub second: Option<Shown>,
+    /// The orders whose steps are marked.
+    pub orders: MarkedOrders,
     /// The greatest volume, where the finding tells it.
     pub short: Option<Short>,
     /// The one price of the trades, where the rule asks for one and there are trades.
@@ -38,22 +37,23 @@ pub struct MarkedCall {
 impl MarkedCall {
     /// What a finding marks, and the price.
     pub fn by(finding: &Option<Finding>, price: Option<Price>) -> MarkedCall
-        ensures { result ≡ spec.marked_by finding.now price }
+        ensures { result ≡ spec.marked_in_call finding.now price }
     {
-        match finding {
-            Some(finding) => MarkedCall {
-                first: finding.first,
-                second: finding.second,
-                short: finding.short,
-                price,
-            },
-            None => MarkedCall {
-                first: None,
-                second: None,
-                short: None,
-                price,
-            },
+        MarkedCall {
+            orders: MarkedOrders::by(finding),
+            short: short_of(finding),
+            price,
         }
+    }
+}
+
+/// The greatest volume that a finding tells, if it does.
+fn short_of(finding: &Option<Finding>) -> Option<Short>
+    ensures { result ≡ spec.short_of finding.now }
+{
+    match finding {
+        Some(finding) => finding.short,
+        None => None,
     }
 }
 
@@ -96,21 +96,6 @@ fn with_lines(
     with_greatest(alloc, made, layout.greatest, marked.short)
 }
 
-/// With the marks of the orders of the evidence behind it.
-fn with_marks(
-    alloc: Global,
-    made: Markup,
-    orders: &OrderList<'_>,
-    marked: &MarkedCall,
-    layout: &CallLayout,
-) -> Result<Markup, NoMemory>
-    ensures { IfOk result
-        (λ more. more ≡ made ++ spec.call_marks orders.now marked.now layout.now) }
-{
-    let made = with_shown_mark(alloc, made, orders, layout, b"1", &marked.first)?;
-    with_shown_mark(alloc, made, orders, layout, b"2", &marked.second)
-}
-
 /// The shapes of the picture.
 fn call_shapes(
     alloc: Global,
@@ -126,8 +111,8 @@ fn call_shapes(
     let made = with_axes(alloc, made, &layout.axes, b"quantity, best orders first")?;
     let made = with_both_sides(alloc, made, orders, layout)?;
     let made = with_lines(alloc, made, numbers, marked, layout)?;
-    let made = with_marks(alloc, made, orders, marked, layout)?;
-    with_legend(alloc, made)
+    let made = with_marks(alloc, made, orders, layout, &marked.orders)?;
+    with_call_legend(alloc, made)
 }
 
 /// The section of the picture that is laid out so.

@@ -13,12 +13,9 @@ use call_picture::steps::SideStep;
 use order_list::lists::OrderList;
 use page_markup::markup::Markup;
 use page_plots::orders::order_title;
-use page_plots::shapes::{Point, append_point, with_group, with_path, with_rectangle};
+use page_plots::shapes::{Point, append_point, with_bar, with_group, with_path};
 use page_plots::sides::{bar_class, filled_class};
 use std::alloc::Global;
-
-/// How high a bar is.
-pub const BAR_HEIGHT: u32 = 9;
 
 /// The title of the orders of one limit.
 fn limit_title(alloc: Global, side: Side, step: &SideStep) -> Result<Vec<u8>, NoMemory>
@@ -66,21 +63,20 @@ fn line_class(side: Side) -> &'static [u8]
 }
 
 /// With a bar of this class behind it, from its left to here.
-pub fn with_bar(
+pub fn with_step_bar(
     alloc: Global,
     made: Markup,
     class: &[u8],
     bar: Bar,
     right: u16,
 ) -> Result<Markup, NoMemory>
-    ensures { IfOk result (λ more. more ≡ made ++ spec.bar_to class.now bar right) }
+    ensures { IfOk result (λ more. more ≡ made ++ spec.step_bar class.now bar right) }
 {
     let corner = Point {
         x: u32::from(bar.left),
         y: u32::from(bar.top),
     };
-    let width = u32::from(right).saturating_sub(u32::from(bar.left));
-    with_rectangle(alloc, made, class, corner, width, BAR_HEIGHT)
+    with_bar(alloc, made, class, corner, u32::from(right))
 }
 
 /// With the traded part of a bar behind it, where the step traded.
@@ -93,13 +89,8 @@ fn with_traded(
     ensures { IfOk result (λ more. more ≡ made ++ spec.traded_bar side placed.now) }
 {
     if 0 < placed.step.traded {
-        with_bar(
-            alloc,
-            made,
-            filled_class(side),
-            placed.bar,
-            placed.bar.filled,
-        )
+        let (class, bar) = (filled_class(side), placed.bar);
+        with_step_bar(alloc, made, class, bar, bar.filled)
     } else {
         Ok(made)
     }
@@ -119,7 +110,7 @@ fn with_step(
 {
     let title = step_title(alloc, orders, side, by_limit, &placed.step)?;
     let bar = placed.bar;
-    let shapes = with_bar(alloc, Markup::new(alloc), bar_class(side), bar, bar.right)?;
+    let shapes = with_step_bar(alloc, Markup::new(alloc), bar_class(side), bar, bar.right)?;
     let shapes = with_traded(alloc, shapes, side, placed)?;
     with_group(alloc, made, &title, &shapes)
 }

@@ -1,6 +1,6 @@
 -- What is drawn of a line of the book: its title with the numbers of its order, its bar, filled as
 -- far as is left of it, its limit, and how much is left of how much.
-use Rattle.std.specs.Prelude.{ℕ, Bool, false, ◌||◌, ◌+◌, ◌-◌, List, ◌++◌, codes, decimal, slice_get}
+use Rattle.std.specs.Prelude.{ℕ, Bool, false, ◌||◌, ◌+◌, List, ◌++◌, codes, decimal, slice_get}
 use Rattle.std.specs.List.{list_any}
 use Rattle.audit_base.specs.declared.orders.Order.{Order}
 use Rattle.audit_base.specs.declared.terms.Side.{Side}
@@ -10,20 +10,29 @@ use Rattle.continuous_drawing.specs.declared.book_layouts.PlacedLine.{PlacedLine
 use Rattle.continuous_drawing.specs.BookLayouts.{quantity_of}
 use Rattle.page_plots.specs.declared.shapes.Anchor.TheVariants.{End}
 use Rattle.page_plots.specs.declared.shapes.Point.{Point}
+use Rattle.page_plots.specs.Measures.{left_end, prices_end}
 use Rattle.page_plots.specs.Orders.{order_title}
 use Rattle.page_plots.specs.Papers.{is_long, paper_of}
-use Rattle.page_plots.specs.Shapes.{group, label, rectangle}
+use Rattle.page_plots.specs.Shapes.{bar_shape, group, label}
 use Rattle.page_plots.specs.Sides.{bar_class, filled_class}
 
--- a bar of a line, from the left of the bars to here
-abbrev pub bar_to : List ℕ → PlacedLine → ℕ → List ℕ
-bar_to class placed right =
-    rectangle class (record { x = 68; y = placed.top }) (right - 68) 9
+-- how far words beside a line have their foot below its top
+abbrev pub foot_below : ℕ
+foot_below = 8
+
+-- where the words of what is left end, at the right of the bars
+abbrev pub left_words_end : ℕ
+left_words_end = 472
+
+-- the bar of a line in a class, from the left of the bars to here
+abbrev pub line_bar : List ℕ → PlacedLine → ℕ → List ℕ
+line_bar class placed right = bar_shape class (record { x = left_end; y = placed.top }) right
 
 -- the bar of a line, filled as far as is left
 abbrev pub bar_shapes : Side → PlacedLine → List ℕ
 bar_shapes side placed =
-    bar_to (bar_class side) placed placed.right ++ bar_to (filled_class side) placed placed.filled
+    line_bar (bar_class side) placed placed.right
+    ++ line_bar (filled_class side) placed placed.filled
 
 -- a point beside a line, so far below its top
 abbrev pub beside : PlacedLine → ℕ → ℕ → Point
@@ -32,7 +41,7 @@ beside placed x below = record { x = x; y = placed.top + below }
 -- the limit of a line, to the left of its bar
 abbrev pub limit_label : PlacedLine → List ℕ
 limit_label placed =
-    label (codes "tick") (beside placed 60 8) End (price_text placed.line.limit)
+    label (codes "tick") (beside placed prices_end foot_below) End (price_text placed.line.limit)
 
 -- what is left, and of how much: LEFT of QUANTITY
 abbrev pub left_words : ℕ → ℕ → List ℕ
@@ -40,7 +49,8 @@ left_words left quantity = decimal left ++ codes " of " ++ decimal quantity
 
 -- the same of a line, to the right of its bar
 abbrev pub left_label : List Order → PlacedLine → List ℕ
-left_label orders placed = label (codes "tick") (beside placed 472 8) End
+left_label orders placed =
+    label (codes "tick") (beside placed left_words_end foot_below) End
     (left_words placed.line.left (quantity_of (slice_get orders placed.line.index)))
 
 -- a line

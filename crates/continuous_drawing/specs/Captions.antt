@@ -1,23 +1,37 @@
 -- What stands below the pictures, and the legend of the plot.
 use Rattle.std.specs.Prelude.{ℕ, List, ◌++◌, codes}
-use Rattle.audit_base.specs.declared.terms.Side.TheVariants.{Buy, Sell}
 use Rattle.page_plots.specs.declared.shapes.Anchor.TheVariants.{Start}
+use Rattle.page_plots.specs.declared.shapes.Point.{Point}
+use Rattle.page_plots.specs.Measures.{legend_foot}
 use Rattle.page_plots.specs.Shapes.{circle, label}
-use Rattle.page_plots.specs.Sides.{legend_entry}
+use Rattle.page_plots.specs.Sides.{sides_legend}
+use Rattle.continuous_drawing.specs.Trades.{dot_radius}
+
+-- where the colour of asks begins in the legend, behind the words of bids
+abbrev pub best_asks_legend : ℕ
+best_asks_legend = 154
+
+-- the centre of the dot of trades in the legend, behind the words of asks
+abbrev pub dot_legend : Point
+dot_legend = record { x = 247; y = 336 }
+
+-- where the word of that dot begins
+abbrev pub trade_word : ℕ
+trade_word = 256
 
 -- what a dot is
 abbrev pub trade_entry : List ℕ
-trade_entry = circle (codes "trade") (record { x = 247; y = 336 }) 3
-    ++ label (codes "tick") (record { x = 256; y = 340 }) Start (codes "trade")
+trade_entry = circle (codes "trade") dot_legend dot_radius
+    ++ label (codes "tick") (record { x = trade_word; y = legend_foot }) Start (codes "trade")
 
 -- what the two colours and the dots are
-abbrev pub legend : List ℕ
-legend = legend_entry Buy 68 (codes "best bid") ++ legend_entry Sell 154 (codes "best ask")
-    ++ trade_entry
+abbrev pub trading_legend : List ℕ
+trading_legend =
+    sides_legend (codes "best bid") best_asks_legend (codes "best ask") ++ trade_entry
 
 -- what the picture of the best limits shows
-unfoldable pub picture_words : List ℕ
-picture_words = codes "The best bid and, above it, the best ask after each record; of many records together the least and the greatest. A dot is a trade, at the record that caused it; of more than 1,000 trades there is a bar from the least to the greatest price. The upright line is the offending record."
+unfoldable pub quotes_words : List ℕ
+quotes_words = codes "The best bid and, above it, the best ask after each record; of many records together the least and the greatest. A dot is a trade, at the record that caused it; of more than 1,000 trades there is a bar from the least to the greatest price. The upright line is the offending record."
 
 -- what the picture of the book shows
 unfoldable pub book_words : List ℕ

@@ -12,6 +12,14 @@ use Rattle.page_plots.specs.declared.shapes.Point.{Point}
 use Rattle.page_plots.specs.Plots.{x_of, y_of}
 use Rattle.page_plots.specs.Shapes.{group, rectangle}
 
+-- how high a range of one price is, so that it is seen
+abbrev pub least_height : ℕ
+least_height = 2
+
+-- how wide a column is at least, so that it is seen
+abbrev pub least_width : ℕ
+least_width = 1
+
 -- the title of a range: FIRST,NEXT,WORD,LOW,HIGH, of the places from FIRST to before NEXT
 abbrev pub range_title : List ℕ → PlaceColumn → LimitRange → List ℕ
 range_title word column range = join_with_byte 44
@@ -25,11 +33,11 @@ corner_of plot column range = record { x = x_of plot column.first; y = y_of plot
 -- how wide a column is: up to the first place of the next one, and never so narrow that it is not
 -- seen
 abbrev pub width_of : Plot → PlaceColumn → ℕ
-width_of plot column = max (x_of plot column.next - x_of plot column.first) 1
+width_of plot column = max (x_of plot column.next - x_of plot column.first) least_width
 
 -- how high a range is: down to its least price, and never so low that it is not seen
 abbrev pub height_of : Plot → LimitRange → ℕ
-height_of plot range = (y_of plot range.low - y_of plot range.high) + 2
+height_of plot range = (y_of plot range.low - y_of plot range.high) + least_height
 
 -- the bar of a range
 abbrev pub range_bar : Plot → List ℕ → PlaceColumn → LimitRange → List ℕ
@@ -46,11 +54,12 @@ abbrev pub range_if_there : Plot → List ℕ → List ℕ → PlaceColumn → O
 range_if_there plot class word column None = []
 range_if_there plot class word column (Some range) = range_shapes plot class word column range
 
--- the best bids and the best asks of a column
+-- the best bids of a column
 abbrev pub bid_range : Plot → PlaceColumn → List ℕ
 bid_range plot column =
     range_if_there plot (codes "bidtraded") (side_word Buy) column column.bids
 
+-- the best asks of a column
 abbrev pub ask_range : Plot → PlaceColumn → List ℕ
 ask_range plot column =
     range_if_there plot (codes "asktraded") (side_word Sell) column column.asks

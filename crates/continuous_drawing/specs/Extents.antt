@@ -8,28 +8,30 @@ use Rattle.continuous_picture.specs.declared.ranges.LimitRange.{LimitRange}
 use Rattle.page_plots.specs.declared.plots.Plot.{Plot}
 use Rattle.page_plots.specs.Plots.{plot_between}
 
--- the greatest, and the least, of a number and the prices of a range, if there is one
+-- the greatest of a number and the prices of a range, if there is one
 abbrev pub highest_with : ℕ → Option LimitRange → ℕ
 highest_with number None = number
 highest_with number (Some range) = max number range.high
 
+-- the least of a number and the prices of a range, if there is one
 abbrev pub lowest_with : ℕ → Option LimitRange → ℕ
 lowest_with number None = number
 lowest_with number (Some range) = min number range.low
 
--- the greatest, and the least, of a number and the prices of a column: of its best bids, of its
--- best asks and of its trades
+-- the greatest of a number and the prices of a column: of its best bids, of its best asks and of its
+-- trades
 abbrev pub highest_of : ℕ → PlaceColumn → ℕ
 highest_of number column =
     highest_with (highest_with (highest_with number column.bids) column.asks) column.trades
 
+-- the least of a number and these prices
 abbrev pub lowest_of : ℕ → PlaceColumn → ℕ
 lowest_of number column =
     lowest_with (lowest_with (lowest_with number column.bids) column.asks) column.trades
 
 -- the greatest price that is drawn; 0 where there is none
-abbrev pub highest_drawn : List PlaceColumn → ℕ
-highest_drawn columns = fold highest_of 0 columns
+abbrev pub highest_price : List PlaceColumn → ℕ
+highest_price columns = fold highest_of 0 columns
 
 -- the least of a number and the prices of columns
 abbrev pub lowest_below : ℕ → List PlaceColumn → ℕ
@@ -37,6 +39,6 @@ lowest_below number columns = fold lowest_of number columns
 
 -- the plot of the places from that of the first order to before `end`, and of all prices that are
 -- drawn
-abbrev pub plot_of : List Order → ℕ → List PlaceColumn → Plot
-plot_of orders end columns = plot_between (place_at orders 0) end
-    (lowest_below (highest_drawn columns) columns) (highest_drawn columns)
+abbrev pub plot_of_trading : List Order → ℕ → List PlaceColumn → Plot
+plot_of_trading orders end columns = plot_between (place_at orders 0) end
+    (lowest_below (highest_price columns) columns) (highest_price columns)

@@ -6,35 +6,36 @@ use Rattle.continuous_drawing.specs.declared.offending.OffendingPlace.{Offending
 use Rattle.page_plots.specs.declared.plots.Plot.{Plot}
 use Rattle.page_plots.specs.declared.shapes.Anchor.{Anchor}
 use Rattle.page_plots.specs.declared.shapes.Anchor.TheVariants.{Start, End}
+use Rattle.page_plots.specs.Measures.{upper_end}
+use Rattle.page_plots.specs.PlotLines.{worded_line}
 use Rattle.page_plots.specs.Plots.{x_of}
-use Rattle.page_plots.specs.Shapes.{label, straight_line}
 
 -- the place of an offence, if there is one
-abbrev pub offending_place : Option OffendingPlace → Option ℕ
-offending_place None = None
-offending_place (Some offence) = Some offence.place
+abbrev pub place_of_offence : Option OffendingPlace → Option ℕ
+place_of_offence None = None
+place_of_offence (Some offence) = Some offence.place
 
 -- the words over the line: record PLACE: PROPERTY
 abbrev pub words_of : OffendingPlace → List ℕ
 words_of offence =
     codes "record " ++ decimal offence.place ++ codes ": " ++ property_word offence.property
 
--- which point of its words stands over an upright line, so that they stay within the paper
-abbrev pub anchor_at : ℕ → Anchor
-anchor_at x = if nat_lt x 268 then Start else End
+-- the middle of the plot: left of it words begin at an upright line, from it on they end there
+abbrev pub middle : ℕ
+middle = 268
 
--- an upright line, from the top of the plot to its bottom
-abbrev pub upright : ℕ → List ℕ
-upright x = straight_line (codes "mark") (record { x = x; y = 44 }) (record { x = x; y = 304 })
+-- the foot of the words over the line, right above the plot
+abbrev pub words_foot : ℕ
+words_foot = 40
 
--- the words over it
-abbrev pub upright_words : ℕ → OffendingPlace → List ℕ
-upright_words x offence =
-    label (codes "label") (record { x = x; y = 40 }) (anchor_at x) (words_of offence)
+-- which point of its words stands at an upright line, so that they stay within the paper
+abbrev pub anchor_beside : ℕ → Anchor
+anchor_beside x = if nat_lt x middle then Start else End
 
--- both
+-- an upright line, from the top of the plot to its bottom, and the words over it
 abbrev pub line_and_words : ℕ → OffendingPlace → List ℕ
-line_and_words x offence = upright x ++ upright_words x offence
+line_and_words x offence = worded_line (codes "mark") (record { x = x; y = upper_end }) words_foot
+    (anchor_beside x) (words_of offence)
 
 -- the line of an offence, at its place
 abbrev pub offence_shapes : Plot → OffendingPlace → List ℕ

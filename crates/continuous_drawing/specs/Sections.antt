@@ -16,28 +16,31 @@ use Rattle.page_plots.specs.PlotAxes.{axes_shapes}
 use Rattle.page_plots.specs.Plots.{AreAxesOf}
 use Rattle.page_parts.specs.Elements.{text_element}
 use Rattle.page_plots.specs.Figures.{figure_section}
+use Rattle.page_plots.specs.Marks.{marks_of, orders_marked_by}
 use Rattle.page_plots.specs.Papers.{plot_paper}
 use Rattle.continuous_drawing.specs.declared.book_layouts.BookLayout.{BookLayout}
 use Rattle.continuous_drawing.specs.declared.offending.OffendingPlace.{OffendingPlace}
 use Rattle.continuous_drawing.specs.declared.sections.MarkedTrading.{MarkedTrading}
 use Rattle.continuous_drawing.specs.BookLayouts.{IsBookLayoutOf}
 use Rattle.continuous_drawing.specs.Books.{book_paper, line_shapes}
-use Rattle.continuous_drawing.specs.Captions.{book_words, legend, picture_words}
+use Rattle.continuous_drawing.specs.Captions.{book_words, quotes_words, trading_legend}
 use Rattle.continuous_drawing.specs.Columns.{quote_shapes}
-use Rattle.continuous_drawing.specs.Extents.{plot_of}
-use Rattle.continuous_drawing.specs.Marks.{shown_mark}
-use Rattle.continuous_drawing.specs.Offending.{offending_place, offending_shapes}
+use Rattle.continuous_drawing.specs.Extents.{plot_of_trading}
+use Rattle.continuous_drawing.specs.Marks.{book_mark}
+use Rattle.continuous_drawing.specs.Offending.{offending_shapes, place_of_offence}
 use Rattle.continuous_drawing.specs.Trades.{trades_shapes}
+
+-- the offence of a finding at a place: its property; none where nothing was found
+abbrev pub offence_at : Option Finding → ℕ → Option OffendingPlace
+offence_at None place = None
+offence_at (Some finding) place =
+    Some (record { place = place; property = finding.property })
 
 -- what is marked in the picture: of a finding its property, at the record that caused it, and its
 -- orders; of an accepted log nothing
-abbrev pub marked_by : Option Finding → ℕ → MarkedTrading
-marked_by None place = record { offence = None; first = None; second = None }
-marked_by (Some finding) place = record {
-  offence = Some (record { place = place; property = finding.property });
-  first = finding.first;
-  second = finding.second;
-}
+abbrev pub marked_in_trading : Option Finding → ℕ → MarkedTrading
+marked_in_trading finding place =
+    record { offence = offence_at finding place; orders = orders_marked_by finding }
 
 -- a section with a picture, of which words below it say what it shows
 abbrev pub worded_figure : List ℕ → List ℕ → List ℕ → List ℕ → List ℕ
@@ -54,24 +57,19 @@ abbrev pub picture_shapes : Plot → Axes → List Order → List Deal → List 
     → List ℕ
 picture_shapes plot axes orders deals columns offence =
     axes_shapes axes (codes "record") ++ number_shapes plot orders deals columns
-    ++ offending_shapes plot offence ++ legend
+    ++ offending_shapes plot offence ++ trading_legend
 
 -- the section that has these shapes
 abbrev pub picture_section : Axes → List ℕ → List ℕ
 picture_section axes shapes =
-    worded_figure (codes "Best bid and best ask by record") (plot_paper axes) shapes picture_words
-
--- the marks of the orders of the evidence
-abbrev pub book_marks : List Order → MarkedTrading → BookLayout → List ℕ
-book_marks orders marked layout =
-    shown_mark orders layout (codes "1") marked.first
-    ++ shown_mark orders layout (codes "2") marked.second
+    worded_figure (codes "Best bid and best ask by record") (plot_paper axes) shapes quotes_words
 
 -- the lines of both sides of a book, and the marks
 abbrev pub book_shapes : List Order → MarkedTrading → BookLayout → List ℕ
 book_shapes orders marked layout =
     flat_map (line_shapes orders Buy) layout.bids.items
-    ++ flat_map (line_shapes orders Sell) layout.asks.items ++ book_marks orders marked layout
+    ++ flat_map (line_shapes orders Sell) layout.asks.items
+    ++ marks_of (book_mark orders layout) marked.orders
 
 -- the section that has them
 abbrev pub book_section : List Order → MarkedTrading → BookLayout → List ℕ
@@ -103,7 +101,7 @@ pub record IsPlottedPicture (plot : Plot) (orders : List Order) (deals : List De
 abbrev pub IsDrawnPicture : List Order → List Deal → ℕ → List PlaceColumn → Option OffendingPlace → List ℕ
     → Type 0
 IsDrawnPicture orders deals end columns offence text =
-    IsPlottedPicture (plot_of orders end columns) orders deals columns offence text
+    IsPlottedPicture (plot_of_trading orders end columns) orders deals columns offence text
 
 -- the sections with these numbers: the best limits, and behind them the book, where there is one
 pub record AreDrawnSections (orders : List Order) (deals : List Deal) (end : ℕ)
@@ -117,5 +115,5 @@ pub record AreDrawnSections (orders : List Order) (deals : List Deal) (end : ℕ
 pub record AreContinuousSections (orders : List Order) (deals : List Deal) (end : ℕ)
     (marked : MarkedTrading) (text : List ℕ) : Type 0 where
   pub numbers : ContinuousPicture
-  pub numbers_are : IsContinuousPicture orders deals end (offending_place marked.offence) numbers
+  pub numbers_are : IsContinuousPicture orders deals end (place_of_offence marked.offence) numbers
   pub drawn : AreDrawnSections orders deals end numbers marked text

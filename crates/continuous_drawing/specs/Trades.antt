@@ -13,6 +13,10 @@ use Rattle.page_plots.specs.declared.shapes.Point.{Point}
 use Rattle.page_plots.specs.Plots.{x_of, y_of}
 use Rattle.page_plots.specs.Shapes.{circle, group}
 
+-- the radius of the dot of a trade
+abbrev pub dot_radius : ℕ
+dot_radius = 3
+
 -- its title: PLACE,QUANTITY,PRICE
 abbrev pub trade_title : Deal → List ℕ
 trade_title d = join_with_byte 44
@@ -25,10 +29,14 @@ centre_of plot orders d = record { x = x_of plot (cause orders d); y = y_of plot
 -- its mark
 abbrev pub trade_shapes : Plot → List Order → Deal → List ℕ
 trade_shapes plot orders d =
-    group (trade_title d) (circle (codes "trade") (centre_of plot orders d) 3)
+    group (trade_title d) (circle (codes "trade") (centre_of plot orders d) dot_radius)
 
--- a mark for each trade; where there are more than 1,000, the prices of each column
+-- the greatest number of trades that are drawn as a mark each
+abbrev pub most_marks : ℕ
+most_marks = 1000
+
+-- a mark for each trade; where there are more than so many, the prices of each column
 abbrev pub trades_shapes : Plot → List Order → List Deal → List PlaceColumn → List ℕ
-trades_shapes plot orders deals columns = if nat_lt 1000 (length deals)
+trades_shapes plot orders deals columns = if nat_lt most_marks (length deals)
     then flat_map (trade_range plot) columns
     else flat_map (trade_shapes plot orders) deals

@@ -8,7 +8,26 @@ use continuous_picture::pictures::BookBefore;
 use order_book::books::Resting;
 use order_list::lists::OrderList;
 use page_plots::axes::Axis;
+use page_plots::measures::LEFT;
 use std::alloc::Global;
+
+/// How wide the bar of the greatest quantity is: right of it is what is left.
+const WIDEST_BAR: u32 = 284;
+
+/// The top of the first line of a book.
+const FIRST_TOP: usize = 20;
+
+/// How high a line of a book is, with the gap below its bar.
+const LINE_HEIGHT: usize = 14;
+
+/// The room above and below the lines of a book.
+const BOOK_ROOM: usize = 26;
+
+/// The greatest number of lines of a side.
+const MOST_OF_SIDE: usize = 10;
+
+/// The greatest number of lines above another, the gap between the sides among them.
+const MOST_ABOVE: usize = 20;
 
 /// A line of a book with its place: its top, how far its bar reaches, and how far what is left.
 #[derive(Clone, Copy, Debug)]
@@ -48,16 +67,16 @@ fn most_of(orders: &OrderList<'_>, number: u64, lines: &[Resting]) -> u64
     most
 }
 
-/// How far a bar of a quantity reaches, where one of the greatest reaches from 68 to 352.
+/// How far a bar of a quantity reaches, where one of the greatest is the widest.
 fn reach_of(most: u64, quantity: u64) -> u16
     ensures { result ≡ spec.reach_of most quantity }
 {
     let axis = Axis {
         first: 0,
         last: u128::from(most),
-        length: 284,
+        length: WIDEST_BAR,
     };
-    (68 + axis.point(u128::from(quantity))) as u16
+    (LEFT + axis.point(u128::from(quantity))) as u16
 }
 
 /// The top of a line below so many others.
@@ -65,8 +84,8 @@ fn top_below(first: usize, count: usize) -> u16
     requires { first ≤ 11 }
     ensures { result ≡ spec.top_below (first + count) }
 {
-    let above = (first + count.min(20)).min(20);
-    (20 + 14 * above) as u16
+    let above = (first + count.min(MOST_ABOVE)).min(MOST_ABOVE);
+    (FIRST_TOP + LINE_HEIGHT * above) as u16
 }
 
 /// A line with its place.
@@ -116,15 +135,15 @@ fn first_ask(bids: &[Resting]) -> usize
     ensures same { result ≡ spec.first_ask bids.now }
     ensures few { result ≤ 11 }
 {
-    bids.len().min(10) + 1
+    bids.len().min(MOST_OF_SIDE) + 1
 }
 
 /// How high the paper of a book is: its lines, the gap between the sides, and room above and below.
 fn height_of(book: &BookBefore) -> u32
     ensures { result ≡ spec.book_height book.now }
 {
-    let lines = first_ask(&book.bids) + book.asks.len().min(10);
-    (26 + 14 * lines) as u32
+    let lines = first_ask(&book.bids) + book.asks.len().min(MOST_OF_SIDE);
+    (BOOK_ROOM + LINE_HEIGHT * lines) as u32
 }
 
 /// The lines of a book with their places: the bids, and below them the asks.

@@ -9,28 +9,34 @@ use audit_base::terms::Side;
 use audit_base::texts::write_number;
 use order_list::lists::OrderList;
 use page_markup::markup::Markup;
+use page_plots::measures::{LEFT, PRICES_END};
 use page_plots::orders::order_title;
 use page_plots::papers::{is_long, paper_of, price_words};
-use page_plots::shapes::{Anchor, Point, with_group, with_label, with_rectangle};
+use page_plots::shapes::{Anchor, Point, with_bar, with_group, with_label};
 use page_plots::sides::{bar_class, filled_class};
 use std::alloc::Global;
 
-/// With a bar of this class behind it, from the left of the bars to here.
-fn with_bar(
+/// How far words beside a line have their foot below its top.
+const FOOT_BELOW: u32 = 8;
+
+/// Where the words of what is left end, at the right of the bars.
+const LEFT_WORDS_END: u32 = 472;
+
+/// With the bar of a line in this class behind it, from the left of the bars to here.
+fn with_line_bar(
     alloc: Global,
     made: Markup,
     class: &[u8],
     placed: &PlacedLine,
     right: u16,
 ) -> Result<Markup, NoMemory>
-    ensures { IfOk result (λ more. more ≡ made ++ spec.bar_to class.now placed.now right) }
+    ensures { IfOk result (λ more. more ≡ made ++ spec.line_bar class.now placed.now right) }
 {
     let corner = Point {
-        x: 68,
+        x: LEFT,
         y: u32::from(placed.top),
     };
-    let width = u32::from(right).saturating_sub(68);
-    with_rectangle(alloc, made, class, corner, width, 9)
+    with_bar(alloc, made, class, corner, u32::from(right))
 }
 
 /// A point beside a line, so far below its top.
@@ -61,7 +67,7 @@ fn with_limit(alloc: Global, made: Markup, placed: &PlacedLine) -> Result<Markup
     ensures { IfOk result (λ more. more ≡ made ++ spec.limit_label placed.now) }
 {
     let text = price_words(alloc, placed.line.limit)?;
-    let at = beside(placed, 60, 8);
+    let at = beside(placed, PRICES_END, FOOT_BELOW);
     with_label(alloc, made, b"tick", at, Anchor::End, &text)
 }
 
@@ -76,7 +82,7 @@ fn with_left(
 {
     let quantity = quantity_of(orders, placed.line.index);
     let text = left_words(alloc, placed.line.left, quantity)?;
-    let at = beside(placed, 472, 8);
+    let at = beside(placed, LEFT_WORDS_END, FOOT_BELOW);
     with_label(alloc, made, b"tick", at, Anchor::End, &text)
 }
 
@@ -85,8 +91,8 @@ fn bar_of(alloc: Global, side: Side, placed: &PlacedLine) -> Result<Markup, NoMe
     ensures { IfOk result (λ made. made ≡ spec.bar_shapes side placed.now) }
 {
     let whole = placed.right;
-    let shapes = with_bar(alloc, Markup::new(alloc), bar_class(side), placed, whole)?;
-    with_bar(alloc, shapes, filled_class(side), placed, placed.filled)
+    let shapes = with_line_bar(alloc, Markup::new(alloc), bar_class(side), placed, whole)?;
+    with_line_bar(alloc, shapes, filled_class(side), placed, placed.filled)
 }
 
 /// With a line behind it.

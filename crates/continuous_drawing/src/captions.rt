@@ -2,35 +2,47 @@
 ghost use Rattle.std.specs.Prelude.{◌≡◌, ◌++◌, IfOk};
 ghost use Rattle.continuous_drawing.specs.Captions as spec;
 
+use crate::trades::DOT_RADIUS;
 use audit_base::faults::NoMemory;
-use audit_base::terms::Side;
 use page_markup::markup::Markup;
+use page_plots::measures::LEGEND_FOOT;
 use page_plots::shapes::{Anchor, Point, with_circle, with_label};
-use page_plots::sides::with_legend_entry;
+use page_plots::sides::with_sides_legend;
 use std::alloc::Global;
+
+/// Where the colour of asks begins in the legend, behind the words of bids.
+const ASKS_LEGEND: u32 = 154;
+
+/// The centre of the dot of trades in the legend, behind the words of asks.
+const DOT_LEGEND: Point = Point { x: 247, y: 336 };
+
+/// Where the word of that dot begins.
+const TRADE_WORD: u32 = 256;
 
 /// With what a dot is behind it, below the plot.
 fn with_trade_entry(alloc: Global, made: Markup) -> Result<Markup, NoMemory>
     ensures { IfOk result (λ more. more ≡ made ++ spec.trade_entry) }
 {
-    let made = with_circle(alloc, made, b"trade", Point { x: 247, y: 336 }, 3)?;
-    let at = Point { x: 256, y: 340 };
+    let made = with_circle(alloc, made, b"trade", DOT_LEGEND, DOT_RADIUS)?;
+    let at = Point {
+        x: TRADE_WORD,
+        y: LEGEND_FOOT,
+    };
     with_label(alloc, made, b"tick", at, Anchor::Start, b"trade")
 }
 
 /// With what the two colours and the dots are behind it, below the plot.
-pub(crate) fn with_legend(alloc: Global, made: Markup) -> Result<Markup, NoMemory>
-    ensures { IfOk result (λ more. more ≡ made ++ spec.legend) }
+pub(crate) fn with_trading_legend(alloc: Global, made: Markup) -> Result<Markup, NoMemory>
+    ensures { IfOk result (λ more. more ≡ made ++ spec.trading_legend) }
 {
-    let made = with_legend_entry(alloc, made, Side::Buy, 68, b"best bid")?;
-    let made = with_legend_entry(alloc, made, Side::Sell, 154, b"best ask")?;
+    let made = with_sides_legend(alloc, made, b"best bid", ASKS_LEGEND, b"best ask")?;
     with_trade_entry(alloc, made)
 }
 
 /// What the picture of the best limits shows.
-#[tactic(auto, unfolding(crate::specs::Captions::picture_words))]
-pub(crate) fn picture_words() -> &'static [u8]
-    ensures { result.now ≡ spec.picture_words }
+#[tactic(auto, unfolding(crate::specs::Captions::quotes_words))]
+pub(crate) fn quotes_words() -> &'static [u8]
+    ensures { result.now ≡ spec.quotes_words }
 {
     b"The best bid and, above it, the best ask after each record; of many records together the \
       least and the greatest. A dot is a trade, at the record that caused it; of more than 1,000 \

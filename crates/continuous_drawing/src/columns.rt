@@ -16,6 +16,12 @@ use page_plots::plots::Plot;
 use page_plots::shapes::{Point, with_group, with_rectangle};
 use std::alloc::Global;
 
+/// How high a range of one price is, so that it is seen.
+const LEAST_HEIGHT: u32 = 2;
+
+/// How wide a column is at least, so that it is seen.
+const LEAST_WIDTH: u32 = 1;
+
 /// The title of a range.
 fn range_title(
     alloc: Global,
@@ -55,7 +61,7 @@ fn width_of(plot: Plot, column: &PlaceColumn) -> u32
 {
     let left = u32::from(plot.x(u128::from(column.first)));
     let right = u32::from(plot.x(u128::from(column.next)));
-    right.saturating_sub(left).max(1)
+    right.saturating_sub(left).max(LEAST_WIDTH)
 }
 
 /// How high a range is: down to the least price, and never so low that it is not seen.
@@ -65,7 +71,7 @@ fn height_of(plot: Plot, range: &LimitRange) -> u32
 {
     let top = u32::from(plot.y(range.high.units()));
     let bottom = u32::from(plot.y(range.low.units()));
-    bottom.saturating_sub(top) + 2
+    bottom.saturating_sub(top) + LEAST_HEIGHT
 }
 
 /// With the bar of a range behind it.

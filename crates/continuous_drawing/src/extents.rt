@@ -48,8 +48,8 @@ fn lowest_of(number: u64, column: &PlaceColumn) -> u64
 }
 
 /// The greatest price that is drawn; 0 where there is none.
-fn highest_drawn(columns: &[PlaceColumn]) -> u64
-    ensures { result ≡ spec.highest_drawn columns.now }
+fn highest_price(columns: &[PlaceColumn]) -> u64
+    ensures { result ≡ spec.highest_price columns.now }
 {
     let mut highest = 0;
     for column in columns {
@@ -82,11 +82,11 @@ fn first_place(orders: &OrderList<'_>) -> u64
 
 /// The plot of the places from that of the first order to before `end`, and of the prices of these
 /// columns.
-pub fn plot_of(orders: &OrderList<'_>, end: u64, columns: &[PlaceColumn]) -> Plot
-    ensures same { result ≡ spec.plot_of orders.now end columns.now }
+pub fn plot_of_trading(orders: &OrderList<'_>, end: u64, columns: &[PlaceColumn]) -> Plot
+    ensures same { result ≡ spec.plot_of_trading orders.now end columns.now }
     ensures plot { IsPlot result }
 {
-    let highest = highest_drawn(columns);
+    let highest = highest_price(columns);
     let lowest = lowest_below(highest, columns);
     let first = first_place(orders);
     Plot::of(u128::from(first), u128::from(end), lowest, highest)

@@ -6,12 +6,19 @@ ghost use Rattle.continuous_drawing.specs.Marks as spec;
 use crate::book_layouts::{BookLayout, PlacedLine};
 use crate::books::beside;
 use audit_base::faults::NoMemory;
-use audit_base::findings::{OrderLine, Shown};
+use audit_base::findings::OrderLine;
 use audit_base::terms::Side;
 use order_list::lists::OrderList;
 use page_markup::markup::Markup;
-use page_plots::orders::{has_place, order_shown, with_badge};
+use page_plots::marks::MarkedPicture;
+use page_plots::orders::{has_place, with_badge};
 use std::alloc::Global;
+
+/// The centre of a mark from the left of the paper, right of what is left.
+const MARK_X: u32 = 488;
+
+/// How far the centre of a mark lies below the top of its line.
+const MARK_BELOW: u32 = 4;
 
 /// With a mark beside a line behind it.
 fn with_mark(
@@ -20,9 +27,9 @@ fn with_mark(
     number: &[u8],
     placed: &PlacedLine,
 ) -> Result<Markup, NoMemory>
-    ensures { IfOk result (λ more. more ≡ made ++ spec.mark_shapes number.now placed.now) }
+    ensures { IfOk result (λ more. more ≡ made ++ spec.line_mark number.now placed.now) }
 {
-    with_badge(alloc, made, number, beside(placed, 488, 4))
+    with_badge(alloc, made, number, beside(placed, MARK_X, MARK_BELOW))
 }
 
 /// With the mark of an order behind it, where this line is that of the order.
@@ -63,54 +70,22 @@ fn with_mark_at_lines(
     Ok(made)
 }
 
-/// With the mark of an order behind it, where it has a line.
-fn with_order_mark(
-    alloc: Global,
-    made: Markup,
-    orders: &OrderList<'_>,
-    layout: &BookLayout,
-    number: &[u8],
-    shown: &OrderLine,
-) -> Result<Markup, NoMemory>
-    ensures { IfOk result
-        (λ more. more ≡ made ++ spec.order_mark orders.now layout.now number.now shown.now) }
-{
-    match shown.side {
-        Side::Buy => with_mark_at_lines(alloc, made, orders, number, shown, &layout.bids),
-        Side::Sell => with_mark_at_lines(alloc, made, orders, number, shown, &layout.asks),
-    }
-}
+impl MarkedPicture for BookLayout {
+    ghost use Rattle.continuous_drawing.specs.Marks.{book_mark};
 
-/// With the mark of an order behind it, where there is one.
-fn with_mark_if_there(
-    alloc: Global,
-    made: Markup,
-    orders: &OrderList<'_>,
-    layout: &BookLayout,
-    number: &[u8],
-    shown: &Option<OrderLine>,
-) -> Result<Markup, NoMemory>
-    ensures { IfOk result
-        (λ more. more ≡ made ++ spec.mark_if_there orders.now layout.now number.now shown.now) }
-{
-    match shown {
-        Some(line) => with_order_mark(alloc, made, orders, layout, number, line),
-        None => Ok(made),
-    }
-}
+    ghost order_mark = { λ layout orders number line. book_mark orders layout number line };
 
-/// With the mark of what is shown behind it, where it is an order.
-pub fn with_shown_mark(
-    alloc: Global,
-    made: Markup,
-    orders: &OrderList<'_>,
-    layout: &BookLayout,
-    number: &[u8],
-    shown: &Option<Shown>,
-) -> Result<Markup, NoMemory>
-    ensures { IfOk result
-        (λ more. more ≡ made ++ spec.shown_mark orders.now layout.now number.now shown.now) }
-{
-    let line = order_shown(shown);
-    with_mark_if_there(alloc, made, orders, layout, number, &line)
+    fn with_order_mark(
+        &self,
+        alloc: Global,
+        made: Markup,
+        orders: &OrderList<'_>,
+        number: &[u8],
+        line: &OrderLine,
+    ) -> Result<Markup, NoMemory> {
+        match line.side {
+            Side::Buy => with_mark_at_lines(alloc, made, orders, number, line, &self.bids),
+            Side::Sell => with_mark_at_lines(alloc, made, orders, number, line, &self.asks),
+        }
+    }
 }

@@ -7,10 +7,17 @@ use audit_base::faults::NoMemory;
 use audit_base::findings::Property;
 use audit_base::texts::write_number;
 use page_markup::markup::Markup;
-use page_plots::plot_axes::{BOTTOM, TOP};
+use page_plots::measures::TOP;
+use page_plots::plot_lines::with_worded_line;
 use page_plots::plots::Plot;
-use page_plots::shapes::{Anchor, Point, with_label, with_line};
+use page_plots::shapes::{Anchor, Point};
 use std::alloc::Global;
+
+/// The middle of the plot: left of it words begin at an upright line, from it on they end there.
+const MIDDLE: u32 = 268;
+
+/// The foot of the words over the line, right above the plot.
+const WORDS_FOOT: u32 = 40;
 
 /// The place of the record at which a property is broken.
 #[derive(Clone, Copy, Debug, PartialEq, Eq)]
@@ -20,8 +27,8 @@ pub struct OffendingPlace {
 }
 
 /// The place of an offence, if there is one.
-pub(crate) fn offending_place(offence: Option<OffendingPlace>) -> Option<u64>
-    ensures { result ≡ spec.offending_place offence }
+pub(crate) fn place_of_offence(offence: Option<OffendingPlace>) -> Option<u64>
+    ensures { result ≡ spec.place_of_offence offence }
 {
     match offence {
         Some(offence) => Some(offence.place),
@@ -41,35 +48,17 @@ fn words_of(alloc: Global, offence: OffendingPlace) -> Result<Vec<u8>, NoMemory>
 }
 
 /// Which point of its words stands over an upright line, so that they stay within the paper.
-fn anchor_at(x: u32) -> Anchor
-    ensures { result ≡ spec.anchor_at x }
+fn anchor_beside(x: u32) -> Anchor
+    ensures { result ≡ spec.anchor_beside x }
 {
-    if x < 268 { Anchor::Start } else { Anchor::End }
+    if x < MIDDLE {
+        Anchor::Start
+    } else {
+        Anchor::End
+    }
 }
 
-/// With an upright line behind it, from the top of the plot to its bottom.
-fn with_upright(alloc: Global, made: Markup, x: u32) -> Result<Markup, NoMemory>
-    ensures { IfOk result (λ more. more ≡ made ++ spec.upright x) }
-{
-    let (from, to) = (Point { x, y: TOP }, Point { x, y: BOTTOM });
-    with_line(alloc, made, b"mark", from, to)
-}
-
-/// With the words over an upright line behind it.
-fn with_words(
-    alloc: Global,
-    made: Markup,
-    x: u32,
-    offence: OffendingPlace,
-) -> Result<Markup, NoMemory>
-    ensures { IfOk result (λ more. more ≡ made ++ spec.upright_words x offence) }
-{
-    let text = words_of(alloc, offence)?;
-    let at = Point { x, y: 40 };
-    with_label(alloc, made, b"label", at, anchor_at(x), &text)
-}
-
-/// With an upright line and its words behind it.
+/// With an upright line behind it, from the top of the plot to its bottom, and its words.
 fn with_line_and_words(
     alloc: Global,
     made: Markup,
@@ -78,8 +67,10 @@ fn with_line_and_words(
 ) -> Result<Markup, NoMemory>
     ensures { IfOk result (λ more. more ≡ made ++ spec.line_and_words x offence) }
 {
-    let made = with_upright(alloc, made, x)?;
-    with_words(alloc, made, x, offence)
+    let text = words_of(alloc, offence)?;
+    let from = Point { x, y: TOP };
+    let anchor = anchor_beside(x);
+    with_worded_line(alloc, made, b"mark", from, WORDS_FOOT, anchor, &text)
 }
 
 /// How far from the left of the paper a place lies.

@@ -7,14 +7,13 @@ ghost use Rattle.page_plots.specs.Plots.{IsPlot};
 
 use crate::book_layouts::{BookLayout, book_layout_of};
 use crate::books::{book_paper, with_book};
-use crate::captions::{book_words, picture_words, with_legend};
+use crate::captions::{book_words, quotes_words, with_trading_legend};
 use crate::columns::with_all_quotes;
-use crate::extents::plot_of;
-use crate::marks::with_shown_mark;
-use crate::offending::{OffendingPlace, offending_place, with_offending};
+use crate::extents::plot_of_trading;
+use crate::offending::{OffendingPlace, place_of_offence, with_offending};
 use crate::trades::with_trades;
 use audit_base::faults::NoMemory;
-use audit_base::findings::{Finding, Shown};
+use audit_base::findings::Finding;
 use audit_base::orders::Deal;
 use audit_base::terms::Side;
 use continuous_picture::columns::PlaceColumn;
@@ -24,6 +23,7 @@ use page_markup::markup::Markup;
 use page_markup::words::Tag;
 use page_parts::elements::with_text_element;
 use page_plots::figures::with_figure;
+use page_plots::marks::{MarkedOrders, with_marks};
 use page_plots::papers::plot_paper;
 use page_plots::plot_axes::{Axes, with_axes};
 use page_plots::plots::Plot;
@@ -34,31 +34,32 @@ use std::alloc::Global;
 pub struct MarkedTrading {
     /// The offending place, where there is one: the book right before it is drawn.
     pub offence: Option<OffendingPlace>,
-    /// What the finding shows first and second: where it is an order of this book, it is marked.
-    pub first: Option<Shown>,
-    pub second: Option<Shown>,
+    /// The orders that are marked, where they have a line in this book.
+    pub orders: MarkedOrders,
 }
 
 impl MarkedTrading {
     /// What a finding marks, whose cause is the record at a place.
     pub fn by(finding: &Option<Finding>, place: u64) -> MarkedTrading
-        ensures { result ≡ spec.marked_by finding.now place }
+        ensures { result ≡ spec.marked_in_trading finding.now place }
     {
-        match finding {
-            Some(finding) => MarkedTrading {
-                offence: Some(OffendingPlace {
-                    place,
-                    property: finding.property,
-                }),
-                first: finding.first,
-                second: finding.second,
-            },
-            None => MarkedTrading {
-                offence: None,
-                first: None,
-                second: None,
-            },
+        MarkedTrading {
+            offence: offence_at(finding, place),
+            orders: MarkedOrders::by(finding),
         }
+    }
+}
+
+/// The offence of a finding at a place, if there is one.
+fn offence_at(finding: &Option<Finding>, place: u64) -> Option<OffendingPlace>
+    ensures { result ≡ spec.offence_at finding.now place }
+{
+    match finding {
+        Some(finding) => Some(OffendingPlace {
+            place,
+            property: finding.property,
+        }),
+        None => None,
     }
 }
 
@@ -114,7 +115,7 @@ fn picture_shapes(
     let made = with_axes(alloc, Markup::new(alloc), axes, b"record")?;
     let made = with_numbers(alloc, made, plot, orders, deals, columns)?;
     let made = with_offending(alloc, made, plot, offence)?;
-    with_legend(alloc, made)
+    with_trading_legend(alloc, made)
 }
 
 /// The section of a picture of these shapes.
@@ -124,22 +125,7 @@ fn picture_section(alloc: Global, axes: &Axes, shapes: &Markup) -> Result<Markup
     let paper = plot_paper(alloc, axes)?;
     let made = Markup::new(alloc);
     let heading = b"Best bid and best ask by record";
-    with_worded_figure(alloc, made, heading, &paper, shapes, picture_words())
-}
-
-/// With the marks of the orders of the evidence behind it.
-fn with_marks(
-    alloc: Global,
-    made: Markup,
-    orders: &OrderList<'_>,
-    marked: &MarkedTrading,
-    layout: &BookLayout,
-) -> Result<Markup, NoMemory>
-    ensures { IfOk result
-        (λ more. more ≡ made ++ spec.book_marks orders.now marked.now layout.now) }
-{
-    let made = with_shown_mark(alloc, made, orders, layout, b"1", &marked.first)?;
-    with_shown_mark(alloc, made, orders, layout, b"2", &marked.second)
+    with_worded_figure(alloc, made, heading, &paper, shapes, quotes_words())
 }
 
 /// The shapes of the picture of a book.
@@ -153,7 +139,7 @@ fn book_shapes(
 {
     let made = with_book(alloc, Markup::new(alloc), orders, Side::Buy, &layout.bids)?;
     let made = with_book(alloc, made, orders, Side::Sell, &layout.asks)?;
-    with_marks(alloc, made, orders, marked, layout)
+    with_marks(alloc, made, orders, layout, &marked.orders)
 }
 
 /// With the section of the picture of a book behind it.
@@ -237,7 +223,7 @@ fn drawn_picture(
     ensures { IfOk result
         (spec.IsDrawnPicture orders.now deals.now end columns.now offence) }
 {
-    let plot = plot_of(orders, end, columns);
+    let plot = plot_of_trading(orders, end, columns);
     let made = plotted_picture(alloc, plot, orders, deals, columns, offence)?;
     Ok(made)
 }
@@ -275,7 +261,7 @@ pub fn continuous_sections(
     requires fits { end < 2 ^ 33 }
     ensures { IfOk result (spec.AreContinuousSections orders.now deals.now end marked.now) }
 {
-    let place = offending_place(marked.offence);
+    let place = place_of_offence(marked.offence);
     let numbers = continuous_picture(alloc, orders, deals, end, place)?;
     let made = drawn_sections(alloc, orders, deals, end, &numbers, marked)?;
     Ok(made)

@@ -21,6 +21,9 @@ use std::alloc::Global;
 /// The greatest number of trades that are drawn as a mark each.
 pub const MOST_MARKS: usize = 1000;
 
+/// The radius of the dot of a trade.
+pub(crate) const DOT_RADIUS: u32 = 3;
+
 /// The title of a trade.
 fn trade_title(alloc: Global, deal: &Deal) -> Result<Vec<u8>, NoMemory>
     ensures { IfOk result (λ text. text.items ≡ spec.trade_title deal.now) }
@@ -37,7 +40,7 @@ fn trade_title(alloc: Global, deal: &Deal) -> Result<Vec<u8>, NoMemory>
 }
 
 /// The place of the record that caused a trade.
-fn cause_of(orders: &OrderList<'_>, deal: &Deal) -> u32
+pub fn cause_of(orders: &OrderList<'_>, deal: &Deal) -> u32
     requires { NamesOrders orders.now deal.now }
     ensures { result ≡ cause orders.now deal.now }
 {
@@ -71,7 +74,7 @@ fn with_trade(
 {
     let title = trade_title(alloc, deal)?;
     let centre = centre_of(plot, orders, deal);
-    let shapes = with_circle(alloc, Markup::new(alloc), b"trade", centre, 3)?;
+    let shapes = with_circle(alloc, Markup::new(alloc), b"trade", centre, DOT_RADIUS)?;
     with_group(alloc, made, &title, &shapes)
 }
 

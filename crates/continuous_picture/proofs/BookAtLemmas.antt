@@ -18,8 +18,8 @@ use Rattle.order_arrivals.specs.DealtOrders.{HaveTraded, IsMarket}
 use Rattle.order_arrivals.specs.Resting.{rests_with}
 use Rattle.order_book.specs.Books.{IsAheadInBook, best_resting, has_index_and_limit, with_order, without_order}
 use Rattle.order_book.specs.declared.books.Resting.{Resting}
-use Rattle.continuous_picture.specs.BooksAt.{AreLines, IsLine, IsWholeBook}
-use Rattle.continuous_picture.specs.Walks.{HasOrder}
+use Rattle.continuous_picture.specs.BooksAt.{AreLines, IsBookLine, IsWholeBook}
+use Rattle.continuous_picture.specs.Walks.{HasLineOf}
 use Rattle.continuous_picture.proofs.BookLemmas.{ahead-of, with-all, with-has, with-own}
 
 module _ (orders : List Order) (deals : List Deal) where
@@ -52,7 +52,7 @@ module _ (orders : List Order) (deals : List Deal) where
 
   module _ (side : Side) (place : ℕ) where
     abbrev Line : Resting → Type 0
-    Line = IsLine orders deals side place
+    Line = IsBookLine orders deals side place
 
     abbrev Lines : ℕ → List Resting → Type 0
     Lines = AreLines orders deals side place
@@ -88,7 +88,7 @@ module _ (orders : List Order) (deals : List Deal) where
           only = with-all side r Line xs line is.only;
           early = with-all side r (λ s. s.index < suc n) xs (omega arith) (below-more n xs is.early);
           each = λ x lt of t. elim (cases_eq x n) [
-            | inl e ↦ subst (HasOrder (with_order side r xs)) (i ∙ sym e) (with-own side r xs)
+            | inl e ↦ subst (HasLineOf (with_order side r xs)) (i ∙ sym e) (with-own side r xs)
             | inr ne ↦ with-has side r x xs (is.each x (omega (arith, ne)) of t)
           ];
         })

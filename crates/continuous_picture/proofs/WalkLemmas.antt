@@ -19,17 +19,17 @@ use Rattle.order_book.specs.Books.{BookSide, IsAheadInBook, best_resting, with_o
 use Rattle.order_book.specs.declared.books.Resting.{Resting}
 use Rattle.continuous_picture.specs.declared.active.Known.{Known}
 use Rattle.continuous_picture.specs.declared.walks.Walk.{Walk}
-use Rattle.continuous_picture.specs.Active.{IsKnown, deals_of, is_active_in_book, orders_of}
+use Rattle.continuous_picture.specs.Active.{IsKnownAt, known_deals, is_active_in_book, known_orders}
 use Rattle.continuous_picture.specs.Quotes.{best_limit}
-use Rattle.continuous_picture.specs.Walks.{AreCome, HasNext, HasOrder, IsBookOf, IsInBook, IsWalk, from_first, is_next_at}
+use Rattle.continuous_picture.specs.Walks.{AreCome, HasNext, HasLineOf, IsBookOnWalk, IsInWalkBook, IsWalk, from_passing, is_next_at}
 use Rattle.continuous_picture.proofs.ActiveLemmas.{active-come, active-earlier, active-is}
 use Rattle.continuous_picture.proofs.BookLemmas.{Tells, best-limit, book-first, with-all, with-has, with-own}
 
 -- An empty walk.
 
-book-none : (orders : List Order) (deals : List Deal) (side : Side) (place : ℕ) (xs : List Resting) → xs ≡ [] → IsBookOf orders deals side 0 place xs
-book-none orders deals side place xs e = subst (IsBookOf orders deals side 0 place) (sym e) (record {
-  only = All-nil (IsInBook orders side 0);
+book-none : (orders : List Order) (deals : List Deal) (side : Side) (place : ℕ) (xs : List Resting) → xs ≡ [] → IsBookOnWalk orders deals side 0 place xs
+book-none orders deals side place xs e = subst (IsBookOnWalk orders deals side 0 place) (sym e) (record {
+  only = All-nil (IsInWalkBook orders side 0);
   each = λ x lt of t. absurd (omega arith);
 })
 
@@ -50,17 +50,17 @@ walk-first m is w next bids asks traded =
       traded = subst (λ (n : ℕ). HaveTraded m n w.totals.added w.totals.traded.items) (sym next) traded;
       bid_side = ap (λ (b : BookSide). b.side) bids;
       ask_side = ap (λ (b : BookSide). b.side) asks;
-      bids = subst (λ (n : ℕ). IsBookOf orders m.deals.now Buy n p w.bids.resting) (sym next) (book-none orders m.deals.now Buy p w.bids.resting (ap (λ (b : BookSide). b.resting) bids));
-      asks = subst (λ (n : ℕ). IsBookOf orders m.deals.now Sell n p w.asks.resting) (sym next) (book-none orders m.deals.now Sell p w.asks.resting (ap (λ (b : BookSide). b.resting) asks));
+      bids = subst (λ (n : ℕ). IsBookOnWalk orders m.deals.now Buy n p w.bids.resting) (sym next) (book-none orders m.deals.now Buy p w.bids.resting (ap (λ (b : BookSide). b.resting) bids));
+      asks = subst (λ (n : ℕ). IsBookOnWalk orders m.deals.now Sell n p w.asks.resting) (sym next) (book-none orders m.deals.now Sell p w.asks.resting (ap (λ (b : BookSide). b.resting) asks));
     }
 
 -- One order more.
 
 module _ (orders : List Order) (deals : List Deal) (n place : ℕ) where
-  longer : (side : Side) (xs : List Resting) → All (IsInBook orders side n) xs → All (IsInBook orders side (suc n)) xs
-  longer side xs = All-weaker (IsInBook orders side n) (IsInBook orders side (suc n)) (λ r is. record { inside = let i = is.inside in omega arith; of_side = is.of_side; limit = is.limit }) xs
+  longer : (side : Side) (xs : List Resting) → All (IsInWalkBook orders side n) xs → All (IsInWalkBook orders side (suc n)) xs
+  longer side xs = All-weaker (IsInWalkBook orders side n) (IsInWalkBook orders side (suc n)) (λ r is. record { inside = let i = is.inside in omega arith; of_side = is.of_side; limit = is.limit }) xs
 
-  skipped : (side : Side) (xs : List Resting) → side_at orders n ≢ side → IsBookOf orders deals side n place xs → IsBookOf orders deals side (suc n) place xs
+  skipped : (side : Side) (xs : List Resting) → side_at orders n ≢ side → IsBookOnWalk orders deals side n place xs → IsBookOnWalk orders deals side (suc n) place xs
   skipped side xs other is = record {
     only = longer side xs is.only;
     each = λ x lt of t. elim (cases_eq x n) [
@@ -69,17 +69,17 @@ module _ (orders : List Order) (deals : List Deal) (n place : ℕ) where
     ];
   }
 
-  added : (side : Side) (xs : List Resting) (r : Resting) → r.index ≡ n → r.limit ≡ limit_at orders n → side_at orders n ≡ side → IsBookOf orders deals side n place xs → IsBookOf orders deals side (suc n) place (with_order side r xs)
+  added : (side : Side) (xs : List Resting) (r : Resting) → r.index ≡ n → r.limit ≡ limit_at orders n → side_at orders n ≡ side → IsBookOnWalk orders deals side n place xs → IsBookOnWalk orders deals side (suc n) place (with_order side r xs)
   added side xs r i l of is = record {
-    only = with-all side r (IsInBook orders side (suc n)) xs (record { inside = omega arith; of_side = ap (side_at orders) i ∙ of; limit = l ∙ ap (limit_at orders) (sym i) }) (longer side xs is.only);
+    only = with-all side r (IsInWalkBook orders side (suc n)) xs (record { inside = omega arith; of_side = ap (side_at orders) i ∙ of; limit = l ∙ ap (limit_at orders) (sym i) }) (longer side xs is.only);
     each = λ x lt of' t. elim (cases_eq x n) [
-      | inl e ↦ subst (HasOrder (with_order side r xs)) (i ∙ sym e) (with-own side r xs)
+      | inl e ↦ subst (HasLineOf (with_order side r xs)) (i ∙ sym e) (with-own side r xs)
       | inr ne ↦ with-has side r x xs (is.each x (omega (arith, ne)) of' t)
     ];
   }
 
-pub book-below : (orders : List Order) (deals : List Deal) (side : Side) (count place : ℕ) (xs : List Resting) → IsBookOf orders deals side count place xs → All (λ r. r.index < count) xs
-book-below orders deals side count place xs is = All-weaker (IsInBook orders side count) (λ r. r.index < count) (λ r own. own.inside) xs is.only
+pub book-below : (orders : List Order) (deals : List Deal) (side : Side) (count place : ℕ) (xs : List Resting) → IsBookOnWalk orders deals side count place xs → All (λ r. r.index < count) xs
+book-below orders deals side count place xs is = All-weaker (IsInWalkBook orders side count) (λ r. r.index < count) (λ r own. own.inside) xs is.only
 
 module _ (m : DealtOrders) (place : ℕ) (old new : Walk) (is : IsWalk m place place old) (next : new.next ≡ old.next) (totals : new.totals ≡ old.totals) (r : Resting) (index : r.index ≡ old.next) (limit : r.limit ≡ limit_at m.orders.now old.next) where
   abbrev orders : List Order
@@ -94,8 +94,8 @@ module _ (m : DealtOrders) (place : ℕ) (old new : Walk) (is : IsWalk m place p
     totals = totals;
     bid_side = ap (λ (b : BookSide). b.side) bids ∙ is.bid_side;
     ask_side = ap (λ (b : BookSide). b.side) asks ∙ is.ask_side;
-    bids = subst (IsBookOf orders deals Buy (suc old.next) place) (sym (ap (λ (b : BookSide). b.resting) bids ∙ ap (λ (s : Side). with_order s r old.bids.resting) is.bid_side)) (added orders deals old.next place Buy old.bids.resting r index limit buys is.bids);
-    asks = subst (IsBookOf orders deals Sell (suc old.next) place) (sym (ap (λ (b : BookSide). b.resting) asks)) (skipped orders deals old.next place Sell old.asks.resting (λ e. not_both_sides (sym buys ∙ e)) is.asks);
+    bids = subst (IsBookOnWalk orders deals Buy (suc old.next) place) (sym (ap (λ (b : BookSide). b.resting) bids ∙ ap (λ (s : Side). with_order s r old.bids.resting) is.bid_side)) (added orders deals old.next place Buy old.bids.resting r index limit buys is.bids);
+    asks = subst (IsBookOnWalk orders deals Sell (suc old.next) place) (sym (ap (λ (b : BookSide). b.resting) asks)) (skipped orders deals old.next place Sell old.asks.resting (λ e. not_both_sides (sym buys ∙ e)) is.asks);
   }
 
   pub next-ask : side_at orders old.next ≡ Sell → new.asks ≡ record old.asks { resting = with_order old.asks.side r old.asks.resting } → new.bids ≡ old.bids → HasNext m place old new
@@ -104,8 +104,8 @@ module _ (m : DealtOrders) (place : ℕ) (old new : Walk) (is : IsWalk m place p
     totals = totals;
     bid_side = ap (λ (b : BookSide). b.side) bids ∙ is.bid_side;
     ask_side = ap (λ (b : BookSide). b.side) asks ∙ is.ask_side;
-    bids = subst (IsBookOf orders deals Buy (suc old.next) place) (sym (ap (λ (b : BookSide). b.resting) bids)) (skipped orders deals old.next place Buy old.bids.resting (λ e. not_both_sides (sym e ∙ sells)) is.bids);
-    asks = subst (IsBookOf orders deals Sell (suc old.next) place) (sym (ap (λ (b : BookSide). b.resting) asks ∙ ap (λ (s : Side). with_order s r old.asks.resting) is.ask_side)) (added orders deals old.next place Sell old.asks.resting r index limit sells is.asks);
+    bids = subst (IsBookOnWalk orders deals Buy (suc old.next) place) (sym (ap (λ (b : BookSide). b.resting) bids)) (skipped orders deals old.next place Buy old.bids.resting (λ e. not_both_sides (sym e ∙ sells)) is.bids);
+    asks = subst (IsBookOnWalk orders deals Sell (suc old.next) place) (sym (ap (λ (b : BookSide). b.resting) asks ∙ ap (λ (s : Side). with_order s r old.asks.resting) is.ask_side)) (added orders deals old.next place Sell old.asks.resting r index limit sells is.asks);
   }
 
 -- The order of a record is taken, or no order of the list has this record.
@@ -131,8 +131,8 @@ module _ (m : DealtOrders) (market : IsMarket m) (place : ℕ) where
     traded = subst (λ (n : ℕ). HaveTraded m n new.totals.added new.totals.traded.items) (sym next) traded;
     bid_side = ap (λ (b : BookSide). b.side) bids ∙ has.bid_side;
     ask_side = ap (λ (b : BookSide). b.side) asks ∙ has.ask_side;
-    bids = let e = ap (λ (b : BookSide). b.resting) bids in subst (λ (n : ℕ). IsBookOf orders' deals' Buy n place new.bids.resting) (sym next) (subst (IsBookOf orders' deals' Buy (suc old.next) place) (sym e) has.bids);
-    asks = let e = ap (λ (b : BookSide). b.resting) asks in subst (λ (n : ℕ). IsBookOf orders' deals' Sell n place new.asks.resting) (sym next) (subst (IsBookOf orders' deals' Sell (suc old.next) place) (sym e) has.asks);
+    bids = let e = ap (λ (b : BookSide). b.resting) bids in subst (λ (n : ℕ). IsBookOnWalk orders' deals' Buy n place new.bids.resting) (sym next) (subst (IsBookOnWalk orders' deals' Buy (suc old.next) place) (sym e) has.bids);
+    asks = let e = ap (λ (b : BookSide). b.resting) asks in subst (λ (n : ℕ). IsBookOnWalk orders' deals' Sell n place new.asks.resting) (sym next) (subst (IsBookOnWalk orders' deals' Sell (suc old.next) place) (sym e) has.asks);
   }
 
   later-place : (next : ℕ) → is_next_at orders' next place ≡ false → AreCome orders' next place → (x : ℕ) → next ≤ x → x < length orders' → suc place ≤ place_at orders' x
@@ -163,7 +163,7 @@ module _ (m : DealtOrders) (market : IsMarket m) (place : ℕ) where
     asks = is.asks;
   }
 
-  book-later : (side : Side) (next : ℕ) (xs : List Resting) → AreCome orders' next (suc place) → IsBookOf orders' deals' side next place xs → IsBookOf orders' deals' side next (suc place) xs
+  book-later : (side : Side) (next : ℕ) (xs : List Resting) → AreCome orders' next (suc place) → IsBookOnWalk orders' deals' side next place xs → IsBookOnWalk orders' deals' side next (suc place) xs
   book-later side next xs are is = record {
     only = is.only;
     each = λ x lt of t. is.each x lt of (active-earlier orders' deals' place x (let up = are.come x lt in omega arith) t);
@@ -191,27 +191,27 @@ module _ (m : DealtOrders) (market : IsMarket m) (place : ℕ) where
     | inr le ↦ let far = is.come.coming x le lt in let near = active-come orders' deals' place x t in absurd (omega arith)
   ]
 
-  pub book-inside : (side : Side) (next : ℕ) (xs : List Resting) → AreCome orders' next (suc place) → IsBookOf orders' deals' side next place xs → All (λ r. r.index < length orders') xs
-  book-inside side next xs are is = All-weaker (IsInBook orders' side next) (λ r. r.index < length orders') (λ r own. let i = own.inside in let le = are.inside in omega arith) xs is.only
+  pub book-inside : (side : Side) (next : ℕ) (xs : List Resting) → AreCome orders' next (suc place) → IsBookOnWalk orders' deals' side next place xs → All (λ r. r.index < length orders') xs
+  book-inside side next xs are is = All-weaker (IsInWalkBook orders' side next) (λ r. r.index < length orders') (λ r own. let i = own.inside in let le = are.inside in omega arith) xs is.only
 
   -- The best limits, and the books without those in front that are not active.
 
   module _ (w : Walk) (is : IsWalk m (suc place) place w) (t : Resting → Bool) (tells : Tells orders' deals' w.next place t) where
-    pub best-read : (side : Side) (old new : BookSide) → new ≡ record old { resting = from_first t old.resting } → AllPairs (IsAheadInBook new.side) new.resting → old.side ≡ side → IsBookOf orders' deals' side w.next place old.resting
-        → (option_map (λ (r : Resting). r.limit) (best_resting new.resting) ≡ best_limit orders' deals' side place) × (new.side ≡ side) × IsBookOf orders' deals' side w.next place new.resting
+    pub best-read : (side : Side) (old new : BookSide) → new ≡ record old { resting = from_passing t old.resting } → AllPairs (IsAheadInBook new.side) new.resting → old.side ≡ side → IsBookOnWalk orders' deals' side w.next place old.resting
+        → (option_map (λ (r : Resting). r.limit) (best_resting new.resting) ≡ best_limit orders' deals' side place) × (new.side ≡ side) × IsBookOnWalk orders' deals' side w.next place new.resting
     best-read side old new made ranked old_side held =
         let side_is : new.side ≡ side = ap (λ (b : BookSide). b.side) made ∙ old_side in
-        let list_is : new.resting ≡ from_first t old.resting = ap (λ (b : BookSide). b.resting) made in
-        let in_order : AllPairs (IsAheadInBook side) (from_first t old.resting) = subst (AllPairs (IsAheadInBook side)) list_is (subst (λ (s : Side). AllPairs (IsAheadInBook s) new.resting) side_is ranked) in
+        let list_is : new.resting ≡ from_passing t old.resting = ap (λ (b : BookSide). b.resting) made in
+        let in_order : AllPairs (IsAheadInBook side) (from_passing t old.resting) = subst (AllPairs (IsAheadInBook side)) list_is (subst (λ (s : Side). AllPairs (IsAheadInBook s) new.resting) side_is ranked) in
         let limit = best-limit orders' market.order_list deals' side w.next place is.come.inside (come-below w is) t tells old.resting held in_order in (
           ap (λ (xs : List Resting). option_map (λ (r : Resting). r.limit) (best_resting xs)) list_is ∙ limit,
           side_is,
-          subst (IsBookOf orders' deals' side w.next place) (sym list_is) (book-first orders' market.order_list deals' side w.next place is.come.inside (come-below w is) t tells old.resting held),
+          subst (IsBookOnWalk orders' deals' side w.next place) (sym list_is) (book-first orders' market.order_list deals' side w.next place is.come.inside (come-below w is) t tells old.resting held),
         )
 
 -- what is known tells of the orders that have come whether they are active
-pub known-tells : (k : Known) (next : ℕ) → AreCome (orders_of k) next (suc k.place) → Tells (orders_of k) (deals_of k) next k.place (is_active_in_book k)
-known-tells k next are r lt = active-is (orders_of k) (deals_of k) k.place r.index _ _ (let up = are.come r.index lt in omega arith) refl refl
+pub known-tells : (k : Known) (next : ℕ) → AreCome (known_orders k) next (suc k.place) → Tells (known_orders k) (known_deals k) next k.place (is_active_in_book k)
+known-tells k next are r lt = active-is (known_orders k) (known_deals k) k.place r.index _ _ (let up = are.come r.index lt in omega arith) refl refl
 
 -- the next order is that of the record
 pub next-at : (orders : List Order) (next place : ℕ) → is_next_at orders next place ≡ true → (next < length orders) × (place_at orders next ≡ place)
@@ -221,10 +221,10 @@ next-at orders next place t = elim (cases_Bool (nat_lt next (length orders))) [
 ]
 
 -- what is known after the record at a place, in the words of the code
-pub known-now : (k : Known) → IsMarket k.market.now → k.place < 2 ^ 33 → AreSizesOf (orders_of k) (deals_of k) k.sizes.now → (w : Walk) → IsWalk k.market.now (suc k.place) k.place w → k.traded.now ≡ w.totals.traded.items → IsKnown k
+pub known-now : (k : Known) → IsMarket k.market.now → k.place < 2 ^ 33 → AreSizesOf (known_orders k) (known_deals k) k.sizes.now → (w : Walk) → IsWalk k.market.now (suc k.place) k.place w → k.traded.now ≡ w.totals.traded.items → IsKnownAt k
 known-now k market fits sizes w is same = record {
   market = market;
   fits = fits;
   sizes = sizes;
-  traded = subst (AreTradedBefore (orders_of k) (deals_of k) (suc k.place)) (sym same) (walk-traded k.market.now market k.place w is);
+  traded = subst (AreTradedBefore (known_orders k) (known_deals k) (suc k.place)) (sym same) (walk-traded k.market.now market k.place w is);
 }

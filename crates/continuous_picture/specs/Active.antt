@@ -21,24 +21,24 @@ active_with order place size traded =
     may_be_active order place && has_left_with order (suc place) size traded
 
 -- the orders and the deals
-abbrev pub orders_of : Known → List Order
-orders_of k = k.market.now.orders.now
+abbrev pub known_orders : Known → List Order
+known_orders k = k.market.now.orders.now
 
-abbrev pub deals_of : Known → List Deal
-deals_of k = k.market.now.deals.now
+abbrev pub known_deals : Known → List Deal
+known_deals k = k.market.now.deals.now
 
 -- what each order has traded up to a place, and its Size
-pub record IsKnown (k : Known) : Type 0 where
+pub record IsKnownAt (k : Known) : Type 0 where
   pub market : IsMarket k.market.now
   pub fits : k.place < 2 ^ 33
-  pub sizes : AreSizesOf (orders_of k) (deals_of k) k.sizes.now
-  pub traded : AreTradedBefore (orders_of k) (deals_of k) (suc k.place) k.traded.now
+  pub sizes : AreSizesOf (known_orders k) (known_deals k) k.sizes.now
+  pub traded : AreTradedBefore (known_orders k) (known_deals k) (suc k.place) k.traded.now
 
 -- an order is active, by what is known of it
 abbrev pub is_known_active : Known → ℕ → Bool
-is_known_active k order = active_with (order_at (orders_of k) order) k.place
-    (size_of_order (orders_of k) (deals_of k) order)
-    (traded_before (orders_of k) (deals_of k) (suc k.place) order)
+is_known_active k order = active_with (order_at (known_orders k) order) k.place
+    (size_of_order (known_orders k) (known_deals k) order)
+    (traded_before (known_orders k) (known_deals k) (suc k.place) order)
 
 -- the same of an order in a book
 abbrev pub is_active_in_book : Known → Resting → Bool

@@ -11,10 +11,10 @@ use Rattle.continuous_picture.specs.Sizes.{AreSizesOf}
 use Rattle.continuous_picture.specs.declared.books_at.Before.{Before}
 use Rattle.order_arrivals.specs.DealtOrders.{IsMarket}
 use Rattle.order_book.specs.declared.books.Resting.{Resting}
-use Rattle.continuous_picture.specs.Walks.{HasOrder}
+use Rattle.continuous_picture.specs.Walks.{HasLineOf}
 
 -- an order of a side that rests right before the record at a place, with its limit and what is left
-pub record IsLine (orders : List Order) (deals : List Deal) (side : Side) (place : ℕ)
+pub record IsBookLine (orders : List Order) (deals : List Deal) (side : Side) (place : ℕ)
     (r : Resting) : Type 0 where
   pub inside : r.index < length orders
   pub of_side : side_at orders r.index ≡ side
@@ -25,10 +25,10 @@ pub record IsLine (orders : List Order) (deals : List Deal) (side : Side) (place
 -- the orders of the first ones that rest there, in no order
 pub record AreLines (orders : List Order) (deals : List Deal) (side : Side) (place count : ℕ)
     (lines : List Resting) : Type 0 where
-  pub only : All (IsLine orders deals side place) lines
+  pub only : All (IsBookLine orders deals side place) lines
   pub early : All (λ r. r.index < count) lines
   pub each : (order : ℕ) → order < count → side_at orders order ≡ side
-      → IsTrue (rests_before orders deals place order) → HasOrder lines order
+      → IsTrue (rests_before orders deals place order) → HasLineOf lines order
 
 -- the whole book of a side: each order that rests there, best first
 pub record IsWholeBook (orders : List Order) (deals : List Deal) (side : Side) (place : ℕ)

@@ -34,8 +34,8 @@ fn is_active_with(order: &ListedOrder<'_>, place: u64, size: u64, traded: u128) 
 impl Known<'_, '_, '_> {
     /// Whether an order is active, if it has come.
     pub(crate) fn is_active(&self, order: usize) -> bool
-        requires known { spec.IsKnown self.now }
-        requires order { order < length (spec.orders_of self.now) }
+        requires known { spec.IsKnownAt self.now }
+        requires order { order < length (spec.known_orders self.now) }
         ensures { result ≡ spec.is_known_active self.now order }
     {
         let (size, traded) = (self.sizes[order], self.traded[order]);

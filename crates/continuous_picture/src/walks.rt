@@ -1,10 +1,10 @@
 //! A walk over the places, which takes each order at its own place.
 ghost use Rattle.std.specs.Prelude.{◌≡◌, ◌<◌, ◌^◌, suc, All, AllPairs, IfOk, OnOk, length, option_map};
 ghost use Rattle.audit_base.specs.Orders.{place_at};
-ghost use Rattle.continuous_picture.specs.Active.{IsKnown, is_active_in_book, orders_of};
+ghost use Rattle.continuous_picture.specs.Active.{IsKnownAt, is_active_in_book, known_orders};
 ghost use Rattle.continuous_picture.specs.Quotes.{IsQuoteAt};
 ghost use Rattle.continuous_picture.specs.Sizes.{AreSizesOf};
-ghost use Rattle.continuous_picture.specs.Walks.{HasNext, IsWalk, from_first, is_next_at};
+ghost use Rattle.continuous_picture.specs.Walks.{HasNext, IsWalk, from_passing, is_next_at};
 ghost use Rattle.order_arrivals.specs.DealtOrders.{IsMarket};
 ghost use Rattle.order_book.specs.Books.{IsAheadInBook, best_resting};
 
@@ -32,10 +32,10 @@ pub(crate) struct Walk {
 /// Takes the orders out of the front of a book that are not active, and gives the limit of the best
 /// that is.
 fn first_active(known: &Known<'_, '_, '_>, book: &mut Book) -> Option<Price>
-    requires known { IsKnown known.now }
-    requires inside { All (λ r. r.index < length (orders_of known.now)) book.old.resting }
+    requires known { IsKnownAt known.now }
+    requires inside { All (λ r. r.index < length (known_orders known.now)) book.old.resting }
     ensures list { book.new ≡ record book.old {
-      resting = from_first (is_active_in_book known.now) book.old.resting;
+      resting = from_passing (is_active_in_book known.now) book.old.resting;
     } }
     ensures best { result ≡ option_map (λ r. r.limit) (best_resting book.new.resting) }
     ensures ranked { AllPairs (IsAheadInBook book.new.side) book.new.resting }

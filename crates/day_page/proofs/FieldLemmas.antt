@@ -5,7 +5,7 @@ use Rattle.std.specs.List.{All, after_first, before_first, join_with_byte, list_
 use Rattle.std.proofs.lemmas.Bool.{and_parts, eqb-true, leb-true}
 use Rattle.std.proofs.lemmas.List.Elements.{All-head, All-tail}
 use Rattle.audit_base.specs.Names.{is_comma, is_name_byte}
-use Rattle.day_page.specs.DayLines.{behind_commas, field_at, is_line_end}
+use Rattle.day_page.specs.DayLines.{behind_commas, field_at, is_newline}
 use Rattle.day_page.proofs.CutLemmas.{no-commas}
 
 -- Names and numbers have neither a comma nor an LF.
@@ -21,7 +21,7 @@ other-byte byte other apart = by_test (byte == other) refl
     by_test true e = absurd (apart (eqb-true byte other e))
     by_test false e = refl
 
-pub no-end : (byte : ℕ) → is_name_byte byte ≡ true → is_line_end byte ≡ false
+pub no-end : (byte : ℕ) → is_name_byte byte ≡ true → is_newline byte ≡ false
 no-end byte h =
     let unquoted = and_parts (nat_le 32 byte && nat_le byte 126 && not (byte == 34)) (not (byte == 44)) h in
     let printed = and_parts (nat_le 32 byte && nat_le byte 126) (not (byte == 34)) unquoted.0 in

@@ -13,8 +13,8 @@ use Rattle.audit_base.proofs.WrittenDigits.{decimal_digits}
 use Rattle.audit_base.specs.Names.{is_name_byte}
 use Rattle.audit_report.specs.DayTexts.{byte_in_line, day_line, symbol_front, symbol_lines, with_line_fronts}
 use Rattle.audit_report.specs.declared.day_line.DayCounts.{DayCounts}
-use Rattle.day_page.specs.DayLines.{behind_commas, field_at, is_line_end, is_word, lines_of}
-use Rattle.day_page.specs.Laws.{AreCounts, IsLines, is_one_line}
+use Rattle.day_page.specs.DayLines.{behind_commas, field_at, is_newline, is_word, text_lines}
+use Rattle.day_page.specs.Laws.{AreCountsOfDay, IsLines, is_one_line}
 use Rattle.day_page.specs.Rows.{row_of_line, rows_of_text}
 use Rattle.day_page.proofs.CutLemmas.{parts-behind}
 use Rattle.day_page.proofs.FieldLemmas.{before-comma, no-end, not-true, other-byte}
@@ -23,8 +23,8 @@ use Rattle.day_page.proofs.RowLemmas.{no-rows}
 -- A text behind lines.
 
 rows-behind : (front more : List ℕ) → rows_of_text (front ++ 10 ∷ more) ≡ rows_of_text front ++ rows_of_text more
-unfolding lines_of
-rows-behind front more = ap (flat_map row_of_line) (parts-behind is_line_end front 10 more refl) ∙ flat_map-append row_of_line (slice_split is_line_end front) (slice_split is_line_end more)
+unfolding text_lines
+rows-behind front more = ap (flat_map row_of_line) (parts-behind is_newline front 10 more refl) ∙ flat_map-append row_of_line (slice_split is_newline front) (slice_split is_newline more)
 
 -- the LF of a last line gives no row of its own
 rows-ended : (front : List ℕ) → rows_of_text (front ++ 10 ∷ []) ≡ rows_of_text front
@@ -60,27 +60,27 @@ rows-of-reports (r ∷ reports) are =
 
 -- Names and numbers have no LF.
 
-one-line : (text : List ℕ) → list_all is_name_byte text ≡ true → list_any is_line_end text ≡ false
+one-line : (text : List ℕ) → list_all is_name_byte text ≡ true → list_any is_newline text ≡ false
 one-line [] h = refl
 one-line (byte ∷ text) h =
     let parts = and_parts (is_name_byte byte) (list_all is_name_byte text) h in
     rw (no-end byte parts.0) (one-line text parts.1)
 
-line-behind : (text more : List ℕ) → list_any is_line_end text ≡ false → list_any is_line_end more ≡ false → list_any is_line_end (text ++ more) ≡ false
+line-behind : (text more : List ℕ) → list_any is_newline text ≡ false → list_any is_newline more ≡ false → list_any is_newline (text ++ more) ≡ false
 line-behind [] more a b = b
 line-behind (byte ∷ text) more a b =
-    let parts = or_parts (is_line_end byte) (list_any is_line_end text) a in
+    let parts = or_parts (is_newline byte) (list_any is_newline text) a in
     rw parts.0 (line-behind text more parts.1 b)
 
 -- a text without LF is one line
-one-part : (text : List ℕ) → list_any is_line_end text ≡ false → slice_split is_line_end text ≡ text ∷ []
+one-part : (text : List ℕ) → list_any is_newline text ≡ false → slice_split is_newline text ≡ text ∷ []
 one-part [] e = refl
 one-part (byte ∷ text) e =
-    let parts = or_parts (is_line_end byte) (list_any is_line_end text) e in
-    slice_split-cons_no is_line_end byte text parts.0 ∙ ap (onto_first byte) (one-part text parts.1)
+    let parts = or_parts (is_newline byte) (list_any is_newline text) e in
+    slice_split-cons_no is_newline byte text parts.0 ∙ ap (onto_first byte) (one-part text parts.1)
 
-pub rows-of-line : (line : List ℕ) → list_any is_line_end line ≡ false → rows_of_text line ≡ row_of_line line
-unfolding lines_of
+pub rows-of-line : (line : List ℕ) → list_any is_newline line ≡ false → rows_of_text line ≡ row_of_line line
+unfolding text_lines
 rows-of-line line e = ap (flat_map row_of_line) (one-part line e) ∙ append-nil (row_of_line line)
 
 -- The line of the counts gives no row: its second field is a number.
@@ -102,7 +102,7 @@ no-row-of-number digits more h d = rw (second-field digits more h, no-word digit
 few_digits : (n : ℕ) → n < 2 ^ 64 → n < 10 ^ 64
 few_digits n few = omega (arith, few)
 
-counts-give-none : (counts : DayCounts) (question_text : List ℕ) → AreCounts counts → list_any is_line_end question_text ≡ false → rows_of_text (day_line counts question_text) ≡ []
+counts-give-none : (counts : DayCounts) (question_text : List ℕ) → AreCountsOfDay counts → list_any is_newline question_text ≡ false → rows_of_text (day_line counts question_text) ≡ []
 counts-give-none counts question_text few line =
     let rejected_line = line-behind (decimal counts.rejected) (44 ∷ question_text) (one-line (decimal counts.rejected) (decimal_is_unquoted counts.rejected (few_digits counts.rejected few.rejected))) line in
     let accepted_line = line-behind (decimal counts.accepted) (44 ∷ (decimal counts.rejected ++ 44 ∷ question_text)) (one-line (decimal counts.accepted) (decimal_is_unquoted counts.accepted (few_digits counts.accepted few.accepted))) rejected_line in
@@ -113,9 +113,9 @@ counts-give-none counts question_text few line =
     rows-ended line_is ∙ rows-of-line line_is symbols_line
     ∙ no-row-of-number (decimal counts.symbols) (decimal counts.accepted ++ 44 ∷ (decimal counts.rejected ++ 44 ∷ question_text)) symbols_name (decimal_digits counts.symbols (few_digits counts.symbols few.symbols))
 
-pub have-rows : (counts : DayCounts) (question_text : List ℕ) (reports : List (List ℕ × List ℕ)) → AreCounts counts → IsTrue (is_one_line question_text) → All (λ r. IsLines r.1) reports
+pub have-rows : (counts : DayCounts) (question_text : List ℕ) (reports : List (List ℕ × List ℕ)) → AreCountsOfDay counts → IsTrue (is_one_line question_text) → All (λ r. IsLines r.1) reports
     → rows_of_text (day_line counts question_text ++ flat_map (λ r. symbol_lines r.0 r.1) reports) ≡ flat_map (λ r. rows_of_text (symbol_lines r.0 r.1)) reports
 have-rows counts question_text reports few line are =
     rows-of-more (day_line counts question_text) (flat_map (λ r. symbol_lines r.0 r.1) reports) (inr (join_with_byte 44 (codes "day" ∷ decimal counts.symbols ∷ decimal counts.accepted ∷ decimal counts.rejected ∷ question_text ∷ []), refl))
-    ∙ ap (λ (l : List ℕ). l ++ rows_of_text (flat_map (λ r. symbol_lines r.0 r.1) reports)) (counts-give-none counts question_text few (not-true (list_any is_line_end question_text) line))
+    ∙ ap (λ (l : List ℕ). l ++ rows_of_text (flat_map (λ r. symbol_lines r.0 r.1) reports)) (counts-give-none counts question_text few (not-true (list_any is_newline question_text) line))
     ∙ rows-of-reports reports are

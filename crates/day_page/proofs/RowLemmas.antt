@@ -5,7 +5,7 @@ use Rattle.std.specs.Prelude.{codes, Option, Some}
 use Rattle.page_markup.specs.declared.words.Tag.TheVariants as tag
 use Rattle.page_parts.specs.Elements.{element}
 use Rattle.day_page.specs.PropertyWords.{broken_by_record}
-use Rattle.day_page.specs.DayLines.{behind_line, behind_commas, field_at, first_line, is_line_end, lines_of}
+use Rattle.day_page.specs.DayLines.{behind_line, behind_commas, field_at, first_line, is_newline, text_lines}
 use Rattle.day_page.specs.Rows.{row_of_line, rows_of_text}
 use Rattle.day_page.proofs.CutLemmas.{first-part}
 
@@ -33,13 +33,13 @@ unfolding behind_commas field_at
 no-row = refl
 
 pub no-rows : rows_of_text [] ≡ []
-unfolding lines_of
+unfolding text_lines
 no-rows = ap (λ (l : List ℕ). l ++ []) no-row
 
 -- the rows of a text are that of its first line, and those of what is behind it
 pub first-row : (text : List ℕ) → rows_of_text text ≡ row_of_line (first_line text) ++ rows_of_text (behind_line text)
-unfolding behind_line first_line lines_of
-first-row text = first-part row_of_line is_line_end text no-row
+unfolding behind_line first_line text_lines
+first-row text = first-part row_of_line is_newline text no-row
 
 -- one line more
 pub one-row-more : (text rest left line rows more : List ℕ) → rows ++ rows_of_text rest ≡ rows_of_text text → line ≡ first_line rest → left ≡ behind_line rest → more ≡ rows ++ row_of_line line

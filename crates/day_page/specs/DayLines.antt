@@ -5,19 +5,19 @@ use Rattle.std.specs.List.{after_first, before_first, slice_split}
 use Rattle.audit_base.specs.Names.{is_comma}
 
 -- LF ends a line
-abbrev pub is_line_end : ℕ → Bool
-is_line_end byte = byte == 10
+abbrev pub is_newline : ℕ → Bool
+is_newline byte = byte == 10
 
 -- the lines of a text, which LF parts; behind the last LF is a line with nothing in it
-unfoldable pub lines_of : List ℕ → List (List ℕ)
-lines_of text = slice_split is_line_end text
+unfoldable pub text_lines : List ℕ → List (List ℕ)
+text_lines text = slice_split is_newline text
 
 -- the first of them, and what is behind it
 unfoldable pub first_line : List ℕ → List ℕ
-first_line text = before_first is_line_end text
+first_line text = before_first is_newline text
 
 unfoldable pub behind_line : List ℕ → List ℕ
-behind_line text = after_first is_line_end text
+behind_line text = after_first is_newline text
 
 -- what is behind so many commas of a line; nothing where it has fewer
 unfoldable pub behind_commas : ℕ → List ℕ → List ℕ

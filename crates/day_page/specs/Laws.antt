@@ -5,7 +5,7 @@ use Rattle.audit_base.specs.Names.{is_name_byte}
 use Rattle.audit_report.specs.DayTexts.{day_line, symbol_lines}
 use Rattle.audit_report.specs.declared.day_line.DayCounts.{DayCounts}
 use Rattle.day_page.specs.Addresses.{without_escapes}
-use Rattle.day_page.specs.DayLines.{field_at, is_line_end}
+use Rattle.day_page.specs.DayLines.{field_at, is_newline}
 use Rattle.day_page.specs.FileNames.{file_name, page_address}
 use Rattle.day_page.specs.Rows.{rows_of_text}
 
@@ -27,14 +27,14 @@ FieldsAreParts = (parts : List (List ℕ)) (n : ℕ)
 
 -- a text has no LF
 abbrev pub is_one_line : List ℕ → Bool
-is_one_line text = not (list_any is_line_end text)
+is_one_line text = not (list_any is_newline text)
 
 -- a text is lines, each of which LF ends
 abbrev pub IsLines : List ℕ → Type 0
 IsLines text = (text ≡ []) ⊎ ((front : List ℕ) × (text ≡ front ++ 10 ∷ []))
 
 -- These can be the counts of a day.
-pub record AreCounts (counts : DayCounts) : Type 0 where
+pub record AreCountsOfDay (counts : DayCounts) : Type 0 where
   pub symbols : counts.symbols < 2 ^ 64
   pub accepted : counts.accepted < 2 ^ 64
   pub rejected : counts.rejected < 2 ^ 64
@@ -43,7 +43,7 @@ pub record AreCounts (counts : DayCounts) : Type 0 where
 -- and the lines of each symbol's report, are those of each symbol's lines, one after another
 abbrev pub SymbolsHaveTheirRows : Type 0
 SymbolsHaveTheirRows = (counts : DayCounts) (question_text : List ℕ)
-    (reports : List (List ℕ × List ℕ)) → AreCounts counts → IsTrue (is_one_line question_text)
+    (reports : List (List ℕ × List ℕ)) → AreCountsOfDay counts → IsTrue (is_one_line question_text)
     → All (λ r. IsLines r.1) reports
     → rows_of_text (day_line counts question_text ++ flat_map (λ r. symbol_lines r.0 r.1) reports)
     ≡ flat_map (λ r. rows_of_text (symbol_lines r.0 r.1)) reports

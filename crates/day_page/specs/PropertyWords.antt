@@ -9,16 +9,16 @@ use Rattle.page_parts.specs.Wording.{broken_words}
 use Rattle.day_page.specs.DayLines.{is_word}
 
 -- all properties of the rules
-abbrev pub all_properties : List Property
-all_properties = property.DuplicateId ∷ property.TimeBack ∷ property.UnknownTarget
+abbrev pub named_properties : List Property
+named_properties = property.DuplicateId ∷ property.TimeBack ∷ property.UnknownTarget
     ∷ property.Unpaired ∷ property.DuplicateTrade ∷ property.UnknownOrder ∷ property.Inactive
     ∷ property.Limit ∷ property.UniformPrice ∷ property.BuyQuantity ∷ property.SellQuantity
     ∷ property.BuyPriority ∷ property.SellPriority ∷ property.Volume ∷ property.Spread
     ∷ property.InstantOrder ∷ []
 
 -- the property that has this word
-abbrev pub property_named : List ℕ → Option Property
-property_named word = find (λ one. is_word word (property_word one)) all_properties
+abbrev pub property_of_word : List ℕ → Option Property
+property_of_word word = find (λ one. is_word word (property_word one)) named_properties
 
 -- what a trade does that fails one of the two further checks, by the check's word
 abbrev pub further_words : List ℕ → Option (List ℕ)
@@ -30,7 +30,7 @@ further_words word = first_answer
 
 -- what a record does that breaks the property of this word; nothing where no property has it
 abbrev pub record_words : List ℕ → Option (List ℕ)
-record_words word = option_or (option_map broken_words (property_named word)) (further_words word)
+record_words word = option_or (option_map broken_words (property_of_word word)) (further_words word)
 
 -- the property of this word is that the volume is the greatest: no record breaks that
 abbrev pub is_of_volume : List ℕ → Bool

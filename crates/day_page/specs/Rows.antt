@@ -9,7 +9,7 @@ use Rattle.page_parts.specs.Elements.{element, link, said}
 use Rattle.page_parts.specs.declared.cells.TableColumn.{TableColumn}
 use Rattle.page_parts.specs.declared.cells.TableColumn.TheVariants.{Symbol, Answer, Log, Record, Orders, Trades, Volume}
 use Rattle.page_parts.specs.TableElements.{gaps, words_cell}
-use Rattle.day_page.specs.DayLines.{field_at, is_word, lines_of}
+use Rattle.day_page.specs.DayLines.{field_at, is_word, text_lines}
 use Rattle.day_page.specs.FileNames.{page_address}
 use Rattle.day_page.specs.PropertyWords.{is_of_volume, rejected_words}
 
@@ -75,4 +75,4 @@ row_of_line line = if is_word (field_at 1 line) (codes "totals") then row_of_tot
 
 -- the rows that the lines of a text give, in their order
 abbrev pub rows_of_text : List ℕ → List ℕ
-rows_of_text text = flat_map row_of_line (lines_of text)
+rows_of_text text = flat_map row_of_line (text_lines text)

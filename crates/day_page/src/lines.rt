@@ -13,7 +13,7 @@ pub(crate) fn is_word(field: &[u8], word: &[u8]) -> bool
 
 /// The place of the first LF.
 fn line_end_in(text: &[u8]) -> Option<usize>
-    ensures { result ≡ position spec.is_line_end text.now }
+    ensures { result ≡ position spec.is_newline text.now }
 {
     text.iter().position(|byte| *byte == b'\n')
 }

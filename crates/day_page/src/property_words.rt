@@ -46,8 +46,8 @@ fn find_property<'a>(properties: &'a [Property], word: &[u8]) -> Option<&'a Prop
 }
 
 /// The property that has this word.
-fn property_named(word: &[u8]) -> Option<Property>
-    ensures { result ≡ spec.property_named word.now }
+fn property_of_word(word: &[u8]) -> Option<Property>
+    ensures { result ≡ spec.property_of_word word.now }
 {
     find_property(&PROPERTIES, word).copied()
 }
@@ -55,9 +55,9 @@ fn property_named(word: &[u8]) -> Option<Property>
 /// What a record does that breaks the property of the rules that has this word.
 fn rule_words(word: &[u8]) -> Option<&'static [u8]>
     ensures { option_map (λ words. words.now) result
-        ≡ option_map broken_words (spec.property_named word.now) }
+        ≡ option_map broken_words (spec.property_of_word word.now) }
 {
-    match property_named(word) {
+    match property_of_word(word) {
         Some(property) => Some(broken_words(property)),
         None => None,
     }

@@ -5,7 +5,7 @@ use Rattle.std.specs.List.{list_all}
 use Rattle.std.proofs.lemmas.Bool.{eqb-true}
 use Rattle.std.proofs.lemmas.List.Folds.{list_all-append}
 use Rattle.std.proofs.lemmas.Option.{none-some}
-use Rattle.page_markup.specs.Escapes.{escape_of, escaped, is_plain_byte}
+use Rattle.page_markup.specs.Escapes.{escape_of, escaped, is_byte_of_text}
 
 -- what holds of one text where a test holds, and else of another, holds of what the test picks
 pick : (P : List ℕ → Type 0) (test : Bool) (one other : List ℕ) → (test ≡ true → P one) → (test ≡ false → P other)
@@ -27,15 +27,15 @@ of-each P amp lt gt quote apos other byte =
     pick (P byte) (byte == 39) _ _ (λ e. rw (eqb-true byte 39 e) apos) (λ f.
     other byte a b c d f)))))
 
-escape-plain : (byte : ℕ) → list_all is_plain_byte (escape_of byte) ≡ true
-escape-plain = of-each (λ byte text. list_all is_plain_byte text ≡ true) refl refl refl refl refl
+escape-plain : (byte : ℕ) → list_all is_byte_of_text (escape_of byte) ≡ true
+escape-plain = of-each (λ byte text. list_all is_byte_of_text text ≡ true) refl refl refl refl refl
     (λ byte a b c d f. rw (b, c, d, f) refl)
 
-pub escaped-plain : (text : List ℕ) → list_all is_plain_byte (escaped text) ≡ true
+pub escaped-plain : (text : List ℕ) → list_all is_byte_of_text (escaped text) ≡ true
 escaped-plain [] = refl
 escaped-plain (byte ∷ rest) =
-    list_all-append is_plain_byte (escape_of byte) (escaped rest)
-    ∙ ap (λ (t : Bool). t && list_all is_plain_byte (escaped rest)) (escape-plain byte)
+    list_all-append is_byte_of_text (escape_of byte) (escaped rest)
+    ∙ ap (λ (t : Bool). t && list_all is_byte_of_text (escaped rest)) (escape-plain byte)
     ∙ escaped-plain rest
 
 -- which byte an entity stands for, by what follows its `&`, and what follows it

@@ -18,6 +18,6 @@ abbrev pub escaped : List ℕ → List ℕ
 escaped text = flat_map escape_of text
 
 -- the byte begins no element, ends none, and ends no value of an attribute
-abbrev pub is_plain_byte : ℕ → Bool
-is_plain_byte byte =
+abbrev pub is_byte_of_text : ℕ → Bool
+is_byte_of_text byte =
     not (byte == 60) && not (byte == 62) && not (byte == 34) && not (byte == 39)

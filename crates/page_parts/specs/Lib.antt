@@ -1,12 +1,12 @@
--- What a reader must believe: how elements and pages are written.
+-- What a reader must believe: how elements, sections, cells and tables are written, and the page
+-- round its chief part; what each record is to a finding in words, and the table of what shows it;
+-- the sentences of a page, the words of a command, how to see a verdict again, and the page of a
+-- verdict.
 pub mod Elements
-pub mod Documents
--- What a reader must believe: how elements and cells are written, the words of a page, and the table
--- of what shows a finding.
 pub mod TableElements
+pub mod Documents
 pub mod Wording
 pub mod Evidence
--- What a reader must believe: the sentences of a page, the words of a command, and the page.
 pub mod Sentences
 pub mod ShellWords
 pub mod Repeats

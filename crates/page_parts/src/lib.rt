@@ -1,19 +1,15 @@
-//! What pages share, over `page_markup`: elements with a text in them, sections, and the page round
-//! its chief part with how it looks.
+//! What pages are made of, over `page_markup`, so that no name of a log can write a tag: elements
+//! with a text in them, sections, tables, the page round its chief part, and the page of a verdict.
 //!
-//! What is written is said exactly, but the style: of it, that no byte is written as an entity. How
-//! a page looks is said by no contract.
+//! `elements` has elements and sections, `cells` the cells and headings of tables, and `documents`
+//! the page round its chief part. `wording` says what each record is to a finding, and `evidence`
+//! has the table of what shows one. `sentences` has the answer in words, `shell_words` the words of
+//! a command as they are typed into a shell, `repeats` how to see the verdict again, and
+//! `verdict_pages` the page, to which the picture is handed as the section that has it.
 //!
-//! Tables of a page, over `page_markup`: cells and headings, and the table of what shows a finding,
-//! with what each record is to it in words.
-//!
-//! A verdict as a page: the answer in a sentence, what shows it in a table, the picture of the
-//! rule, and how to see it again. Everything is written over `page_markup`, so that no name of a
-//! log can write a tag.
-//!
-//! `sentences` has the answer in words, `shell_words` the words of a command as they are typed into a
-//! shell, `repeats` how to see the verdict again, and `pages` the page, to which the picture is handed
-//! as the section that has it.
+//! What is written is proved to the letter, but the style: of it, that no byte is written as an
+//! entity. How a page looks is said by no contract. Each part is written once, and copied once into
+//! each element that it stands in.
 #![tactic(auto)]
 
 pub mod cells;

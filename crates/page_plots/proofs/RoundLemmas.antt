@@ -2,7 +2,8 @@
 use Rattle.std.proofs.Common.{◌≡◌, ◌<◌, ◌≤◌, ◌⊎◌, ◌*◌, ◌^◌, ◌∙◌, ℕ, zero, suc, sym, ap, refl, subst, inl, inr, arith}
 use Rattle.std.proofs.lemmas.Bool.{cases_order}
 use Rattle.std.proofs.lemmas.Nat.{mul-le}
-use Rattle.page_plots.specs.Rounds.{IsRound, IsRoundOf, IsLeastRound, IsLeastPower, IsPowerSoFar}
+use Rattle.page_plots.specs.Rounds.{IsRound, IsRoundOf, IsLeastRound}
+use Rattle.page_plots.specs.SoFar.{IsLeastPower, IsPowerSoFar}
 
 -- a power of ten is ten times the one below it, and above 0
 pub power-more : (k : ℕ) → 10 ^ suc k ≡ 10 * 10 ^ k

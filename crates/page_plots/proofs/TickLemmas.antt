@@ -5,7 +5,8 @@ use Rattle.std.proofs.lemmas.Bool.{cases_eq, cases_lt}
 use Rattle.std.proofs.lemmas.Nat.{mul-le, mod_below, div-add-mod'}
 use Rattle.std.proofs.lemmas.List.Elements.{All-nil, All-push, All-weaker, Contains-push, Contains-append_left}
 use Rattle.std.proofs.lemmas.List.Quantifiers.{all_pairs_push}
-use Rattle.page_plots.specs.Ticks.{AreTicks, AreTicksSoFar}
+use Rattle.page_plots.specs.SoFar.{AreTicksSoFar}
+use Rattle.page_plots.specs.Ticks.{AreTicks}
 
 -- a number of steps is less than another where what they reach is
 pub fewer-steps : (step of times : ℕ) → of * step < times * step → of < times

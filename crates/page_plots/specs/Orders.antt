@@ -10,6 +10,7 @@ use Rattle.audit_base.specs.Shows.{with_traded_number}
 use Rattle.audit_report.specs.Lines.{side_word}
 use Rattle.page_plots.specs.declared.shapes.Anchor.TheVariants.{Middle}
 use Rattle.page_plots.specs.declared.shapes.Point.{Point}
+use Rattle.page_plots.specs.Measures.{badge_radius, to_foot}
 use Rattle.page_plots.specs.Shapes.{circle, label}
 
 -- the title of an order: PLACE,SIDE,FIRM,ID,QUANTITY,LIMIT,NUMBER, of which NUMBER is what it
@@ -39,5 +40,5 @@ order_shown (Some (shown.Due line due)) = Some line
 
 -- a badge: a circle with a number in it
 abbrev pub badge : List ℕ → Point → List ℕ
-badge number centre = circle (codes "badge") centre 7
-    ++ label (codes "badgetext") (record { x = centre.x; y = centre.y + 4 }) Middle number
+badge number centre = circle (codes "badge") centre badge_radius
+    ++ label (codes "badgetext") (record { x = centre.x; y = centre.y + to_foot }) Middle number

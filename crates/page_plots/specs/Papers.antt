@@ -5,6 +5,7 @@ use Rattle.audit_base.specs.Numbers.{price_text}
 use Rattle.page_plots.specs.declared.plot_axes.Axes.{Axes}
 use Rattle.page_plots.specs.declared.plot_axes.NumberTick.{NumberTick}
 use Rattle.page_plots.specs.declared.plot_axes.PriceTick.{PriceTick}
+use Rattle.page_plots.specs.Measures.{paper_height}
 
 -- the text of a price has more than eight characters
 abbrev pub is_long : ℕ → Bool
@@ -34,4 +35,4 @@ paper_of left right height = paper_front left right ++ decimal height
 -- where a marked number is long
 abbrev pub plot_paper : Axes → List ℕ
 plot_paper axes = paper_of (list_any is_long_tick axes.prices.items)
-    (list_any is_long_number axes.numbers.items) 346
+    (list_any is_long_number axes.numbers.items) paper_height

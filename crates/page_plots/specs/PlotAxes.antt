@@ -6,26 +6,28 @@ use Rattle.page_plots.specs.declared.plot_axes.Axes.{Axes}
 use Rattle.page_plots.specs.declared.plot_axes.NumberTick.{NumberTick}
 use Rattle.page_plots.specs.declared.plot_axes.PriceTick.{PriceTick}
 use Rattle.page_plots.specs.declared.shapes.Anchor.TheVariants.{Middle, End}
+use Rattle.page_plots.specs.Measures.{legend_foot, lower_end, marks_end, numbers_foot, price_word_foot, prices_end, right_end, to_foot}
+use Rattle.page_plots.specs.PlotLines.{line_across}
 use Rattle.page_plots.specs.Shapes.{label, straight_line}
 
 -- a line at a price, with the price beside it
 abbrev pub price_tick : PriceTick → List ℕ
-price_tick tick =
-    straight_line (codes "grid") (record { x = 68; y = tick.y }) (record { x = 468; y = tick.y })
-    ++ label (codes "tick") (record { x = 60; y = tick.y + 4 }) End (price_text tick.price)
+price_tick tick = line_across (codes "grid") tick.y
+    ++ label (codes "tick") (record { x = prices_end; y = tick.y + to_foot }) End
+    (price_text tick.price)
 
 -- a mark at a number, with the number below it
 abbrev pub number_tick : NumberTick → List ℕ
 number_tick tick =
-    straight_line (codes "axis") (record { x = tick.x; y = 304 }) (record { x = tick.x; y = 308 })
-    ++ label (codes "tick") (record { x = tick.x; y = 320 }) Middle (decimal tick.number)
+    straight_line (codes "axis") (record { x = tick.x; y = lower_end })
+    (record { x = tick.x; y = marks_end })
+    ++ label (codes "tick") (record { x = tick.x; y = numbers_foot }) Middle (decimal tick.number)
 
 -- what each axis shows
 abbrev pub axis_words : List ℕ → List ℕ
-axis_words across =
-    straight_line (codes "axis") (record { x = 68; y = 304 }) (record { x = 468; y = 304 })
-    ++ label (codes "tick") (record { x = 468; y = 340 }) End across
-    ++ label (codes "tick") (record { x = 60; y = 32 }) End (codes "price")
+axis_words across = line_across (codes "axis") lower_end
+    ++ label (codes "tick") (record { x = right_end; y = legend_foot }) End across
+    ++ label (codes "tick") (record { x = prices_end; y = price_word_foot }) End (codes "price")
 
 -- the axes, with what the one from the left shows
 abbrev pub axes_shapes : Axes → List ℕ → List ℕ

@@ -1,5 +1,5 @@
 -- Round numbers: 1, 2 or 5 times a power of ten.
-use Rattle.std.specs.Prelude.{◌≡◌, ◌<◌, ◌≤◌, ◌+◌, ◌*◌, ◌^◌, ◌⊎◌, ℕ, suc}
+use Rattle.std.specs.Prelude.{◌≡◌, ◌≤◌, ◌*◌, ◌^◌, ◌⊎◌, ℕ}
 
 -- the number is 1, 2 or 5 times this power of ten
 abbrev pub IsRoundOf : ℕ → ℕ → Type 0
@@ -16,18 +16,3 @@ pub record IsLeastRound (span most number : ℕ) : Type 0 where
   pub round : IsRound number
   pub reaches : span ≤ most * number
   pub least : (other : ℕ) → IsRound other → span ≤ most * other → number ≤ other
-
--- the least power of ten of which five times so many reach the span
-pub record IsLeastPower (span most number : ℕ) : Type 0 where
-  pub power : ℕ
-  pub is : number ≡ 10 ^ power
-  pub reaches : span ≤ most * 5 * number
-  pub least : (lower : ℕ) → power ≡ suc lower → most * 5 * 10 ^ lower < span
-
--- a power of ten of which every lower one is too small, and which is above 0 and not too great
-pub record IsPowerSoFar (span most number : ℕ) : Type 0 where
-  pub power : ℕ
-  pub is : number ≡ 10 ^ power
-  pub some : 0 < number
-  pub bounded : number ≤ 10 * span + 1
-  pub least : (lower : ℕ) → power ≡ suc lower → most * 5 * 10 ^ lower < span

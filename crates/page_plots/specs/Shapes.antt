@@ -1,5 +1,5 @@
 -- Shapes of a picture, each with its class and where it lies on the paper.
-use Rattle.std.specs.Prelude.{ℕ, List, [], ◌++◌, ◌∷◌, codes, decimal}
+use Rattle.std.specs.Prelude.{ℕ, ◌-◌, List, [], ◌++◌, ◌∷◌, codes, decimal}
 use Rattle.page_markup.specs.declared.words.AttributeName.TheVariants as name
 use Rattle.page_markup.specs.declared.words.Tag.TheVariants as tag
 use Rattle.page_markup.specs.Escapes.{escaped}
@@ -7,6 +7,7 @@ use Rattle.page_plots.specs.declared.shapes.Anchor.{Anchor}
 use Rattle.page_plots.specs.declared.shapes.Anchor.TheVariants as anchor
 use Rattle.page_plots.specs.declared.shapes.Point.{Point}
 use Rattle.page_parts.specs.Elements.{element, said, text_element}
+use Rattle.page_plots.specs.Measures.{bar_height}
 
 -- a rectangle, whose numbers are written so
 abbrev pub written_rectangle : List ℕ → List ℕ → List ℕ → List ℕ → List ℕ → List ℕ
@@ -19,16 +20,20 @@ abbrev pub rectangle : List ℕ → Point → ℕ → ℕ → List ℕ
 rectangle class corner width height =
     written_rectangle class (decimal corner.x) (decimal corner.y) (decimal width) (decimal height)
 
+-- a bar, from its upper left corner to the right as far as here
+abbrev pub bar_shape : List ℕ → Point → ℕ → List ℕ
+bar_shape class corner right = rectangle class corner (right - corner.x) bar_height
+
 -- a straight line, whose numbers are written so
-abbrev pub written_line : List ℕ → List ℕ → List ℕ → List ℕ → List ℕ → List ℕ
-written_line class x1 y1 x2 y2 = element tag.Line
+abbrev pub written_straight_line : List ℕ → List ℕ → List ℕ → List ℕ → List ℕ → List ℕ
+written_straight_line class x1 y1 x2 y2 = element tag.Line
     (said name.Class class ++ said name.X1 x1 ++ said name.Y1 y1 ++ said name.X2 x2
     ++ said name.Y2 y2) []
 
 -- a straight line from one point to another
 abbrev pub straight_line : List ℕ → Point → Point → List ℕ
 straight_line class from to =
-    written_line class (decimal from.x) (decimal from.y) (decimal to.x) (decimal to.y)
+    written_straight_line class (decimal from.x) (decimal from.y) (decimal to.x) (decimal to.y)
 
 -- a circle, whose numbers are written so
 abbrev pub written_circle : List ℕ → List ℕ → List ℕ → List ℕ → List ℕ

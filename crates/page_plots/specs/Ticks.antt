@@ -8,11 +8,3 @@ pub record AreTicks (first last step : ℕ) (ticks : List ℕ) : Type 0 where
   pub each : (times : ℕ) → first ≤ times * step → times * step ≤ last
       → Contains ticks (times * step)
   pub rising : AllPairs (λ tick later. tick < later) ticks
-
--- the same of the multiples below so many times the step
-pub record AreTicksSoFar (first last step times : ℕ) (ticks : List ℕ) : Type 0 where
-  pub multiples : All (λ tick. (of : ℕ) × (tick ≡ of * step)) ticks
-  pub inside : All (λ tick. (first ≤ tick) × (tick ≤ last)) ticks
-  pub below : All (λ tick. tick < times * step) ticks
-  pub each : (of : ℕ) → first ≤ of * step → of < times → Contains ticks (of * step)
-  pub rising : AllPairs (λ tick later. tick < later) ticks

@@ -3,6 +3,7 @@
 ghost use Rattle.std.specs.Prelude.{◌≡◌, ◌++◌, ◌≤◌, IfOk, slice_get};
 ghost use Rattle.page_plots.specs.Orders as spec;
 
+use crate::measures::{BADGE_RADIUS, TO_FOOT};
 use crate::shapes::{Anchor, Point, with_circle, with_label};
 use audit_base::faults::NoMemory;
 use audit_base::findings::{OrderLine, Shown};
@@ -83,10 +84,10 @@ pub fn with_badge(
     requires { centre.y ≤ 1000000 }
     ensures { IfOk result (λ more. more ≡ made ++ spec.badge number.now centre) }
 {
-    let made = with_circle(alloc, made, b"badge", centre, 7)?;
+    let made = with_circle(alloc, made, b"badge", centre, BADGE_RADIUS)?;
     let at = Point {
         x: centre.x,
-        y: centre.y + 4,
+        y: centre.y + TO_FOOT,
     };
     with_label(alloc, made, b"badgetext", at, Anchor::Middle, number)
 }

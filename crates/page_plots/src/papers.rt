@@ -7,14 +7,12 @@ ghost use Rattle.std.specs.List.{list_any};
 ghost use Rattle.audit_base.specs.Numbers.{price_text};
 ghost use Rattle.page_plots.specs.Papers as spec;
 
+use crate::measures::PAPER_HEIGHT;
 use crate::plot_axes::{Axes, NumberTick, PriceTick};
 use audit_base::faults::NoMemory;
 use audit_base::numbers::Price;
 use audit_base::texts::{write_number, write_price};
 use std::alloc::Global;
-
-/// How high the paper of a plot is.
-const PLOT_HEIGHT: u32 = 346;
 
 /// The least number that has ten digits.
 const LONG_NUMBER: u128 = 1_000_000_000;
@@ -86,5 +84,5 @@ pub fn plot_paper(alloc: Global, axes: &Axes) -> Result<Vec<u8>, NoMemory>
 {
     let left = has_long_price(alloc, &axes.prices)?;
     let right = has_long_number(&axes.numbers);
-    paper_of(alloc, left, right, PLOT_HEIGHT)
+    paper_of(alloc, left, right, PAPER_HEIGHT)
 }

@@ -3,22 +3,17 @@ ghost use Rattle.std.specs.Prelude.{◌≡◌, ◌++◌, IfOk, decimal};
 ghost use Rattle.std.specs.List.{flat_map};
 ghost use Rattle.page_plots.specs.PlotAxes as spec;
 
+use crate::measures::{
+    BOTTOM, LEGEND_FOOT, MARKS_END, NUMBERS_FOOT, PRICES_END, PRICE_WORD_FOOT, RIGHT, TO_FOOT,
+};
 use crate::papers::price_words;
+use crate::plot_lines::with_line_across;
 use crate::shapes::{Anchor, Point, with_label, with_line};
 use audit_base::faults::NoMemory;
 use audit_base::numbers::Price;
 use audit_base::texts::write_number;
 use page_markup::markup::Markup;
 use std::alloc::Global;
-
-/// The plot on its paper, which is 500 wide and 346 high.
-pub const LEFT: u32 = 68;
-
-pub const RIGHT: u32 = 468;
-
-pub const TOP: u32 = 44;
-
-pub const BOTTOM: u32 = 304;
 
 /// A marked price, and how far from the top of the paper it lies.
 #[derive(Clone, Copy, Debug)]
@@ -55,10 +50,12 @@ fn with_price_tick(alloc: Global, made: Markup, tick: &PriceTick) -> Result<Mark
     ensures { IfOk result (λ more. more ≡ made ++ spec.price_tick tick.now) }
 {
     let y = u32::from(tick.y);
-    let (from, to) = (Point { x: LEFT, y }, Point { x: RIGHT, y });
-    let made = with_line(alloc, made, b"grid", from, to)?;
+    let made = with_line_across(alloc, made, b"grid", y)?;
     let text = price_words(alloc, tick.price)?;
-    let at = Point { x: 60, y: y + 4 };
+    let at = Point {
+        x: PRICES_END,
+        y: y + TO_FOOT,
+    };
     with_label(alloc, made, b"tick", at, Anchor::End, &text)
 }
 
@@ -67,10 +64,10 @@ fn with_number_tick(alloc: Global, made: Markup, tick: &NumberTick) -> Result<Ma
     ensures { IfOk result (λ more. more ≡ made ++ spec.number_tick tick.now) }
 {
     let x = u32::from(tick.x);
-    let (from, to) = (Point { x, y: BOTTOM }, Point { x, y: 308 });
+    let (from, to) = (Point { x, y: BOTTOM }, Point { x, y: MARKS_END });
     let made = with_line(alloc, made, b"axis", from, to)?;
     let text = number_words(alloc, tick.number)?;
-    let at = Point { x, y: 320 };
+    let at = Point { x, y: NUMBERS_FOOT };
     with_label(alloc, made, b"tick", at, Anchor::Middle, &text)
 }
 
@@ -100,30 +97,17 @@ fn with_number_ticks(alloc: Global, made: Markup, ticks: &[NumberTick]) -> Resul
 fn with_axis_words(alloc: Global, made: Markup, across: &[u8]) -> Result<Markup, NoMemory>
     ensures { IfOk result (λ more. more ≡ made ++ spec.axis_words across.now) }
 {
-    let (from, to) = (
-        Point { x: LEFT, y: BOTTOM },
-        Point {
-            x: RIGHT,
-            y: BOTTOM,
-        },
-    );
-    let made = with_line(alloc, made, b"axis", from, to)?;
-    let made = with_label(
-        alloc,
-        made,
-        b"tick",
-        Point { x: RIGHT, y: 340 },
-        Anchor::End,
-        across,
-    )?;
-    with_label(
-        alloc,
-        made,
-        b"tick",
-        Point { x: 60, y: 32 },
-        Anchor::End,
-        b"price",
-    )
+    let made = with_line_across(alloc, made, b"axis", BOTTOM)?;
+    let at = Point {
+        x: RIGHT,
+        y: LEGEND_FOOT,
+    };
+    let made = with_label(alloc, made, b"tick", at, Anchor::End, across)?;
+    let above = Point {
+        x: PRICES_END,
+        y: PRICE_WORD_FOOT,
+    };
+    with_label(alloc, made, b"tick", above, Anchor::End, b"price")
 }
 
 /// With the axes of a plot behind it, and what the one from the left shows.

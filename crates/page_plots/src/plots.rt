@@ -4,11 +4,13 @@ ghost use Rattle.std.specs.Prelude.{◌≡◌, ◌<◌, ◌≤◌, ◌-◌, ◌^
 ghost use Rattle.std.specs.List.{flat_map};
 ghost use Rattle.audit_base.specs.Numbers.{price_end};
 ghost use Rattle.page_plots.specs.Axes.{IsAxis};
+ghost use Rattle.page_plots.specs.Measures.{lower_end, right_end, upper_end};
 ghost use Rattle.page_plots.specs.Plots as spec;
-ghost use Rattle.page_plots.specs.Plots.{AreAxesOf, AreMarks, AreNumberTicks, ArePriceTicks, IsPlot};
+ghost use Rattle.page_plots.specs.Plots.{AreAxesOf, AreAxisMarks, AreNumberTicks, ArePriceTicks, IsPlot};
 
 use crate::axes::Axis;
-use crate::plot_axes::{Axes, BOTTOM, LEFT, NumberTick, PriceTick};
+use crate::measures::{BOTTOM, LEFT, PLOT_HEIGHT, PLOT_WIDTH};
+use crate::plot_axes::{Axes, NumberTick, PriceTick};
 use crate::rounds::round_step;
 use crate::ticks::ticks_of;
 use audit_base::faults::NoMemory;
@@ -73,7 +75,7 @@ fn marks_of(alloc: Global, axis: Axis, most: u128) -> Result<Vec<u128>, NoMemory
     requires order { axis.first ≤ axis.last }
     requires some { 0 < most }
     requires few { most ≤ 1000 }
-    ensures { IfOk result (λ marks. AreMarks axis most marks.items) }
+    ensures { IfOk result (λ marks. AreAxisMarks axis most marks.items) }
 {
     let step = round_step(axis.last - axis.first, most);
     let marks = ticks_of(alloc, axis.first, axis.last, step)?;
@@ -99,8 +101,8 @@ impl Plot {
         let room = room_of(lowest, highest);
         let (low, high) = (u128::from(lowest), u128::from(highest));
         Plot {
-            across: axis_between(400, capped(first), capped(last)),
-            up: axis_between(260, low.saturating_sub(room), high + room),
+            across: axis_between(PLOT_WIDTH, capped(first), capped(last)),
+            up: axis_between(PLOT_HEIGHT, low.saturating_sub(room), high + room),
         }
     }
 
@@ -108,7 +110,7 @@ impl Plot {
     pub fn x(self, number: u128) -> u16
         requires { IsPlot self }
         ensures place { result ≡ spec.x_of self number }
-        ensures inside { result ≤ 468 }
+        ensures inside { result ≤ right_end }
     {
         (LEFT + self.across.point(number)) as u16
     }
@@ -117,7 +119,7 @@ impl Plot {
     pub fn y(self, price: u64) -> u16
         requires { IsPlot self }
         ensures place { result ≡ spec.y_of self price }
-        ensures inside { (44 ≤ result) × (result ≤ 304) }
+        ensures inside { (upper_end ≤ result) × (result ≤ lower_end) }
     {
         (BOTTOM - self.up.point(u128::from(price))) as u16
     }

@@ -1,6 +1,7 @@
 //! Round numbers: 1, 2 or 5 times a power of ten.
 ghost use Rattle.std.specs.Prelude.{◌<◌, ◌≤◌, ◌+◌, ◌*◌, ◌^◌};
-ghost use Rattle.page_plots.specs.Rounds.{IsLeastPower, IsLeastRound};
+ghost use Rattle.page_plots.specs.Rounds.{IsLeastRound};
+ghost use Rattle.page_plots.specs.SoFar.{IsLeastPower};
 
 /// The least power of ten that `most` times five times reach the span.
 fn least_power(span: u128, most: u128) -> u128

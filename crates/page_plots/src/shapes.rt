@@ -2,6 +2,7 @@
 ghost use Rattle.std.specs.Prelude.{◌≡◌, ◌++◌, IfOk, OnOk};
 ghost use Rattle.page_plots.specs.Shapes as spec;
 
+use crate::measures::BAR_HEIGHT;
 use audit_base::faults::NoMemory;
 use itoa::Buffer;
 use page_markup::markup::Markup;
@@ -83,6 +84,20 @@ pub fn with_rectangle(
     with_written_rectangle(alloc, made, class, x, y, width, height)
 }
 
+/// With a bar behind it, from this upper left corner to the right as far as here.
+pub fn with_bar(
+    alloc: Global,
+    made: Markup,
+    class: &[u8],
+    corner: Point,
+    right: u32,
+) -> Result<Markup, NoMemory>
+    ensures { IfOk result (λ shape. shape ≡ made ++ spec.bar_shape class.now corner right) }
+{
+    let width = right.saturating_sub(corner.x);
+    with_rectangle(alloc, made, class, corner, width, BAR_HEIGHT)
+}
+
 /// With a straight line behind it, whose numbers are written so.
 fn with_written_line(
     alloc: Global,
@@ -94,7 +109,7 @@ fn with_written_line(
     y2: &[u8],
 ) -> Result<Markup, NoMemory>
     ensures { IfOk result (λ shape. shape ≡ made
-        ++ spec.written_line class.now x1.now y1.now x2.now y2.now) }
+        ++ spec.written_straight_line class.now x1.now y1.now x2.now y2.now) }
 {
     let attributes = [
         says(AttributeName::Class, class),

@@ -5,6 +5,7 @@ use audit_base::findings::Property;
 use audit_base::terms::Side;
 use continuous_drawing::offending::OffendingPlace;
 use continuous_drawing::sections::{MarkedTrading, continuous_sections};
+use page_plots::marks::MarkedOrders;
 use std::process::Abort;
 
 /// What is written of the paper and the legend of the plot, of the trade, of the best limits after
@@ -33,8 +34,10 @@ const MARKED: MarkedTrading = MarkedTrading {
         place: 4,
         property: Property::BuyPriority,
     }),
-    first: None,
-    second: None,
+    orders: MarkedOrders {
+        first: None,
+        second: None,
+    },
 };
 
 /// Whether a text has these words.

@@ -34,6 +34,6 @@ offending_place orders deals (Some finding) =
     place_in_orders orders deals finding.log finding.place
 
 -- the number after that of the last order; 0 where there is none
-abbrev pub end_of : List Order → ℕ
-end_of [] = 0
-end_of (first ∷ rest) = place_at (first ∷ rest) (length rest) + 1
+abbrev pub end_of_orders : List Order → ℕ
+end_of_orders [] = 0
+end_of_orders (first ∷ rest) = place_at (first ∷ rest) (length rest) + 1

@@ -8,10 +8,9 @@ use Rattle.audit_base.specs.declared.terms.CallRule.TheVariants as call
 use Rattle.audit_base.specs.declared.terms.Rule.{Rule}
 use Rattle.audit_base.specs.declared.terms.VolumeRule.TheVariants as of_volume
 use Rattle.audit_base.specs.RuleKinds.{call_rule}
-use Rattle.call_drawing.specs.Sections.{IsCallSection, marked_by}
-use Rattle.continuous_drawing.specs.Sections.{AreContinuousSections}
-use Rattle.continuous_drawing.specs.Sections as continuous
-use Rattle.rule_drawing.specs.Offending.{end_of, offending_place}
+use Rattle.call_drawing.specs.Sections.{IsCallSection, marked_in_call}
+use Rattle.continuous_drawing.specs.Sections.{AreContinuousSections, marked_in_trading}
+use Rattle.rule_drawing.specs.Offending.{end_of_orders, offending_place}
 
 -- the price of the first trade, if there is one
 abbrev pub first_price : List Deal → Option ℕ
@@ -27,14 +26,14 @@ price_of_rule call.Fair deals = None
 -- the picture of a call: its orders and deals, with the price of the rule, and what was found marked
 abbrev pub IsPictureOfCall : CallRule → List Order → List Deal → Option Finding → List ℕ → Type 0
 IsPictureOfCall rule orders deals finding made =
-    IsCallSection orders deals (marked_by finding (price_of_rule rule deals)) made
+    IsCallSection orders deals (marked_in_call finding (price_of_rule rule deals)) made
 
 -- the pictures of continuous trading, up to the last order: what was found is marked at the record
 -- at which it broke, and the book right before that is drawn
 abbrev pub IsPictureOfContinuous : List Order → List Deal → Option Finding → List ℕ → Type 0
 IsPictureOfContinuous orders deals finding made =
-    AreContinuousSections orders deals (end_of orders)
-    (continuous.marked_by finding (offending_place orders deals finding)) made
+    AreContinuousSections orders deals (end_of_orders orders)
+    (marked_in_trading finding (offending_place orders deals finding)) made
 
 -- the picture of a rule: that of a call, or that of continuous trading
 abbrev pub IsRulePicture : Rule → List Order → List Deal → Option Finding → List ℕ → Type 0

@@ -1,13 +1,13 @@
 //! The places that a picture of continuous trading is about, as numbers of records of the order log.
 ghost use Rattle.std.specs.Prelude.{◌≡◌, ◌<◌, ◌≤◌, ◌^◌, ◌==◌, find, length, option_copied};
-ghost use Rattle.audit_base.specs.Continuous.{cause};
-ghost use Rattle.audit_base.specs.Deals.{IsDealList, NamesOrders};
+ghost use Rattle.audit_base.specs.Deals.{IsDealList};
 ghost use Rattle.audit_base.specs.Orders.{IsOrderList};
 ghost use Rattle.rule_drawing.specs.Offending as spec;
 
 use audit_base::findings::Finding;
 use audit_base::orders::Deal;
 use audit_base::terms::Which;
+use continuous_drawing::trades::cause_of;
 use order_list::lists::OrderList;
 
 /// Whether the deal is of the trade at this place.
@@ -24,23 +24,13 @@ fn deal_at(deals: &[Deal], place: u32) -> Option<&Deal>
     deals.iter().find(|deal| is_at(deal, place))
 }
 
-/// The later of the places of a deal's two orders: the record that brought it about.
-fn cause_of(orders: &OrderList<'_>, deal: &Deal) -> u64
-    requires { NamesOrders orders.now deal.now }
-    ensures { result ≡ cause orders.now deal.now }
-{
-    let bid = orders.at(deal.bid).place();
-    let ask = orders.at(deal.ask).place();
-    u64::from(bid.max(ask))
-}
-
 /// The cause of the trade at a place of the trade log; 0 where it has no deal.
 fn cause_at(orders: &OrderList<'_>, deals: &[Deal], place: u32) -> u64
     requires { IsDealList orders.now deals.now }
     ensures { result ≡ spec.cause_at_place orders.now deals.now place }
 {
     match deal_at(deals, place) {
-        Some(deal) => cause_of(orders, deal),
+        Some(deal) => u64::from(cause_of(orders, deal)),
         None => 0,
     }
 }
@@ -65,9 +55,9 @@ pub(crate) fn offending_place(
 }
 
 /// The number after that of the last order, up to which the picture is drawn.
-pub(crate) fn end_of(orders: &OrderList<'_>) -> u64
+pub(crate) fn end_of_orders(orders: &OrderList<'_>) -> u64
     requires { IsOrderList orders.now }
-    ensures end { result ≡ spec.end_of orders.now }
+    ensures end { result ≡ spec.end_of_orders orders.now }
     ensures fits { result < 2 ^ 33 }
 {
     if orders.len() == 0 {

@@ -4,7 +4,7 @@ ghost use Rattle.audit_base.specs.Deals.{IsDealList};
 ghost use Rattle.audit_base.specs.Orders.{IsOrderList};
 ghost use Rattle.rule_drawing.specs.RulePictures as spec;
 
-use crate::offending::{end_of, offending_place};
+use crate::offending::{end_of_orders, offending_place};
 use audit_base::faults::NoMemory;
 use audit_base::findings::Finding;
 use audit_base::numbers::Price;
@@ -66,7 +66,7 @@ fn picture_of_continuous(
     ensures { IfOk result (spec.IsPictureOfContinuous orders.now deals.now finding.now) }
 {
     let marked = MarkedTrading::by(finding, offending_place(orders, deals, finding));
-    continuous_sections(alloc, orders, deals, end_of(orders), &marked)
+    continuous_sections(alloc, orders, deals, end_of_orders(orders), &marked)
 }
 
 /// The picture of a rule over these orders and deals, as sections of a page, with what was found of

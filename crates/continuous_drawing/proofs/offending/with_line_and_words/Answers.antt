@@ -1,11 +1,12 @@
-use Rattle.std.proofs.Common.{◌++◌, ◌∙◌, ap, ℕ, List}
-use Rattle.std.proofs.lemmas.List.{append_assoc}
+use Rattle.std.proofs.Common.{◌≡◌, ◌++◌, ◌∙◌}
+use Rattle.std.specs.Prelude.{codes}
 use Rattle.std.proofs.lemmas.Result.{IfOk-weaker}
-use Rattle.continuous_drawing.specs.Offending.{upright, upright_words}
+use Rattle.page_plots.specs.Measures.{upper_end}
+use Rattle.page_plots.specs.PlotLines.{worded_line}
+use Rattle.continuous_drawing.specs.Offending.{words_foot, words_of}
 use Rattle.continuous_drawing.proofs.offending.with_line_and_words.Goals as goal
 
 pub returns : goal.returns
 returns c =
-    let line = upright c.args.x in
-    let words = upright_words c.args.x c.args.offence in
-    IfOk-weaker c.with_words.result _ _ (λ more e. e ∙ ap (λ (m : List ℕ). m ++ words) c.in_ok-made.ensures ∙ append_assoc c.args.made line words) c.with_words.ensures
+    let text : c.deref.result.now ≡ words_of c.args.offence = c.deref.ensures.value ∙ c.in_ok-text.ensures in
+    IfOk-weaker c.with_worded_line.result _ _ (λ more e. e ∙ (λ i. c.args.made ++ worded_line (codes "mark") (record { x = c.args.x; y = upper_end }) words_foot (c.anchor_beside-anchor.ensures i) (text i))) c.with_worded_line.ensures

@@ -8,4 +8,4 @@ use Rattle.continuous_drawing.proofs.sections.picture_section.Goals as goal
 pub returns : goal.returns
 returns c =
     let paper : c.deref.result.now ≡ plot_paper c.args.axes.now = c.deref.ensures.value ∙ c.in_ok-paper.ensures in
-    IfOk-weaker c.with_worded_figure.result _ _ (λ more e. e ∙ (λ i. c.new-made.ensures i ++ worded_figure (codes "Best bid and best ask by record") (paper i) c.args.shapes.now (c.picture_words.ensures i))) c.with_worded_figure.ensures
+    IfOk-weaker c.with_worded_figure.result _ _ (λ more e. e ∙ (λ i. c.new-made.ensures i ++ worded_figure (codes "Best bid and best ask by record") (paper i) c.args.shapes.now (c.quotes_words.ensures i))) c.with_worded_figure.ensures

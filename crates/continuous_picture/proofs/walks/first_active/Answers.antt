@@ -1,12 +1,12 @@
 use Rattle.std.proofs.Common.{◌≡◌, ◌<◌, ◌∙◌, ap, sym, arith, false, length}
 use Rattle.order_book.specs.Books.{BookSide}
 use Rattle.order_book.specs.declared.books.Resting.{Resting}
-use Rattle.continuous_picture.specs.Active.{is_active_in_book, orders_of}
+use Rattle.continuous_picture.specs.Active.{is_active_in_book, known_orders}
 use Rattle.continuous_picture.proofs.BookLemmas.{first-holds, first-kept, first-none, first-step, first-stays}
 use Rattle.continuous_picture.proofs.walks.first_active.Goals as goal
 
 pub is_active-requires-clause-order : goal.is_active-requires-clause-order
-is_active-requires-clause-order c = first-holds (λ (r : Resting). r.index < length (orders_of c.args.known.now)) c.loop-best.book.resting c.in-Some.best (sym c.in-Some.ensures.best) c.loop-best.invariant.inside
+is_active-requires-clause-order c = first-holds (λ (r : Resting). r.index < length (known_orders c.args.known.now)) c.loop-best.book.resting c.in-Some.best (sym c.in-Some.ensures.best) c.loop-best.invariant.inside
 
 pub loop-best-preserved : goal.loop-best-preserved
 loop-best-preserved c =
@@ -17,7 +17,7 @@ loop-best-preserved c =
     let gone = ap (λ (b : BookSide). b.resting) c.cancel.ensures.gone in
     let off : test best ≡ false = sym c.is_active.ensures ∙ c.if-is_active.false in
     record {
-      inside = first-stays test (λ (r : Resting). r.index < length (orders_of c.args.known.now)) xs c.cancel.new.self.resting best found gone c.loop-best.invariant.inside;
+      inside = first-stays test (λ (r : Resting). r.index < length (known_orders c.args.known.now)) xs c.cancel.new.self.resting best found gone c.loop-best.invariant.inside;
       side = ap (λ (b : BookSide). b.side) c.cancel.ensures.gone ∙ c.loop-best.invariant.side;
       same = (first-step test xs c.cancel.new.self.resting best found off gone).0 ∙ c.loop-best.invariant.same;
     }

@@ -1,5 +1,5 @@
 use Rattle.std.specs.Prelude.{◌-◌}
-use Rattle.page_plots.specs.Rounds.{IsPowerSoFar}
+use Rattle.page_plots.specs.SoFar.{IsPowerSoFar}
 use Rattle.page_plots.proofs.rounds.least_power.Given as goal
 
 abbrev pub invariant-loop-power : goal.invariant-loop-power

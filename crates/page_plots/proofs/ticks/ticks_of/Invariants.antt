@@ -1,5 +1,5 @@
 use Rattle.std.specs.Prelude.{◌≤◌, ◌+◌, ◌*◌, ◌-◌}
-use Rattle.page_plots.specs.Ticks.{AreTicksSoFar}
+use Rattle.page_plots.specs.SoFar.{AreTicksSoFar}
 use Rattle.page_plots.proofs.ticks.ticks_of.Given as goal
 
 abbrev pub invariant-loop-times : goal.invariant-loop-times

@@ -1,6 +1,0 @@
-use Rattle.std.specs.Prelude.{◌≡◌, take}
-use Rattle.continuous_drawing.specs.Extents.{highest_drawn}
-use Rattle.continuous_drawing.proofs.extents.highest_drawn.Given as goal
-
-abbrev pub invariant-loop-column : goal.invariant-loop-column
-invariant-loop-column l = l.highest ≡ highest_drawn (take l.column-index l.columns)
