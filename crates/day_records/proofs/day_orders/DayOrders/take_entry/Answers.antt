@@ -27,14 +27,14 @@ returns-then-not-has g c = λ entries has.
 pub index_mut-requires : goal.index_mut-requires
 index_mut-requires g c =
     let has = c.requires.has in
-    let met = met-inside g.D.AuditedShare.share c.args.self.now.share c.args.self.now.kept.items c.make_room.new.self.kept.items c.requires.entries c.args.entry.now c.args.self.now.symbols c.meet.new.self c.symbol-symbol.result c.in_ok-index.index c.index_in_share-share_index.result
+    let met = met-inside g.D.AuditedShare.share c.args.self.now.share c.args.self.now.kept.items c.make_room.new.self.kept.items c.requires.entries c.args.entry.now c.args.self.now.symbols c.meet.new.self c.symbol-symbol.result.now c.in_ok-index.index c.index_in_share-share_index.result
     has.shared has.symbols_are c.in_ok-index.ensures.meets c.symbol-symbol.ensures c.in_ok-index.ensures.index (sym c.has.ensures ∙ c.if-not-has.false) c.index_in_share-share_index.ensures c.in_ok-make_room.ensures.room has.histories_are in
     omega (arith, met.within, c.make_room.new.self.kept.ok.0)
 
 pub push-requires : goal.push-requires
 push-requires g c =
     let has = c.requires.has in
-    let met = met-inside g.D.AuditedShare.share c.args.self.now.share c.args.self.now.kept.items c.make_room.new.self.kept.items c.requires.entries c.args.entry.now c.args.self.now.symbols c.meet.new.self c.symbol-symbol.result c.in_ok-index.index c.index_in_share-share_index.result
+    let met = met-inside g.D.AuditedShare.share c.args.self.now.share c.args.self.now.kept.items c.make_room.new.self.kept.items c.requires.entries c.args.entry.now c.args.self.now.symbols c.meet.new.self c.symbol-symbol.result.now c.in_ok-index.index c.index_in_share-share_index.result
     has.shared has.symbols_are c.in_ok-index.ensures.meets c.symbol-symbol.ensures c.in_ok-index.ensures.index (sym c.has.ensures ∙ c.if-not-has.false) c.index_in_share-share_index.ensures c.in_ok-make_room.ensures.room has.histories_are in
     let there : slice_get c.make_room.new.self.kept.items c.index_in_share-share_index.result ≡ Some c.index_mut.result.now =
     slice_get_read c.make_room.new.self.kept.items (length c.make_room.new.self.kept.items) c.index_in_share-share_index.result c.index_mut.result.now refl met.within c.index_mut.ensures.value in
@@ -43,7 +43,7 @@ push-requires g c =
 pub returns : goal.returns
 returns g c = on_ok_weaker c.push.result
     (λ takes entries has.
-    let met = met-inside g.D.AuditedShare.share c.args.self.now.share c.args.self.now.kept.items c.make_room.new.self.kept.items entries c.args.entry.now c.args.self.now.symbols c.meet.new.self c.symbol-symbol.result c.in_ok-index.index c.index_in_share-share_index.result
+    let met = met-inside g.D.AuditedShare.share c.args.self.now.share c.args.self.now.kept.items c.make_room.new.self.kept.items entries c.args.entry.now c.args.self.now.symbols c.meet.new.self c.symbol-symbol.result.now c.in_ok-index.index c.index_in_share-share_index.result
     has.shared has.symbols_are c.in_ok-index.ensures.meets c.symbol-symbol.ensures c.in_ok-index.ensures.index (sym c.has.ensures ∙ c.if-not-has.false) c.index_in_share-share_index.ensures c.in_ok-make_room.ensures.room has.histories_are in
     let there : slice_get c.make_room.new.self.kept.items c.index_in_share-share_index.result ≡ Some c.index_mut.result.now =
     slice_get_read c.make_room.new.self.kept.items (length c.make_room.new.self.kept.items) c.index_in_share-share_index.result c.index_mut.result.now refl met.within c.index_mut.ensures.value in
