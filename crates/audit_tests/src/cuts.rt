@@ -1,7 +1,7 @@
 //! Both CSV logs of one trade and of a day of two phases, cut at every length.
 use crate::checks::cuts::{Cut, CutLogs, check_cuts};
 use crate::checks::inputs::{ORDERS, TRADES};
-use crate::days::logs::{CALL_FIRST, DAY_ACCEPTED, DAY_ORDERS, DAY_SPREAD, DAY_TRADES};
+use crate::day_logs::{CALL_FIRST, DAY_ACCEPTED, DAY_ORDERS, DAY_SPREAD, DAY_TRADES};
 use audit_base::terms::Which;
 use std::test::Fail;
 

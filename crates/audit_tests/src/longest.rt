@@ -1,5 +1,8 @@
 //! Logs as long as a log may be, and a byte longer.
 use crate::checks::answers::{RowFault, answer_of};
+use crate::checks::certificates::{VERIFY, check_certificate};
+use crate::checks::rows::Row;
+use crate::staircase::{CERTIFICATE, STAIRCASE, TWO_TRADES};
 use audit_base::faults::NoMemory;
 use log_source::quiet_shelf::QuietShelf;
 use std::alloc::Global;
@@ -111,4 +114,43 @@ fn the_longest_malformed_log_is_read_and_one_of_a_byte_more_is_not(
     rt: HostRuntime,
 ) -> Result<(), Fail> {
     Ok(check_all_long(rt.alloc(), &MALFORMED_LOGS)?)
+}
+
+/// The certificate of the staircase, and after it one line more of such a length that the whole
+/// has this many bytes.
+fn certificate_of_size(alloc: Global, size: usize) -> Result<Vec<u8>, NoMemory> {
+    let mut certificate = Vec::from_slice(alloc, CERTIFICATE.as_bytes())?;
+    certificate.resize(size, b'x')?;
+    Ok(certificate)
+}
+
+/// Checks what is answered to such a certificate.
+fn check_long_certificate(
+    alloc: Global,
+    name: &'static str,
+    size: usize,
+    status: u8,
+    report: &'static str,
+) -> Result<(), RowFault> {
+    let row = Row {
+        name,
+        words: VERIFY,
+        orders: &STAIRCASE,
+        trades: &TWO_TRADES,
+        status,
+        report,
+    };
+    check_certificate(alloc, &row, certificate_of_size(alloc, size)?)
+}
+
+#[test]
+fn a_certificate_at_the_limit_and_one_above_it(rt: HostRuntime) -> Result<(), Fail> {
+    check_long_certificate(rt.alloc(), "at the limit", LONGEST, 1, "refused,11\n")?;
+    Ok(check_long_certificate(
+        rt.alloc(),
+        "one above it",
+        LONGEST + 1,
+        6,
+        "toolong,trades\n",
+    )?)
 }

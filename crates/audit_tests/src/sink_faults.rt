@@ -2,9 +2,7 @@
 use crate::checks::inputs::{ORDERS, TRADES};
 use crate::checks::rows::Row;
 use crate::checks::sink_faults::check_sink_faults;
-use crate::days::logs::{
-    CALL_FIRST, CALL_TRADES, DAY_ACCEPTED, DAY_ORDERS, DAY_SPREAD, DAY_TRADES,
-};
+use crate::day_logs::{CALL_FIRST, CALL_TRADES, DAY_ACCEPTED, DAY_ORDERS, DAY_SPREAD, DAY_TRADES};
 use std::test::Fail;
 
 const BUYER: &str = "N,A,b1,20240102-09:00:00,Z,B,100,10,\n";

@@ -2,9 +2,8 @@
 use crate::checks::inputs::{ORDERS, TRADES};
 use crate::checks::rows::Row;
 use crate::checks::source_faults::{SourceRow, check_source_faults};
-use crate::days::logs::{
-    CALL_FIRST, CALL_TRADES, DAY_ACCEPTED, DAY_ORDERS, DAY_SPREAD, DAY_TRADES,
-};
+use crate::day_logs::{CALL_FIRST, CALL_TRADES, DAY_ACCEPTED, DAY_ORDERS, DAY_SPREAD, DAY_TRADES};
+use crate::staircase::{CERTIFICATE, STAIRCASE, TWO_TRADES};
 use std::test::Fail;
 
 /// The orders of one trade, in 125 bytes, and the trade, in 108.
@@ -16,38 +15,6 @@ N,B,s1,20240102-09:00:00,Z,S,100,9,
 ];
 
 const ONE_TRADE: [&str; 2] = [TRADES, "T1,20240102-09:00:01,Z,A,b1,B,s1,100,9.5\n"];
-
-/// Bids and asks at 1, 2 and 3, in 256 bytes, and two trades of them, in 141.
-const STAIRCASE: [&str; 2] = [
-    ORDERS,
-    "N,A,b1,20240102-09:00:00,Z,B,1,1,
-N,A,b2,20240102-09:00:00,Z,B,1,2,
-N,A,b3,20240102-09:00:00,Z,B,1,3,
-N,B,s1,20240102-09:00:00,Z,S,1,1,
-N,B,s2,20240102-09:00:00,Z,S,1,2,
-N,B,s3,20240102-09:00:00,Z,S,1,3,
-",
-];
-
-const TWO_TRADES: [&str; 2] = [
-    TRADES,
-    "T1,20240102-09:00:01,Z,A,b2,B,s1,1,2
-T2,20240102-09:00:01,Z,A,b3,B,s2,1,2
-",
-];
-
-/// The certificate of the two trades, in 124 bytes.
-const CERTIFICATE: &str = "certificate,uniform,Z
-bound,1.00000001,2
-last,buy,2
-last,sell,5
-order,1,0
-order,2,1
-order,3,1
-order,4,1
-order,5,1
-order,6,0
-";
 
 /// Audits, of which one finds nothing, one has a finding and one a malformed order log.
 const AUDITS: [SourceRow; 3] = [

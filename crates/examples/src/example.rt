@@ -1,4 +1,4 @@
-//! The run of one folder, over its files.
+//! The runs of one folder, over its files.
 use super::comparison::{Difference, compare};
 use audit_run::running::run;
 use log_source::file_shelf::FileShelf;
@@ -11,10 +11,13 @@ use std::{fs, io};
 /// More bytes than an example's report has.
 const ROOM: usize = 65_536;
 
-/// The words of a line, split at spaces.
+/// The words of a line, with one space between two of them; an empty line has none.
 fn words_of(alloc: Global, line: &str) -> io::Result<Vec<String>> {
     let mut words = Vec::new(alloc);
-    for word in line.split_ascii_whitespace() {
+    if line.is_empty() {
+        return Ok(words);
+    }
+    for word in line.split(' ') {
         words.push(String::from_str(alloc, word)?)?;
     }
     Ok(words)
@@ -26,17 +29,36 @@ fn sink(alloc: Global) -> io::Result<MemorySink> {
     made.map_err(|_| io::Error::from(ErrorKind::OutOfMemory))
 }
 
-/// Runs the example in whose folder the process is, and gives how it differs from its report. An
-/// error comes where the words or the report cannot be read, or memory runs out.
-pub(crate) fn run_example<R: Files + AllocGlobal + Clone + Drop>(
+/// How the run of one line of words differs from the report.
+fn run_line<R: Files + AllocGlobal + Clone + Drop>(
     rt: &R,
+    line: &str,
+    report: &[u8],
 ) -> io::Result<Option<Difference>> {
-    let words = words_of(rt.alloc(), fs::read_to_string(rt, "words")?.as_str())?;
-    let report = fs::read(rt, "report")?;
+    let words = words_of(rt.alloc(), line)?;
     let mut shelf = FileShelf::new(rt.clone()?);
     let mut out = sink(rt.alloc())?;
     let status = run(rt.alloc(), &words, &mut shelf, &mut out);
-    Ok(compare(report.as_slice(), status, out.bytes()))
+    Ok(compare(report, status, out.bytes()))
+}
+
+/// Runs each line of the words of the example in whose folder the process is, and gives the first
+/// that differs from the report, and how. An error comes where there is no line, the words or the
+/// report cannot be read, or memory runs out.
+pub(crate) fn run_example<R: Files + AllocGlobal + Clone + Drop>(
+    rt: &R,
+) -> io::Result<Option<(String, Difference)>> {
+    let text = fs::read_to_string(rt, "words")?;
+    let report = fs::read(rt, "report")?;
+    if text.as_str().is_empty() {
+        return Err(io::Error::from(ErrorKind::InvalidData));
+    }
+    for line in text.as_str().lines() {
+        if let Some(difference) = run_line(rt, line, report.as_slice())? {
+            return Ok(Some((String::from_str(rt.alloc(), line)?, difference)));
+        }
+    }
+    Ok(None)
 }
 
 /// The difference that the canary in whose folder the process is must show.

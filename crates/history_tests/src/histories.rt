@@ -123,85 +123,14 @@ fn has_finding<R: AllocGlobal + Abort>(rt: &R, label: &str, lines: &[&str], want
     assert!(rt; finding.first == first, "{label}: shown");
 }
 
-/// Histories by name, and the finding of each.
-const FINDINGS: [(&str, &[&str], Broken); 14] = [
-    (
-        "duplicate-id",
-        &["N A b1 - 5 Z B", "N A b1 - 5 Z B"],
-        (Property::DuplicateId, 2, Some(1)),
-    ),
-    (
-        "time-back",
-        &["N A b1 - 1 Z B", "N A b2 - 0 Z B"],
-        (Property::TimeBack, 2, Some(1)),
-    ),
-    (
-        "unknown-target",
-        &["X A x1 b9 5 Z B"],
-        (Property::UnknownTarget, 1, None),
-    ),
-    (
+#[test]
+fn a_finding_shows_the_record_that_it_is_beside(rt: HostRuntime) {
+    has_finding(
+        &rt,
         "the key of a cancel is taken",
         &["N A b1 - 5 Z B", "X A x1 b1 5 Z B", "N A x1 - 5 Z B"],
         (Property::DuplicateId, 3, Some(2)),
-    ),
-    (
-        "a cancel is no target",
-        &["N A b1 - 5 Z B", "X A x1 b1 5 Z B", "X A x2 x1 5 Z B"],
-        (Property::UnknownTarget, 3, None),
-    ),
-    (
-        "the time before is that of the symbol's record before",
-        &["N A b1 - 3 Z B", "N A y1 - 9 Y B", "N A b2 - 2 Z B"],
-        (Property::TimeBack, 3, Some(1)),
-    ),
-    (
-        "a later order is no target",
-        &["X A x1 b1 5 Z B", "N A b1 - 5 Z B"],
-        (Property::UnknownTarget, 1, None),
-    ),
-    (
-        "a replacement of another firm's order",
-        &["N B s1 - 5 Z B", "R A r1 s1 5 Z B"],
-        (Property::UnknownTarget, 2, None),
-    ),
-    (
-        "a replacement of an order of the other side",
-        &["N A b1 - 5 Z B", "R A r1 b1 5 Z S"],
-        (Property::UnknownTarget, 2, None),
-    ),
-    (
-        "an order of another symbol is no target",
-        &["N A b1 - 5 Y B", "X A x1 b1 5 Z B"],
-        (Property::UnknownTarget, 2, None),
-    ),
-    (
-        "a record is not its own target",
-        &["R A r1 r1 5 Z B"],
-        (Property::UnknownTarget, 1, None),
-    ),
-    (
-        "the key comes before the time",
-        &["N A b1 - 1 Z B", "N A b1 - 0 Z B"],
-        (Property::DuplicateId, 2, Some(1)),
-    ),
-    (
-        "the time comes before the target",
-        &["N A b1 - 1 Z B", "X A x1 b9 0 Z B"],
-        (Property::TimeBack, 2, Some(1)),
-    ),
-    (
-        "the least place comes first",
-        &["N A b1 - 1 Z B", "X A x1 b9 1 Z B", "N A b1 - 0 Z B"],
-        (Property::UnknownTarget, 2, None),
-    ),
-];
-
-#[test]
-fn each_finding_stands_at_the_first_record_that_fails(rt: HostRuntime) {
-    for &(label, lines, wanted) in &FINDINGS {
-        has_finding(&rt, label, lines, wanted);
-    }
+    );
 }
 
 /// Histories by name, and the orders of each.

@@ -1,7 +1,7 @@
 //! Deals between one bid of 100 at 12 and one ask of 80 at 8, with their totals or the finding
 //! that they have. A deal is written as its quantity and its price.
 use crate::names::{key, name};
-use audit_base::findings::{Finding, Property, Shown};
+use audit_base::findings::{Finding, Shown};
 use audit_base::numbers::{Price, Quantity};
 use audit_base::records::{OrderRecord, TradeRecord};
 use audit_base::stamps::Stamp;
@@ -86,21 +86,6 @@ fn a_matching_has_its_totals(rt: HostRuntime) {
     };
     assert_eq!(rt; totals.as_slice(), [80, 80].as_slice());
     assert_eq!(rt; totals.volume(), 80);
-}
-
-#[test]
-fn the_finding_is_the_first_of_the_least_deal(rt: HostRuntime) {
-    let cases = [
-        ((50, 13), (50, 7), true, Property::Limit, 1),
-        ((50, 9), (50, 7), true, Property::Limit, 2),
-        ((50, 9), (51, 10), true, Property::UniformPrice, 2),
-        ((50, 9), (51, 9), true, Property::BuyQuantity, 2),
-        ((50, 9), (50, 10), false, Property::SellQuantity, 2),
-    ];
-    for &(first, second, uniform, property, place) in &cases {
-        let finding = finding_of(&rt, first, second, uniform);
-        assert_eq!(rt; (finding.property, finding.place), (property, place));
-    }
 }
 
 // One price is broken against the first deal, which is shown.

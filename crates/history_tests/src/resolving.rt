@@ -6,7 +6,7 @@ use audit_base::numbers::{Price, Quantity};
 use audit_base::orders::Deal;
 use audit_base::records::{OrderRecord, TradeRecord};
 use audit_base::stamps::Stamp;
-use audit_base::terms::{Life, Side, Which};
+use audit_base::terms::{Life, Side};
 use instruction_history::history::History;
 use matching_core::outcomes::CheckFault;
 use matching_core::resolving::resolve;
@@ -93,95 +93,19 @@ fn each_trade_becomes_a_deal_between_its_bid_and_its_ask(rt: HostRuntime) {
     }
 }
 
-/// What a finding shows: an earlier trade by its place, or the side, firm and id of an order
-/// that is not there.
-#[derive(Clone, Copy)]
-enum Shows {
-    Trade(u32),
-    Unknown(Side, &'static str, &'static str),
-}
-
-fn shown(rt: &impl Abort, shows: Shows) -> Shown {
-    match shows {
-        Shows::Trade(place) => Shown::Place {
-            log: Which::Trades,
-            place,
-        },
-        Shows::Unknown(side, firm, id) => Shown::Unknown {
-            side,
-            key: key(rt, firm, id),
-        },
-    }
-}
-
-/// A row: its name, the trades, the finding's property and place, and what it shows.
-type Row = (&'static str, &'static [&'static str], Property, u32, Shows);
-
-const ROWS: [Row; 7] = [
-    (
-        "unknown-sell-order",
-        &["T1 A b1 B s9 Z"],
-        Property::UnknownOrder,
-        1,
-        Shows::Unknown(Side::Sell, "B", "s9"),
-    ),
-    (
-        "duplicate-trade",
-        &["T1 A b1 B s1 Z", "T1 A b1 B s1 Z"],
-        Property::DuplicateTrade,
-        2,
-        Shows::Trade(1),
-    ),
-    (
-        "the id of a trade of another symbol",
-        &[
-            "T1 A b1 B s1 Y",
-            "T1 A b1 B s1 Z",
-            "T2 A b1 B s1 Y",
-            "T1 A b1 B s1 Z",
-        ],
-        Property::DuplicateTrade,
-        4,
-        Shows::Trade(2),
-    ),
-    (
-        "an unknown bid before an unknown ask",
-        &["T1 A b9 B s9 Z"],
-        Property::UnknownOrder,
-        1,
-        Shows::Unknown(Side::Buy, "A", "b9"),
-    ),
-    (
-        "an ask as the bid",
-        &["T1 B s1 B s1 Z"],
-        Property::UnknownOrder,
-        1,
-        Shows::Unknown(Side::Buy, "B", "s1"),
-    ),
-    (
-        "a bid as the ask",
-        &["T1 A b1 A b2 Z"],
-        Property::UnknownOrder,
-        1,
-        Shows::Unknown(Side::Sell, "A", "b2"),
-    ),
-    (
-        "a duplicate before an unknown bid",
-        &["T1 A b1 B s1 Z", "T1 A b9 B s1 Z"],
-        Property::DuplicateTrade,
-        2,
-        Shows::Trade(1),
-    ),
-];
-
 #[test]
 fn the_finding_stands_at_the_first_trade_that_fails(rt: HostRuntime) {
-    for &(label, lines, property, place, shows) in &ROWS {
-        let Err(CheckFault::Found(finding)) = resolved(&rt, lines) else {
-            panic!(rt; "{label}: no finding");
-        };
-        assert_eq!(rt; finding.property, property, "{label}: property");
-        assert_eq!(rt; finding.place, place, "{label}: place");
-        assert_eq!(rt; finding.first, Some(shown(&rt, shows)), "{label}: shown");
-    }
+    let Err(CheckFault::Found(finding)) = resolved(&rt, &["T1 A b1 B s1 Z", "T2 A b9 B s9 Z"])
+    else {
+        panic!(rt; "no finding");
+    };
+    assert_eq!(rt;
+        (finding.property, finding.place),
+        (Property::UnknownOrder, 2)
+    );
+    let shown = Shown::Unknown {
+        side: Side::Buy,
+        key: key(&rt, "A", "b9"),
+    };
+    assert_eq!(rt; finding.first, Some(shown));
 }

@@ -1,4 +1,4 @@
-//! Rows of the specification on whole logs, on feeds and on the writers.
+//! Whole CSV logs, feeds in pieces and from literals, and the writers.
 ghost use Rattle.std.specs.Prelude.{◌≤◌, ◌<◌, [], length, OnOk};
 ghost use Rattle.log_source.specs.Sources.{longest_log};
 ghost use Rattle.csv_logs.specs.Feeds.{IsCsvFeedWithinLimit, IsCsvFeedOf};
@@ -99,15 +99,6 @@ fn one_trade_has_two_orders_and_a_trade(rt: HostRuntime) -> Result<(), Fail> {
     Ok(())
 }
 
-/// A bad place, or nothing.
-fn place(place: u32, offset: u64, reason: Reason) -> Option<BadPlace> {
-    Some(BadPlace {
-        place,
-        offset,
-        reason,
-    })
-}
-
 /// How many records a log has, where each is only tested and none is made.
 fn count_of<R: CsvRecord>(alloc: Global, log: &[u8]) -> Result<u32, LogFault>
     requires { length log.now ≤ longest_log }
@@ -118,288 +109,25 @@ fn count_of<R: CsvRecord>(alloc: Global, log: &[u8]) -> Result<u32, LogFault>
     Ok(counter.count())
 }
 
-/// Where a log is bad, if it is.
-fn bad_place<T: Drop>(rt: &impl Abort, read: Result<T, LogFault>) -> Option<BadPlace> {
-    match read {
-        Ok(_) => None,
-        Err(LogFault::Bad(bad)) => Some(bad),
-        Err(LogFault::Memory) => panic!(rt; "out of memory"),
-    }
-}
-
-/// Where an order log is bad, if it is: the same, whether its records are made or only tested.
-fn bad_of(rt: &impl Abort, alloc: Global, log: &[u8]) -> Option<BadPlace> {
-    assert!(rt; log.len() <= 67_108_864);
-    let bad = bad_place(rt, csv_orders_of(alloc, log));
-    assert_eq!(rt; bad_place(rt, count_of::<OrderRecord>(alloc, log)), bad);
-    bad
-}
-
-/// Order logs, and where each is bad, if it is.
-const BAD_LOGS: [(&[u8], Option<(u32, u64, Reason)>); 15] = [
-    // Row `empty-order-file`.
-    (b"", Some((1, 0, Reason::Header))),
-    // Row `quantity-too-great`.
-    (
-        b"kind,firm,id,time,symbol,side,quantity,price,target\nN,A,b1,20240102-09:00:00,Z,B,1000000000001,10,\n",
-        Some((1, 52, Reason::Column(7))),
-    ),
-    (b"\n\r\n", Some((1, 3, Reason::Header))),
-    (b"\xEF\xBB\xBF", Some((1, 3, Reason::Header))),
-    (b"\xEF\xBB", Some((1, 0, Reason::Header))),
-    (b"\xEF\xBB\xBFkind\n", Some((1, 3, Reason::Header))),
-    (
-        b"\nkind,firm,id,time,symbol,side,quantity,price\n",
-        Some((1, 1, Reason::Header)),
-    ),
-    (
-        b"kind,firm,id,time,symbol,side,quantity,price,target,\n",
-        Some((1, 0, Reason::Header)),
-    ),
-    (
-        b"kind,firm,id,time,symbol,side,quantity,target,price\n",
-        Some((1, 0, Reason::Header)),
-    ),
-    (
-        b"kind,firm,id,time,symbol,side,quantity,price,target \n",
-        Some((1, 0, Reason::Header)),
-    ),
-    (
-        b" \nkind,firm,id,time,symbol,side,quantity,price,target\n",
-        Some((1, 0, Reason::Header)),
-    ),
-    (
-        b"\"kind\",firm,id,time,symbol,side,quantity,price,\"target\"\n",
-        None,
-    ),
-    (
-        b"\r\nkind,firm,id,time,symbol,side,quantity,price,target",
-        None,
-    ),
-    (
-        b"kind,firm,id,time,symbol,side,quantity,price,target\r\nN,A,b1,20240102-09:00:00,Y,B,1,1,\r\n\r\nX,A,x1,20240102-09:00:00,Z,,,,\r\n",
-        Some((2, 90, Reason::Column(9))),
-    ),
-    // A line of eight fields after one of nine, which one reader of `csv` reads both.
-    (
-        b"kind,firm,id,time,symbol,side,quantity,price,target\nN,A,b1,20240102-09:00:00,Z,B,1,1,\nN,A,b2,20240102-09:00:00,Z,B,1,1\n",
-        Some((2, 86, Reason::Columns)),
-    ),
-];
+/// Row `quantity-too-great`.
+const BAD_LOG: &[u8] =
+    b"kind,firm,id,time,symbol,side,quantity,price,target\nN,A,b1,20240102-09:00:00,Z,B,1000000000001,10,\n";
 
 #[test]
-fn bad_logs_are_refused_at_their_place(rt: HostRuntime) {
-    for &(log, want) in &BAD_LOGS {
-        let bad = bad_of(&rt, rt.alloc(), log);
-        assert_eq!(rt; bad.map(|bad| (bad.place, bad.offset, bad.reason)), want);
-    }
-}
-
-/// What the first line after the header fails, if it does.
-fn reason_of(rt: &impl Abort, alloc: Global, line: &[u8]) -> Option<Reason> {
-    let mut log = Vec::new(alloc);
-    assert!(rt; log.extend_from_slice(HEADER).is_ok());
-    assert!(rt; log.extend_from_slice(line).is_ok());
-    bad_of(rt, alloc, &log).map(|bad| bad.reason)
-}
-
-/// Lines of an order log after its header, and what each fails, if it does.
-const LINES: [(&[u8], Option<Reason>); 51] = [
-    (b"N,A,b1,20240102-09:00:00,Z,B,100,10,\n", None),
-    (b"N,A,b1,20240102-09:00:00,Z,B,100,10,", None),
-    (b"N,A,b1,20240102-09:00:00,Z,B,100,10,\r", None),
-    (b"\n\n\r\nN,A,b1,20240102-09:00:00,Z,B,100,10,\r\n\n", None),
-    (b"N,\"A\",b1,\"20240102-09:00:00\",Z,B,100,10,\"\"\n", None),
-    (
-        b"N,\"A,C\",b1,20240102-09:00:00,Z,B,100,10,\n",
-        Some(Reason::Column(2)),
-    ),
-    (
-        b"N,\"A\"\"C\",b1,20240102-09:00:00,Z,B,100,10,\n",
-        Some(Reason::Column(2)),
-    ),
-    (
-        b"N,A\"C\",b1,20240102-09:00:00,Z,B,100,10,\n",
-        Some(Reason::Column(2)),
-    ),
-    (
-        b"N,A\",b1,20240102-09:00:00,Z,B,100,10,\"\n",
-        Some(Reason::Column(2)),
-    ),
-    (
-        b"N,\"A,b1,20240102-09:00:00,Z,B,100,10,\n",
-        Some(Reason::Break),
-    ),
-    (
-        b"N,\"A\nC\",b1,20240102-09:00:00,Z,B,100,10,\n",
-        Some(Reason::Break),
-    ),
-    (
-        b"N,A,b1,20240102-09:00:00,Z,B,100\t,10,\n",
-        Some(Reason::Break),
-    ),
-    (
-        b"N,A\x7F,b1,20240102-09:00:00,Z,B,100,10,\n",
-        Some(Reason::Break),
-    ),
-    (
-        b"N,\x80,b1,20240102-09:00:00,Z,B,100,10,\n",
-        Some(Reason::Break),
-    ),
-    (
-        b"N,A,b1,20240102-09:00:00,Z,B,100,10,\r\r\n",
-        Some(Reason::Break),
-    ),
-    (
-        b"N,A,b1,20240102-09:00:00,Z,B,100,10\r,\n",
-        Some(Reason::Break),
-    ),
-    (b"\r\r\n", Some(Reason::Break)),
-    (
-        b"\xEF\xBB\xBFN,A,b1,20240102-09:00:00,Z,B,100,10,\n",
-        Some(Reason::Break),
-    ),
-    (
-        b"N,A,b1,20240102-09:00:00,Z,B,100,10\n",
-        Some(Reason::Columns),
-    ),
-    (
-        b"N,A,b1,20240102-09:00:00,Z,B,100,10,,\n",
-        Some(Reason::Columns),
-    ),
-    (b" \n", Some(Reason::Columns)),
-    (b"\"\"\n", Some(Reason::Columns)),
-    (
-        b"n,A,b1,20240102-09:00:00,Z,B,100,10,\n",
-        Some(Reason::Column(1)),
-    ),
-    (b",,,,,,,,\n", Some(Reason::Column(1))),
-    (
-        b"NN,A,b1,20240102-09:00:00,Z,B,100,10,\n",
-        Some(Reason::Column(1)),
-    ),
-    (
-        b"N,,b1,20240102-09:00:00,Z,B,100,10,\n",
-        Some(Reason::Column(2)),
-    ),
-    (
-        b"N,A,,20240102-09:00:00,Z,B,100,10,\n",
-        Some(Reason::Column(3)),
-    ),
-    (
-        b"N,A,b1,20241302-09:00:00,Z,B,100,10,\n",
-        Some(Reason::Column(4)),
-    ),
-    (
-        b"N,A,b1,20240102-09:00:00,,B,100,10,\n",
-        Some(Reason::Column(5)),
-    ),
-    (
-        b"N,A,b1,20240102-09:00:00,Z,b,100,10,\n",
-        Some(Reason::Column(6)),
-    ),
-    (
-        b"N,A,b1,20240102-09:00:00,Z,B,0,10,\n",
-        Some(Reason::Column(7)),
-    ),
-    (
-        b"N,A,b1,20240102-09:00:00,Z,B,100,-1,\n",
-        Some(Reason::Column(8)),
-    ),
-    (
-        b"N,A,b1,20240102-09:00:00,Z,B,100,10,b0\n",
-        Some(Reason::Column(9)),
-    ),
-    (b"N,A,b1,20240102-09:00:00,Z,B,1000000000000,10,\n", None),
-    (
-        b"N,A,b1,20240102-09:00:00,Z,B,100.5,10,\n",
-        Some(Reason::Column(7)),
-    ),
-    (
-        b"N,A,b1,20240102-09:00:00,Z,B,1,9999999999.99999999,\n",
-        None,
-    ),
-    (
-        b"N,A,b1,20240102-09:00:00,Z,B,1,10000000000,\n",
-        Some(Reason::Column(8)),
-    ),
-    (b"I,A,b1,20240102-09:00:00,Z,S,100,10,\n", None),
-    (
-        b"I,A,b1,20240102-09:00:00,Z,S,100,,\n",
-        Some(Reason::Column(8)),
-    ),
-    (b"M,A,b1,20240102-09:00:00,Z,S,100,,\n", None),
-    (
-        b"M,A,b1,20240102-09:00:00,Z,S,100,10,\n",
-        Some(Reason::Column(8)),
-    ),
-    (
-        b"M,A,b1,20240102-09:00:00,Z,S,100,,b0\n",
-        Some(Reason::Column(9)),
-    ),
-    (b"X,A,x1,20240102-09:00:00,Z,,,,b1\n", None),
-    (
-        b"X,A,x1,20240102-09:00:00,Z,B,,,b1\n",
-        Some(Reason::Column(6)),
-    ),
-    (
-        b"X,A,x1,20240102-09:00:00,Z,,100,,b1\n",
-        Some(Reason::Column(7)),
-    ),
-    (
-        b"X,A,x1,20240102-09:00:00,Z,,,10,b1\n",
-        Some(Reason::Column(8)),
-    ),
-    (b"X,A,x1,20240102-09:00:00,Z,,,,\n", Some(Reason::Column(9))),
-    (b"R,A,r1,20240102-09:00:00,Z,B,100,10,b1\n", None),
-    (
-        b"R,A,r1,20240102-09:00:00,Z,B,100,,b1\n",
-        Some(Reason::Column(8)),
-    ),
-    (
-        b"R,A,r1,20240102-09:00:00,Z,B,100,10,\n",
-        Some(Reason::Column(9)),
-    ),
-    (
-        b"R,A,r1,20240102-09:00:00,Z,B,,10,b1\n",
-        Some(Reason::Column(7)),
-    ),
-];
-
-#[test]
-fn each_test_of_a_line_is_made_in_its_order(rt: HostRuntime) {
-    for &(line, want) in &LINES {
-        assert_eq!(rt; reason_of(&rt, rt.alloc(), line), want, "{:?}", line);
-    }
-}
-
-#[test]
-fn trade_lines_name_the_first_column_that_is_out_of_form(rt: HostRuntime) {
-    let lines: [&[u8]; 9] = [
-        b",20240102-09:00:01,Z,A,b1,B,s1,100,9.5\n",
-        b"T1,2024,Z,A,b1,B,s1,100,9.5\n",
-        b"T1,20240102-09:00:01,,A,b1,B,s1,100,9.5\n",
-        b"T1,20240102-09:00:01,Z,,b1,B,s1,100,9.5\n",
-        b"T1,20240102-09:00:01,Z,A,,B,s1,100,9.5\n",
-        b"T1,20240102-09:00:01,Z,A,b1,,s1,100,9.5\n",
-        b"T1,20240102-09:00:01,Z,A,b1,B,,100,9.5\n",
-        b"T1,20240102-09:00:01,Z,A,b1,B,s1,0,9.5\n",
-        b"T1,20240102-09:00:01,Z,A,b1,B,s1,100,9.\n",
-    ];
-    let mut column = 0u8;
-    for &line in &lines {
-        let mut log = Vec::new(rt.alloc());
-        assert!(rt; log.extend_from_slice(TRADES).is_ok());
-        assert!(rt; log.extend_from_slice(line).is_ok());
-        assert!(rt; log.len() < 1000 && column < 9);
-        column += 1;
-        let bad = place(2, 108, Reason::Column(column));
-        assert_eq!(rt; bad_place(&rt, csv_trades_of(rt.alloc(), &log)), bad);
-        assert_eq!(rt;
-            bad_place(&rt, count_of::<TradeRecord>(rt.alloc(), &log)),
-            bad
-        );
-    }
+fn a_bad_line_is_told_whether_records_are_made_or_only_tested(rt: HostRuntime) {
+    let bad = BadPlace {
+        place: 1,
+        offset: 52,
+        reason: Reason::Column(7),
+    };
+    assert!(rt; BAD_LOG.len() < 1000);
+    let Err(LogFault::Bad(made)) = csv_orders_of(rt.alloc(), BAD_LOG) else {
+        panic!(rt; "a good log");
+    };
+    let Err(LogFault::Bad(tested)) = count_of::<OrderRecord>(rt.alloc(), BAD_LOG) else {
+        panic!(rt; "a good log");
+    };
+    assert_eq!(rt; (made, tested), (bad, bad));
 }
 
 /// Feeds a log in pieces of this size.
@@ -492,22 +220,6 @@ fn a_feed_made_by_a_literal_goes_on_within_a_line(rt: HostRuntime) -> Result<(),
     feed.feed(&ORDERS[95..])?;
     let orders = feed.finish()?;
     assert_eq!(rt; orders.as_slice(), [buyer(&rt), seller(&rt)].as_slice());
-    Ok(())
-}
-
-/// Row `convert-canonical`.
-#[test]
-fn written_lines_are_canonical(rt: HostRuntime) -> Result<(), Fail> {
-    let read = csv_orders_of(
-        rt.alloc(),
-        b"kind,firm,id,time,symbol,side,quantity,price,target\nN,A,b1,20240102-09:00:00.100,Z,B,00100.0,010.50,\n",
-    )?;
-    let mut out = Vec::new(rt.alloc());
-    write_orders(rt.alloc(), &read, &mut out)?;
-    assert_eq!(rt;
-        out.as_slice(),
-        b"kind,firm,id,time,symbol,side,quantity,price,target\nN,A,b1,20240102-09:00:00.100,Z,B,100,10.5,\n".as_slice()
-    );
     Ok(())
 }
 

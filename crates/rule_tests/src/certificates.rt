@@ -1,5 +1,5 @@
-//! The certificate of a staircase of orders, and texts that are wrong in one line each. An order is
-//! written as its side (B, S) and its limit in currency units, and each has the quantity 1.
+//! The certificate of a staircase of orders. An order is written as its side (B, S) and its limit in
+//! currency units, and each has the quantity 1.
 ghost use Rattle.audit_base.specs.Deals.{IsDealList};
 
 use crate::records::{deals_of, history_of, new_order, new_trade, price_in, symbol};
@@ -7,7 +7,6 @@ use audit_base::orders::Deal;
 use audit_base::records::{OrderRecord, TradeRecord};
 use audit_base::terms::{Life, Rule, Side};
 use audit_certificate::certifying::certify;
-use audit_certificate::faults::VerifyFault;
 use audit_certificate::verifying::verify;
 use instruction_history::history::History;
 use std::process::Abort;
@@ -69,14 +68,6 @@ fn text_of<R: AllocGlobal + Abort>(rt: &R, lines: &[&str]) -> Vec<u8> {
     text
 }
 
-/// What the verification of a text answers.
-fn answer<R: AllocGlobal + Abort>(rt: &R, bytes: &[u8]) -> Result<Rule, VerifyFault> {
-    let history = staircase(rt);
-    let deals = two_deals(rt, &history);
-    assert!(rt; bytes.len() <= 67_108_864);
-    verify(rt.alloc(), &symbol(rt), &history.orders(), &deals, bytes)
-}
-
 /// The certificate of the deals, which a text shows to conform to the uniform rule.
 fn certificate<R: AllocGlobal + Abort>(
     rt: &R,
@@ -104,49 +95,4 @@ fn the_certificate_of_a_staircase(rt: HostRuntime) {
     let wanted = text_of(&rt, &LINES);
     let text = certificate(&rt, &history, &two_deals(&rt, &history), &wanted);
     assert_eq!(rt; text.as_slice(), wanted.as_slice());
-}
-
-/// The number of a line, what is in its place, and the number of the line that is refused.
-const WRONG: [(usize, &str, u32); 14] = [
-    (1, "certificate,maximum,Z", 2),
-    (1, "certificate,fair,Z", 1),
-    (1, "certificate,uniform,Y", 1),
-    (1, "certificate,uniform,Z\r", 1),
-    (2, "bound,1,2", 2),
-    (2, "bound,1.000000010,2", 2),
-    (2, "bound,1.00000001,3", 2),
-    (2, "bound,1.00000001,02", 2),
-    (3, "last,buy,1", 3),
-    (3, "last,buy,none", 3),
-    (4, "last,sell,4", 4),
-    (5, "order,01,0", 5),
-    (7, "order,3,2", 7),
-    (10, "order,6,0\norder,7,0", 11),
-];
-
-#[test]
-fn the_first_wrong_line_is_told(rt: HostRuntime) {
-    for &(number, line, refused) in &WRONG {
-        let mut lines = LINES;
-        lines[number - 1] = line;
-        let told = answer(&rt, &text_of(&rt, &lines));
-        assert_eq!(rt; told, Err(VerifyFault::No(refused)), "{line}");
-    }
-}
-
-#[test]
-fn a_line_is_missing_or_not_ended(rt: HostRuntime) {
-    let text = text_of(&rt, &LINES);
-    let size = text.len();
-    assert!(rt; size > 10);
-    assert_eq!(rt; answer(&rt, &text[..size - 1]), Err(VerifyFault::No(10)));
-    assert_eq!(rt; answer(&rt, &text[..size - 10]), Err(VerifyFault::No(10)));
-    assert_eq!(rt; answer(&rt, &text[..0]), Err(VerifyFault::No(1)));
-}
-
-#[test]
-fn any_price_that_shows_the_volume_passes(rt: HostRuntime) {
-    let mut lines = LINES;
-    lines[1] = "bound,2,2";
-    assert_eq!(rt; answer(&rt, &text_of(&rt, &lines)), Ok(Rule::Uniform));
 }

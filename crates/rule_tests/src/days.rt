@@ -1,10 +1,8 @@
-//! Days over few orders. Most begin with a bid of 5 at 10 and an ask of 3 at 9 in a call, which
-//! leaves 2 of the bid.
+//! A day of a bid of 5 at 10 and an ask of 3 at 9 in a call, which leaves 2 of the bid, and an ask
+//! that meets it.
 ghost use Rattle.session_audit.specs.Phases.{ArePhases};
 
-use crate::records::{
-    deals_of, history_of, new_order, new_trade, price_in, replacement_of, symbol,
-};
+use crate::records::{deals_of, history_of, new_order, new_trade, price_in, symbol};
 use audit_base::findings::{Finding, Property};
 use audit_base::records::{OrderRecord, TradeRecord};
 use audit_base::terms::{Life, Side, Which};
@@ -30,18 +28,6 @@ const PHASES: [Phase; 2] = [
 fn order(rt: &impl Abort, id: u8, side: Side, quantity: u64, limit: &[u8]) -> OrderRecord {
     let price = price_in(rt, limit);
     new_order(rt, &[id], side, quantity, price, Life::Rests)
-}
-
-/// The same with the life of an immediate order.
-fn immediate(rt: &impl Abort, id: u8, side: Side, quantity: u64, limit: &[u8]) -> OrderRecord {
-    let price = price_in(rt, limit);
-    new_order(rt, &[id], side, quantity, price, Life::Immediate)
-}
-
-/// The replacement with this digit as its id of the bid with that one.
-fn replacement(rt: &impl Abort, id: u8, target: u8, quantity: u64, limit: &[u8]) -> OrderRecord {
-    let price = price_in(rt, limit);
-    replacement_of(rt, &[id], &[target], Side::Buy, quantity, price)
 }
 
 /// A trade between the bid and the ask with these digits as their ids.
@@ -149,75 +135,4 @@ fn two_phase_spread(rt: HostRuntime) {
     let trades = [trade(&rt, b'1', b'2', 3, b"9.5")];
     let found = offence(&rt, &day_orders(&rt), &trades);
     assert_eq!(rt; found, (Property::Spread, Which::Orders, 3));
-}
-
-#[test]
-fn carried_order_overfilled(rt: HostRuntime) {
-    let trades = [
-        trade(&rt, b'1', b'2', 3, b"9.5"),
-        trade(&rt, b'1', b'3', 4, b"10"),
-    ];
-    let found = offence(&rt, &day_orders(&rt), &trades);
-    assert_eq!(rt; found, (Property::BuyQuantity, Which::Trades, 2));
-}
-
-#[test]
-fn an_immediate_order_in_a_call(rt: HostRuntime) {
-    let entries = [
-        order(&rt, b'1', Side::Buy, 5, b"10"),
-        immediate(&rt, b'2', Side::Sell, 3, b"9"),
-    ];
-    let found = offence(&rt, &entries, &[]);
-    assert_eq!(rt; found, (Property::InstantOrder, Which::Orders, 2));
-}
-
-#[test]
-fn a_replacement_of_an_order_that_a_call_partly_filled(rt: HostRuntime) {
-    let entries = [
-        order(&rt, b'1', Side::Buy, 5, b"10"),
-        order(&rt, b'2', Side::Sell, 3, b"9"),
-        replacement(&rt, b'3', b'1', 5, b"10"),
-        order(&rt, b'4', Side::Sell, 4, b"10"),
-    ];
-    let trades = [
-        trade(&rt, b'1', b'2', 3, b"9.5"),
-        trade(&rt, b'3', b'4', 3, b"10"),
-    ];
-    let found = offence(&rt, &entries, &trades);
-    assert_eq!(rt; found, (Property::BuyQuantity, Which::Trades, 2));
-}
-
-/// Two calls with continuous trading between them.
-const THREE_PHASES: [Phase; 3] = [
-    Phase {
-        kind: PhaseKind::Uniform,
-        first: 1,
-    },
-    Phase {
-        kind: PhaseKind::Continuous,
-        first: 3,
-    },
-    Phase {
-        kind: PhaseKind::Maximum,
-        first: 4,
-    },
-];
-
-#[test]
-fn an_order_carried_over_three_phases(rt: HostRuntime) {
-    let entries = [
-        order(&rt, b'1', Side::Buy, 5, b"10"),
-        order(&rt, b'2', Side::Sell, 3, b"9"),
-        order(&rt, b'3', Side::Sell, 1, b"10"),
-        order(&rt, b'4', Side::Sell, 4, b"9"),
-    ];
-    let trades = [
-        trade(&rt, b'1', b'2', 3, b"9.5"),
-        trade(&rt, b'1', b'3', 1, b"10"),
-        trade(&rt, b'1', b'4', 1, b"9"),
-    ];
-    let text = text_of(&rt, &THREE_PHASES, &entries, &trades);
-    let wanted = "session,Z,uniform@1,continuous@3,maximum@4\ntotals,4,3,5\n\
-                  order,1,5\norder,2,3\norder,3,1\norder,4,1\n";
-    assert_eq!(rt; text.as_slice(), wanted.as_bytes());
 }

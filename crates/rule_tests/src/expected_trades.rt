@@ -1,5 +1,4 @@
-//! Small order lists with the Expected trades of `uniform` and `maximum`, which their audits
-//! accept.
+//! An order list with the Expected trades of `uniform` and `maximum`, which their audits accept.
 use crate::records::{history_of, new_order, price_of};
 use audit_base::orders::Deal;
 use audit_base::records::OrderRecord;
@@ -57,22 +56,6 @@ const LADDER: [Row; 6] = [
     (Side::Sell, 1, 3),
 ];
 
-const CROSSED: [Row; 4] = [
-    (Side::Buy, 1, 10),
-    (Side::Buy, 1, 6),
-    (Side::Sell, 1, 5),
-    (Side::Sell, 1, 9),
-];
-
-/// Orders whose last lot is cut, with asks that rank 3, 2, 4.
-const SPLIT: [Row; 5] = [
-    (Side::Buy, 5, 10),
-    (Side::Buy, 4, 9),
-    (Side::Sell, 2, 3),
-    (Side::Sell, 3, 2),
-    (Side::Sell, 9, 4),
-];
-
 /// The volume and the bound with which the audit of the Expected trades accepts them, once they
 /// are the trades of the case.
 fn bound_of_expected<R: AllocGlobal + Abort>(
@@ -107,31 +90,13 @@ fn bound_of_expected<R: AllocGlobal + Abort>(
 /// A case: the rule, the orders, their Expected trades, the volume and its bound.
 type Case = (VolumeRule, &'static [Row], &'static [Trade], u128, u64);
 
-const CASES: [Case; 8] = [
-    (Uniform, &[], &[], 0, 0),
+const CASES: [Case; 2] = [
     (Uniform, &LADDER, &[(1, 4, 1, 2), (2, 3, 1, 2)], 2, 2),
-    (Uniform, &CROSSED, &[(0, 2, 1, 5)], 1, 5),
-    (
-        Uniform,
-        &SPLIT,
-        &[(0, 2, 2, 4), (0, 3, 3, 4), (1, 4, 4, 4)],
-        9,
-        4,
-    ),
-    (Maximum, &[], &[], 0, 0),
     (
         Maximum,
         &LADDER,
         &[(0, 3, 1, 1), (1, 4, 1, 2), (2, 5, 1, 3)],
         3,
-        0,
-    ),
-    (Maximum, &CROSSED, &[(0, 3, 1, 9), (1, 2, 1, 5)], 2, 0),
-    (
-        Maximum,
-        &SPLIT,
-        &[(0, 2, 1, 3), (0, 4, 4, 4), (1, 2, 1, 3), (1, 3, 3, 2)],
-        9,
         0,
     ),
 ];

@@ -84,16 +84,6 @@ pub(crate) fn replacement_of(
     }
 }
 
-/// A cancel of the order with the second id.
-pub(crate) fn cancel_of(rt: &impl Abort, id: &[u8], target: &[u8]) -> OrderRecord {
-    OrderRecord::Cancel {
-        key: key(rt, id),
-        time: TIME,
-        symbol: symbol(rt),
-        target: name(rt, target),
-    }
-}
-
 /// A trade between the orders with the second and the third id.
 pub(crate) fn new_trade(
     rt: &impl Abort,

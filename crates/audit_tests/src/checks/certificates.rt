@@ -1,6 +1,5 @@
 //! Rows of `verify`, whose certificate is a third log.
 use crate::checks::answers::{RowFault, answer_of};
-use crate::checks::inputs::log_of;
 use crate::checks::rows::{Row, check_answer, memory_shelf};
 use audit_base::faults::NoMemory;
 use log_source::memory_shelf::MemoryShelf;
@@ -8,13 +7,6 @@ use std::alloc::Global;
 
 /// The words of such a row.
 pub(crate) const VERIFY: &str = "verify Z orders trades certificate";
-
-/// A row with the certificate that is there under the name `certificate`.
-#[derive(Clone, Copy)]
-pub(crate) struct CertificateRow {
-    pub(crate) row: Row,
-    pub(crate) certificate: &'static str,
-}
 
 /// The shelf of a row with this certificate.
 fn certificate_shelf(
@@ -36,13 +28,4 @@ pub(crate) fn check_certificate(
     let mut shelf = certificate_shelf(alloc, row, certificate)?;
     let answered = answer_of(alloc, row.words, &mut shelf)?;
     check_answer(alloc, row, 0, &answered)
-}
-
-/// Checks each of these rows.
-pub(crate) fn check_certificates(alloc: Global, rows: &[CertificateRow]) -> Result<(), RowFault> {
-    for row in rows {
-        let certificate = log_of(alloc, &[row.certificate])?;
-        check_certificate(alloc, &row.row, certificate)?;
-    }
-    Ok(())
 }

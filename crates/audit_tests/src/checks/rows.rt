@@ -68,14 +68,6 @@ fn check_row(alloc: Global, row: &Row, piece: usize) -> Result<(), RowFault>
     check_answer(alloc, row, piece, &answered)
 }
 
-/// Checks each of these rows over logs that come in one piece.
-pub(crate) fn check_rows(alloc: Global, rows: &[Row]) -> Result<(), RowFault> {
-    for row in rows {
-        check_row(alloc, row, 65_536)?;
-    }
-    Ok(())
-}
-
 /// Checks a row over logs in pieces of every size from 1 to this.
 fn check_pieces(alloc: Global, row: &Row, largest: usize) -> Result<(), RowFault> {
     for piece in 1..=largest {

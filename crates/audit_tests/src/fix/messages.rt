@@ -7,17 +7,9 @@ pub(crate) const BID: &str =
 pub(crate) const ASK: &str =
     "8=FIX.4.4|9=63|35=D|49=B|11=2|60=20240102-09:00:01|55=Z|54=2|38=100|40=2|44=9|10=108|";
 
-/// A market order with the key of the bid.
-pub(crate) const MARKET_BID: &str =
-    "8=FIX.4.4|9=64|35=D|49=A|11=1|60=20240102-09:00:00|55=Z|54=1|38=100|40=1|44=10|10=144|";
-
 /// The bid without its price.
 pub(crate) const NO_PRICE: &str =
     "8=FIX.4.4|9=58|35=D|49=A|11=1|60=20240102-09:00:00|55=Z|54=1|38=100|40=2|10=141|";
-
-/// The ask goes to 9.5.
-pub(crate) const REPLACEMENT: &str =
-    "8=FIX.4.4|9=70|35=G|49=B|11=3|60=20240102-09:00:02|55=Z|41=2|54=2|38=100|40=2|44=9.5|10=167|";
 
 /// A heartbeat, which is passed over.
 pub(crate) const HEARTBEAT: &str = "8=FIX.4.4|9=5|35=0|10=163|";
