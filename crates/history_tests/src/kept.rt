@@ -48,7 +48,7 @@ fn trade(rt: &impl Abort, row: &Trade) -> TradeRecord {
 /// Puts in an order record.
 fn keep_order(rt: &impl Abort, kept: &mut KeptOrders, text: &str, place: u32) {
     let entry = record(rt, text);
-    assert!(rt; entry.symbol() == kept.symbol());
+    assert!(rt; *entry.symbol() == kept.symbol());
     let stored = kept.push(&entry, place).is_ok();
     assert!(rt; stored);
 }
