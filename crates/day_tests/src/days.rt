@@ -56,23 +56,3 @@ fn each_symbol_has_the_lines_that_it_has_by_itself(rt: HostRuntime) {
             .as_slice()
     );
 }
-
-#[test]
-fn a_share_has_its_symbols_alone(rt: HostRuntime) {
-    let second = DayShare::of(2, 2).expect(&rt, "a share");
-    let text = text_of(&rt, second, ORDERS, TRADES);
-    assert_eq!(rt;
-        text.as_slice(),
-        b"day,1,0,1,matching\n\
-        Z,rejected,buy-quantity,trades,3\n\
-        Z,order,3,buy,A,b1,10,10,11\n"
-            .as_slice()
-    );
-}
-
-#[test]
-fn a_share_without_symbols_is_empty(rt: HostRuntime) {
-    let last = DayShare::of(4, 4).expect(&rt, "a share");
-    let text = text_of(&rt, last, ORDERS, TRADES);
-    assert_eq!(rt; text.as_slice(), b"day,0,0,0,matching\n".as_slice());
-}

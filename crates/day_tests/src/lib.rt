@@ -11,12 +11,6 @@ mod each_symbol;
 #[cfg(test)]
 mod large_days;
 #[cfg(test)]
-mod one_fix_log;
-#[cfg(test)]
-mod sessions;
-#[cfg(test)]
 mod symbol_names;
-#[cfg(test)]
-mod symbol_order;
 #[cfg(test)]
 mod two_logs;

@@ -15,7 +15,7 @@ ghost use Rattle.stderr_notes.specs.ProgramAnswers.{AnswersCommandLine, AnswersF
 mod calls;
 pub mod ends;
 mod notes;
-mod pictures;
+pub mod pictures;
 
 use crate::calls::{EndedCall, ask_call};
 use crate::ends::{DeskEnd, exit_code};

@@ -13,7 +13,7 @@ use rule_drawing::pictures::rule_picture;
 use std::alloc::Global;
 
 /// The pictures of `rule_drawing`.
-pub(crate) struct RulePictures;
+pub struct RulePictures;
 
 impl Drawing for RulePictures {
     ghost use Rattle.rule_drawing.specs.RulePictures.{IsRulePicture};

@@ -1,4 +1,5 @@
-//! Both logs of a small day, cut at every length, in pieces of every size from 1 to 64.
+//! Both logs of a small day, and a log whose contents are asked for, cut at every length, in pieces
+//! of every size from 1 to 64.
 use crate::checks::cuts::{Cut, CutLogs, check_cuts};
 use crate::checks::inputs::{ORDERS, TRADES};
 use audit_base::terms::Which;
@@ -104,6 +105,51 @@ const TRADE_CUTS: CutLogs = CutLogs {
     ],
 };
 
+/// A heartbeat of 26 bytes, and an order up to byte 112.
+const CONTENTS_LOG: [&str; 2] = [
+    "8=FIX.4.4|9=5|35=0|10=163|",
+    "8=FIX.4.4|9=64|35=D|49=A|11=1|60=20240102-09:00:00|55=Z|54=1|38=100|40=2|44=10|10=145|",
+];
+
+/// A log that ends within a message is bad where that message begins.
+const CONTENTS_CUTS: CutLogs = CutLogs {
+    words: "contents orders trades --orders-form fix",
+    orders: &CONTENTS_LOG,
+    trades: &[TRADES],
+    which: Which::Orders,
+    cuts: &[
+        Cut {
+            last: 0,
+            status: 0,
+            report: "symbols,0\n",
+        },
+        Cut {
+            last: 25,
+            status: 3,
+            report: "malformed,orders,1,0,truncated\n",
+        },
+        Cut {
+            last: 26,
+            status: 0,
+            report: "orders,passed:35=0,1\nsymbols,0\n",
+        },
+        Cut {
+            last: 111,
+            status: 3,
+            report: "malformed,orders,1,26,truncated\n",
+        },
+        Cut {
+            last: 112,
+            status: 0,
+            report: "orders,passed:35=0,1
+orders,D,1
+symbols,1
+times,orders,20240102-09:00:00,20240102-09:00:00
+",
+        },
+    ],
+};
+
 #[test]
 fn an_order_log_of_a_day_cut_anywhere(rt: HostRuntime) -> Result<(), Fail> {
     Ok(check_cuts(rt.alloc(), &ORDER_CUTS)?)
@@ -112,4 +158,9 @@ fn an_order_log_of_a_day_cut_anywhere(rt: HostRuntime) -> Result<(), Fail> {
 #[test]
 fn a_trade_log_of_a_day_cut_anywhere(rt: HostRuntime) -> Result<(), Fail> {
     Ok(check_cuts(rt.alloc(), &TRADE_CUTS)?)
+}
+
+#[test]
+fn an_order_log_of_contents_cut_anywhere(rt: HostRuntime) -> Result<(), Fail> {
+    Ok(check_cuts(rt.alloc(), &CONTENTS_CUTS)?)
 }

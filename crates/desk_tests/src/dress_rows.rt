@@ -1,4 +1,4 @@
-//! Messages in each dress, behind anything, and with each length of the text for SOH.
+//! Messages in each dress, and behind anything.
 ghost use Rattle.std.specs.Prelude.{◌≤◌};
 
 use crate::checks::answers::{RowFault, answer_of};
@@ -214,57 +214,4 @@ fn check_each_before(alloc: Global) -> Result<(), RowFault> {
 #[test]
 fn a_message_behind_up_to_eighty_bytes(rt: HostRuntime) -> Result<(), Fail> {
     Ok(check_each_before(rt.alloc())?)
-}
-
-/// A day with a text for SOH, and what is written.
-#[derive(Clone, Copy)]
-struct SohRow {
-    words: &'static str,
-    day: &'static [u8],
-    text: &'static [u8],
-}
-
-/// Texts of one to five bytes. The value of the second message holds the text, which is seen by the
-/// length, and where it is one byte by the sum.
-const SOH_ROWS: [SohRow; 5] = [
-    SohRow {
-        words: "plain day --lines --soh |",
-        day: b"1 8=FIX.4.2|9=12|35=0|58=a b|10=093|\n2 8=FIX.4.2|9=12|35=0|58=a|b|10=185|\n",
-        text: b"8=FIX.4.4\x019=12\x0135=0\x0158=a b\x0110=095\x01\nmalformed,orders,2,39,checksum\n",
-    },
-    SohRow {
-        words: "plain day --lines --soh ^A",
-        day: b"1 8=FIX.4.2^A9=12^A35=0^A58=a b^A10=093^A\n2 8=FIX.4.2^A9=13^A35=0^A58=a^Ab^A10=221^A\n",
-        text: b"8=FIX.4.4\x019=12\x0135=0\x0158=a b\x0110=095\x01\nmalformed,orders,2,44,truncated\n",
-    },
-    SohRow {
-        words: "plain day --lines --soh SOH",
-        day: b"1 8=FIX.4.2SOH9=12SOH35=0SOH58=a bSOH10=093SOH\n2 8=FIX.4.2SOH9=14SOH35=0SOH58=aSOHbSOH10=041SOH\n",
-        text: b"8=FIX.4.4\x019=12\x0135=0\x0158=a b\x0110=095\x01\nmalformed,orders,2,49,truncated\n",
-    },
-    SohRow {
-        words: "plain day --lines --soh \\x01",
-        day: b"1 8=FIX.4.2\\x019=12\\x0135=0\\x0158=a b\\x0110=093\\x01\n2 8=FIX.4.2\\x019=15\\x0135=0\\x0158=a\\x01b\\x0110=117\\x01\n",
-        text: b"8=FIX.4.4\x019=12\x0135=0\x0158=a b\x0110=095\x01\nmalformed,orders,2,54,truncated\n",
-    },
-    SohRow {
-        words: "plain day --lines --soh <SOH>",
-        day: b"1 8=FIX.4.2<SOH>9=12<SOH>35=0<SOH>58=a b<SOH>10=093<SOH>\n2 8=FIX.4.2<SOH>9=16<SOH>35=0<SOH>58=a<SOH>b<SOH>10=165<SOH>\n",
-        text: b"8=FIX.4.4\x019=12\x0135=0\x0158=a b\x0110=095\x01\nmalformed,orders,2,59,truncated\n",
-    },
-];
-
-/// Checks each text for SOH in pieces of every size from 1 to 64.
-fn check_texts(alloc: Global) -> Result<(), RowFault> {
-    for row in &SOH_ROWS {
-        for piece in 1..=64 {
-            check_day(alloc, row.words, row.day, piece, 3, row.text)?;
-        }
-    }
-    Ok(())
-}
-
-#[test]
-fn a_value_that_holds_the_text_for_soh(rt: HostRuntime) -> Result<(), Fail> {
-    Ok(check_texts(rt.alloc())?)
 }

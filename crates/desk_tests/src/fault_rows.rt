@@ -2,7 +2,6 @@
 use crate::checks::faults::{ShelfRow, check_shelf_faults, check_sink_faults};
 use crate::checks::inputs::{ORDERS, TRADES};
 use crate::checks::rows::Row;
-use crate::day_rows::{TWO_SYMBOLS, TWO_TRADES};
 use std::test::Fail;
 
 /// The orders of one trade, in 125 bytes, and the trade, in 108.
@@ -101,6 +100,24 @@ sha256,trades,f544c800b95c6335be7ac53ba9a24b09ae0ef08fd8c1b0fc6fb07d6071dfbdfa
         order_calls: 7,
         calls: 13,
     },
+];
+
+/// Orders of Y and of Z.
+const TWO_SYMBOLS: [&str; 2] = [
+    ORDERS,
+    "N,A,y1,20240102-09:00:00,Y,B,5,7,
+N,B,y2,20240102-09:00:00,Y,S,5,7,
+N,A,b1,20240102-09:00:00,Z,B,10,10,
+N,B,s1,20240102-09:00:00,Z,S,20,9,
+",
+];
+
+/// The trade of Y conforms, and the bid of Z trades more than its quantity.
+const TWO_TRADES: [&str; 2] = [
+    TRADES,
+    "T1,20240102-09:00:01,Y,A,y1,B,y2,5,7
+T2,20240102-09:00:01,Z,A,b1,B,s1,11,9
+",
 ];
 
 /// A text of each status but that of a log that is too long.

@@ -1,9 +1,8 @@
-//! Logs that `orders` and `convert` write: in both forms, over the ends of blocks, and where a log
-//! is bad or a call fails.
+//! Logs that `orders` and `convert` write: over the ends of blocks, and where a call fails.
 use crate::checks::answers::{RowFault, answer_into};
 use crate::checks::faults::{ShelfRow, check_rooms, check_shelf_faults, check_sink_faults};
-use crate::checks::inputs::{ORDERS, TRADES};
-use crate::checks::rows::{Row, check_rows};
+use crate::checks::inputs::ORDERS;
+use crate::checks::rows::Row;
 use audit_base::faults::NoMemory;
 use log_source::memory_sink::MemorySink;
 use log_source::quiet_shelf::QuietShelf;
@@ -15,8 +14,6 @@ const TWO_ORDERS: [&str; 2] = [
     ORDERS,
     "N,A,1,20240102-09:00:00,Z,B,100,10,\nN,B,2,20240102-09:00:01,Z,S,100,9,\n",
 ];
-
-const ONE_TRADE: [&str; 2] = [TRADES, "T1,20240102-09:00:02,Z,A,1,B,2,100,9.5\n"];
 
 const ONE_TRADE_TEXT: &str = "trade,time,symbol,buy_firm,buy_id,sell_firm,sell_id,quantity,price
 T1,20240102-09:00:02,Z,A,1,B,2,100,9.5
@@ -100,113 +97,6 @@ const BAD_LINE: Row = Row {
     report: "malformed,orders,2,88,value:price\n",
 };
 
-/// `there-and-back`, in both directions, and what is not canonical made so.
-const CONVERTED: [Row; 12] = [
-    ORDERS_INTO_FIX,
-    Row {
-        name: "orders out of FIX",
-        words: "convert orders fix orders csv",
-        orders: &[TWO_MESSAGES],
-        trades: &[],
-        status: 0,
-        report: "kind,firm,id,time,symbol,side,quantity,price,target
-N,A,1,20240102-09:00:00,Z,B,100,10,
-N,B,2,20240102-09:00:01,Z,S,100,9,
-",
-    },
-    Row {
-        name: "messages of an exchange into messages of our own",
-        words: "convert orders fix orders fix",
-        orders: &[
-            "8=FIX.4.4|9=5|35=0|10=163|\r\n",
-            "8=FIX.4.4|9=64|35=D|49=A|11=1|60=20240102-09:00:00|55=Z|54=1|38=100|40=2|44=10|10=145|\n",
-            "8=FIX.4.4|9=63|35=D|49=B|11=2|60=20240102-09:00:01|55=Z|54=2|38=100|40=2|44=9|10=108|",
-        ],
-        trades: &[],
-        status: 0,
-        report: TWO_MESSAGES,
-    },
-    Row {
-        name: "lines that are not canonical",
-        words: "convert orders csv orders csv",
-        orders: &[
-            "kind,firm,id,time,symbol,\"side\",quantity,price,target\r\n\n",
-            "N,A,m,20240102-09:00:00,Z,B,0100.0,010.50,\r\nX,A,c,20240102-09:00:01.000,Z,,,,m",
-        ],
-        trades: &[],
-        status: 0,
-        report: "kind,firm,id,time,symbol,side,quantity,price,target
-N,A,m,20240102-09:00:00,Z,B,100,10.5,
-X,A,c,20240102-09:00:01,Z,,,,m
-",
-    },
-    Row {
-        name: "each kind of record into FIX",
-        words: "convert orders csv orders fix",
-        orders: &[
-            ORDERS,
-            "M,A,m,20240102-09:00:00.120,Z,B,5,,\n",
-            "I,A,i,20240102-09:00:01,Z,S,7,0.5,\n",
-            "X,A,c,20240102-09:00:02,Z,,,,r\n",
-            "R,A,g,20240102-09:00:03,Z,B,9,10.25,r\n",
-        ],
-        trades: &[],
-        status: 0,
-        report: "8=FIX.4.4\x019=72\x0135=D\x0149=A\x0156=EXCHANGE\x0111=m\x0160=20240102-09:00:00.120\
-             \x0155=Z\x0154=1\x0138=5\x0140=1\x0110=021\x018=FIX.4.4\x019=80\x0135=D\x0149=A\x01\
-             56=EXCHANGE\x0111=i\x0160=20240102-09:00:01\x0155=Z\x0154=2\x0138=7\x0140=2\x0144=0.5\
-             \x0159=3\x0110=108\x018=FIX.4.4\x019=58\x0135=F\x0149=A\x0156=EXCHANGE\x0111=c\x01\
-             60=20240102-09:00:02\x0155=Z\x0141=r\x0110=222\x018=FIX.4.4\x019=82\x0135=G\x0149=A\x01\
-             56=EXCHANGE\x0111=g\x0160=20240102-09:00:03\x0155=Z\x0141=r\x0154=1\x0138=9\x0140=2\x01\
-             44=10.25\x0110=011\x01",
-    },
-    Row {
-        name: "trades into FIX",
-        words: "convert trades csv trades fix",
-        orders: &[],
-        trades: &ONE_TRADE,
-        status: 0,
-        report: TWO_REPORTS,
-    },
-    TRADES_OUT_OF_FIX,
-    Row {
-        name: "a log of no orders",
-        words: "convert orders csv orders fix",
-        orders: &[ORDERS],
-        trades: &[],
-        status: 0,
-        report: "",
-    },
-    BAD_LINE,
-    Row {
-        name: "a report without its partner",
-        words: "convert trades fix trades fix",
-        orders: &[],
-        trades: &[
-            "8=FIX.4.4|9=78|35=8|49=X|56=A|11=1|150=F|527=T1|55=Z|54=1|32=100|31=9.5|\
-             60=20240102-09:00:02|10=101|",
-        ],
-        status: 1,
-        report: "rejected,unpaired,trades,1\n",
-    },
-    Row {
-        name: "a bad message of trades",
-        words: "convert trades fix trades csv",
-        orders: &[],
-        trades: &["8=FIX.4.4|9=5|35=0|10=163|8=FIX.4.4|9=5|35=0|10=164|"],
-        status: 3,
-        report: "malformed,trades,1,26,checksum\n",
-    },
-    Row {
-        name: "a log that is not there",
-        words: "convert trades csv other fix",
-        orders: &[],
-        trades: &ONE_TRADE,
-        status: 4,
-        report: "readfault,trades\n",
-    },
-];
-
 /// A log of 123 bytes: it is started, read in five pieces of at most 30 bytes, and read to its end.
 const SHELF_ROWS: [ShelfRow; 1] = [ShelfRow {
     row: ORDERS_INTO_FIX,
@@ -245,14 +135,8 @@ fn check_there_and_back(alloc: Global) -> Result<bool, NoMemory> {
 
 #[test]
 fn generated_logs_in_both_forms(rt: HostRuntime) -> Result<(), Fail> {
-    check_rows(rt.alloc(), &[TWO_GENERATED, TEN_GENERATED])?;
     assert!(rt; check_there_and_back(rt.alloc())?);
     Ok(())
-}
-
-#[test]
-fn converted_logs_in_pieces_of_every_size(rt: HostRuntime) -> Result<(), Fail> {
-    Ok(check_rows(rt.alloc(), &CONVERTED)?)
 }
 
 #[test]

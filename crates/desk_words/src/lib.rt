@@ -18,8 +18,4 @@ mod offence_words;
 mod options;
 pub mod requests;
 mod share_words;
-#[cfg(test)]
-mod text_rows;
 pub mod texts;
-#[cfg(test)]
-mod word_rows;

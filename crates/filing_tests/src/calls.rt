@@ -16,21 +16,14 @@ use log_source::memory_sink::MemorySink;
 use std::alloc::Global;
 use std::process::Abort;
 
-/// The logs of the tests by their names: the orders of one trade, the same with a price in another
-/// form, and those of two symbols; the trade log, one of another price, and one with a lone report;
-/// an order log and a trade log without records, and a log in no grammar.
-const LOGS: [(&str, &str); 9] = [
+/// The logs of the tests by their names: the orders of one trade, and those of two symbols; the trade
+/// log, one of another price, and one with a lone report; a trade log without records, and a log in
+/// no grammar.
+const LOGS: [(&str, &str); 7] = [
     (
         "o",
         "kind,firm,id,time,symbol,side,quantity,price,target
 N,A,b1,20240102-09:00:00,Z,B,100,10,
-N,B,s1,20240102-09:00:00,Z,S,100,9,
-",
-    ),
-    (
-        "o10",
-        "kind,firm,id,time,symbol,side,quantity,price,target
-N,A,b1,20240102-09:00:00,Z,B,100,10.0,
 N,B,s1,20240102-09:00:00,Z,S,100,9,
 ",
     ),
@@ -59,11 +52,6 @@ T1,20240102-09:00:01,Z,A,b1,B,s1,100,8
         "lone",
         "8=FIX.4.4\x019=78\x0135=8\x0149=X\x0156=A\x0111=1\x01150=F\x01527=T1\x0155=Z\x0154=1\x0132=100\x0131=9.5\x01\
 60=20240102-09:00:02\x0110=101\x01",
-    ),
-    (
-        "n",
-        "kind,firm,id,time,symbol,side,quantity,price,target
-",
     ),
     (
         "e",
@@ -203,19 +191,4 @@ pub(crate) fn assert_call<R: AllocGlobal + Abort>(
     assert_eq!(rt; came.status.number(), number, "{}", call.line);
     assert_eq!(rt; came.out.bytes(), lines, "{}", call.line);
     Ok(())
-}
-
-/// Asserts that a call with these words answers this status with these lines, over a database that
-/// has the case which another call leaves under a label.
-pub(crate) fn assert_call_over<R: AllocGlobal + Abort>(
-    rt: &R,
-    filing: &Call,
-    label: &[u8],
-    line: &'static str,
-    number: u8,
-    lines: &[u8],
-) -> Result<(), CallFault> {
-    let kept = kept_under(rt.alloc(), filing, label)?;
-    let call = Call::of(line).over(kept);
-    Ok(assert_call(rt, &call, number, lines)?)
 }

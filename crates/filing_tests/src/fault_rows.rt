@@ -1,5 +1,5 @@
 //! Each call of shelf, opener, keeper and sink fails in turn.
-use crate::calls::{Call, assert_call, kept_after, make_call};
+use crate::calls::{Call, CallFault, assert_call, kept_after, make_call};
 use audit_base::faults::NoMemory;
 use std::alloc::Global;
 use std::test::Fail;
@@ -64,5 +64,23 @@ fn a_write_that_fails(rt: HostRuntime) -> Result<(), Fail> {
     };
     assert_call(&rt, &failing, 5, b"")?;
     kept_after(rt.alloc(), &failing)?;
+    Ok(())
+}
+
+// The label is looked for, and then the case is filed.
+#[test]
+fn each_call_of_the_keeper_files_the_case_or_none(rt: HostRuntime) -> Result<(), Fail> {
+    for keeper_fails in 1..3 {
+        let failing = Call {
+            keeper_fails,
+            ..Call::of(FILE)
+        };
+        assert_call(&rt, &failing, 8, b"keeperfault\n")?;
+        let kept = kept_after(rt.alloc(), &failing);
+        assert!(rt;
+            matches!(&kept, Err(CallFault::NotOnFile)),
+            "{keeper_fails}"
+        );
+    }
     Ok(())
 }

@@ -1,46 +1,8 @@
-//! Rows of `file-all`. The label of a symbol has at most 64 bytes.
-use crate::calls::{Call, CallFault, assert_call, assert_call_over, kept_under, make_call};
+//! Rows of `file-all` over a database that fails. The label of a symbol has at most 64 bytes.
+use crate::calls::{Call, CallFault, assert_call, kept_under, make_call};
 use std::test::Fail;
 
 const FILING: &str = "file-all d c1 matching o2 e";
-
-const BOTH: &str = "case,c1/Y,matching,Y,accepted
-case,c1/Z,matching,Z,accepted
-";
-
-/// Words, the status and the lines.
-const FILED: [(&str, u8, &str); 5] = [
-    (FILING, 0, BOTH),
-    (
-        "file-all d c1 uniform o2 e",
-        0,
-        "case,c1/Y,uniform,Y,volume,trades,1
-case,c1/Z,uniform,Z,volume,trades,1
-",
-    ),
-    (
-        "file-all d c1 matching n t",
-        0,
-        "case,c1/Z,matching,Z,unknown-order,trades,1
-",
-    ),
-    ("file-all d c1 matching n e", 0, ""),
-    (
-        "file-all d llllllllllllllllllllllllllllllllllllllllllllllllllllllllllllll matching o2 e",
-        0,
-        "case,llllllllllllllllllllllllllllllllllllllllllllllllllllllllllllll/Y,matching,Y,accepted
-case,llllllllllllllllllllllllllllllllllllllllllllllllllllllllllllll/Z,matching,Z,accepted
-",
-    ),
-];
-
-#[test]
-fn a_case_for_each_symbol(rt: HostRuntime) -> Result<(), Fail> {
-    for &(line, number, lines) in &FILED {
-        assert_call(&rt, &Call::of(line), number, lines.as_bytes())?;
-    }
-    Ok(())
-}
 
 /// Words over a database that cannot be opened, with each of which the one after it would be
 /// refused too; the status and the lines.
@@ -84,13 +46,6 @@ fn refused_in_their_order(rt: HostRuntime) -> Result<(), Fail> {
         assert!(rt; make_call(rt.alloc(), &call)?.book.is_none());
     }
     Ok(())
-}
-
-#[test]
-fn one_known_label_files_nothing(rt: HostRuntime) -> Result<(), Fail> {
-    let again = "file-all d c1 uniform o2 e";
-    let known = b"known\ncase,c1/Z,matching,Z,accepted\n";
-    Ok(assert_call_over(&rt, &Call::of(FILING), b"c1/Z", again, 1, known)?)
 }
 
 // Each label is looked for, and then all are filed by one call.

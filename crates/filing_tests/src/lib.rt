@@ -10,6 +10,4 @@ mod fault_rows;
 #[cfg(test)]
 mod file_all_rows;
 #[cfg(test)]
-mod file_rows;
-#[cfg(test)]
 mod word_rows;

@@ -1,7 +1,7 @@
-//! A row, and the calls that check it.
+//! A row, its logs and what it wants.
 ghost use Rattle.std.specs.Prelude.{◌≤◌};
 
-use crate::checks::answers::{Answer, RowFault, answer_of};
+use crate::checks::answers::{Answer, RowFault};
 use crate::checks::inputs::log_of;
 use audit_base::faults::NoMemory;
 use log_source::memory_shelf::MemoryShelf;
@@ -48,29 +48,4 @@ pub(crate) fn check_answer(
     answered: &Answer,
 ) -> Result<(), RowFault> {
     answered.check(alloc, row.name, number, row.status, row.report.as_bytes())
-}
-
-/// Checks a row over logs that come at most `piece` bytes at a time.
-fn check_row(alloc: Global, row: &Row, piece: usize) -> Result<(), RowFault>
-    requires { 1 ≤ piece }
-{
-    let mut shelf = memory_shelf(alloc, row, piece, Vec::new(alloc))?;
-    let answered = answer_of(alloc, row.words, &mut shelf)?;
-    check_answer(alloc, row, piece, &answered)
-}
-
-/// Checks a row over logs in pieces of every size from 1 to 64.
-fn check_pieces(alloc: Global, row: &Row) -> Result<(), RowFault> {
-    for piece in 1..=64 {
-        check_row(alloc, row, piece)?;
-    }
-    Ok(())
-}
-
-/// Checks each of these rows over logs in pieces of every size from 1 to 64.
-pub(crate) fn check_rows(alloc: Global, rows: &[Row]) -> Result<(), RowFault> {
-    for row in rows {
-        check_pieces(alloc, row)?;
-    }
-    Ok(())
 }
