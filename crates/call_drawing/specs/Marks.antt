@@ -44,6 +44,6 @@ steps_of_side layout Buy = layout.bids
 steps_of_side layout Sell = layout.asks
 
 -- the mark of an order
-abbrev pub step_mark : List Order → CallLayout → List ℕ → OrderLine → List ℕ
-step_mark orders layout number line =
+abbrev pub step_mark : CallLayout → List Order → List ℕ → OrderLine → List ℕ
+step_mark layout orders number line =
     mark_on_side orders number line (steps_of_side layout line.side)

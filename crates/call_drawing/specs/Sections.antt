@@ -47,7 +47,7 @@ abbrev pub call_shapes : List Order → CallPicture → MarkedCall → CallLayou
 call_shapes orders numbers marked layout =
     axes_shapes layout.axes (codes "quantity, best orders first") ++ both_sides orders layout
     ++ call_lines numbers marked layout
-    ++ marks_of (step_mark orders layout) marked.orders ++ call_legend
+    ++ marks_of (step_mark layout orders) marked.orders ++ call_legend
 
 -- the section: the picture, and its caption
 abbrev pub call_section : List Order → CallPicture → MarkedCall → CallLayout → List ℕ

@@ -112,7 +112,7 @@ fn with_mark_on_side(
 impl MarkedPicture for CallLayout {
     ghost use Rattle.call_drawing.specs.Marks.{step_mark};
 
-    ghost order_mark = { λ layout orders number line. step_mark orders layout number line };
+    ghost order_mark = { step_mark };
 
     fn with_order_mark(
         &self,

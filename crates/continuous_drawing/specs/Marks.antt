@@ -34,6 +34,6 @@ lines_of_side layout Buy = layout.bids.items
 lines_of_side layout Sell = layout.asks.items
 
 -- the mark of an order, where it has a line
-abbrev pub book_mark : List Order → BookLayout → List ℕ → OrderLine → List ℕ
-book_mark orders layout number line =
+abbrev pub book_mark : BookLayout → List Order → List ℕ → OrderLine → List ℕ
+book_mark layout orders number line =
     flat_map (mark_at_line orders number line) (lines_of_side layout line.side)

@@ -69,7 +69,7 @@ abbrev pub book_shapes : List Order → MarkedTrading → BookLayout → List �
 book_shapes orders marked layout =
     flat_map (line_shapes orders Buy) layout.bids.items
     ++ flat_map (line_shapes orders Sell) layout.asks.items
-    ++ marks_of (book_mark orders layout) marked.orders
+    ++ marks_of (book_mark layout orders) marked.orders
 
 -- the section that has them
 abbrev pub book_section : List Order → MarkedTrading → BookLayout → List ℕ

@@ -73,7 +73,7 @@ fn with_mark_at_lines(
 impl MarkedPicture for BookLayout {
     ghost use Rattle.continuous_drawing.specs.Marks.{book_mark};
 
-    ghost order_mark = { λ layout orders number line. book_mark orders layout number line };
+    ghost order_mark = { book_mark };
 
     fn with_order_mark(
         &self,
