@@ -1,4 +1,4 @@
-//! The program `auditor`. What it does is `run_auditor` of `audit_program`, which the gate runs
+//! The program `auditor`. What it does is `run_auditor` of `auditor_program`, which the gate runs
 //! a second time over logs that are rejected (`auditor_rejects`).
 #![tactic(auto)]
 

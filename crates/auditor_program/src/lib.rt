@@ -1,7 +1,7 @@
 //! What the program `auditor` does with what its machine gives it: the arguments, files,
 //! standard output and a random seed are handed to `run_seeded`, and the number of the status
 //! is what the process ends with. Where it is above 1, one line on standard error says why
-//! (`run_notes`).
+//! (`stderr_notes`).
 #![tactic(auto)]
 
 ghost use Rattle.std.specs.Prelude.{◌≡◌};

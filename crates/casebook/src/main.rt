@@ -1,7 +1,7 @@
 //! The program `casebook`: files the verdicts of audits under labels in a database, and lists
 //! and shows them.
 //!
-//! What it does is `run_casebook` of `case_files`, which the gate runs a second time with a
+//! What it does is `run_casebook` of `casebook_program`, which the gate runs a second time with a
 //! label that is known (`casebook_knows`). The tests of cases in databases are here, above all
 //! that they are made of.
 #![tactic(auto)]

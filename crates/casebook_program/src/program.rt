@@ -2,7 +2,7 @@
 //! standard output, an opener over files and a random seed are handed to `run_and_close`, and
 //! the number of the status is what the process ends with. Where it is above 1, where a
 //! database was made, and where a list may not be the one that was meant, a line on standard
-//! error says so (`run_notes`).
+//! error says so (`stderr_notes`).
 ghost use Rattle.std.specs.Prelude.{◌≡◌};
 ghost use Rattle.std.specs.Process.{exit_status};
 ghost use Rattle.casebook_program.specs.ClosedRuns.{CasebookAnswers, CasebookBegins, CasebookBeginsUnknown};

@@ -2,7 +2,7 @@
 //! output, an opener of databases over files and a random seed are handed to the call that the
 //! first word is for (`calls`), and the number of its status is what the process ends with
 //! (`ends`). Where it is above 1, and where a database was made, one line on standard error says so
-//! (`notes`, `run_notes`).
+//! (`notes`, `stderr_notes`).
 #![tactic(auto)]
 
 ghost use Rattle.std.specs.Prelude.{◌≡◌, false};

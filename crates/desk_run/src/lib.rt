@@ -9,7 +9,7 @@
 //! (`day_sessions`), and each of its logs may have 34,359,738,368 bytes.
 //! Every offence of a symbol is told by `offences`, over `symbol_offences`.
 //! The digests of two logs are those of `log_digests`, whatever is in them. What is in two logs is
-//! told by `contents`, over `day_contents` and `log_contents`.
+//! told by `contents`, over `log_contents`.
 #![tactic(auto)]
 
 mod commands;

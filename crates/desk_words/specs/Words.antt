@@ -139,7 +139,7 @@ help_asked words =
     else None)
 
 -- what the words of a command ask for, one row a command; those of `page`, `file`, `file-all` and
--- `check` ask for nothing here, since other calls read them (`page_run`, `filing_run`)
+-- `check` ask for nothing here, since other calls read them (`desk_page`, `desk_filing`)
 abbrev pub desk_asked_by : DeskCommand → List (List ℕ) → Option DeskRequest
 desk_asked_by command.Audit words = desk_audit_asked words
 desk_asked_by command.Session words = desk_session_asked words
@@ -155,7 +155,7 @@ desk_asked_by command.Plain words = plain_asked words
 desk_asked_by command.Contents words = contents_asked words
 desk_asked_by command.Help words = help_asked words
 
--- a word names a command whose words another call reads (`filing_run`)
+-- a word names a command whose words another call reads (`desk_filing`)
 abbrev pub is_filing_word : List ℕ → Bool
 is_filing_word word = word_equals word (codes "file") || word_equals word (codes "file-all")
     || word_equals word (codes "check")
@@ -164,7 +164,7 @@ is_filing_word word = word_equals word (codes "file") || word_equals word (codes
 abbrev pub asks_filing : List (List ℕ) → Bool
 asks_filing words = is_filing_word (nth_word words 0)
 
--- the first of the words is `page` (`page_run`)
+-- the first of the words is `page` (`desk_page`)
 abbrev pub asks_page : List (List ℕ) → Bool
 asks_page words = word_equals (nth_word words 0) (codes "page")
 

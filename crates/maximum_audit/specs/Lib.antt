@@ -1,2 +1,2 @@
--- What the public contracts cite is in audit_base and call_auction. Private functions
+-- What the public contracts cite is in audit_base and call_audit. Private functions
 -- pass on nothing else.
