@@ -5,7 +5,7 @@ use Rattle.std.proofs.lemmas.Bool.{cases_Bool}
 use Rattle.audit_base.specs.declared.faults.BadPlace.{BadPlace}
 use Rattle.audit_base.specs.declared.records.OrderRecord.{OrderRecord}
 use Rattle.audit_base.specs.declared.terms.Side.{Side}
-use Rattle.audit_base.specs.Numbers.{IsPrice, IsQuantity, market_price, price_form, quantity_form}
+use Rattle.audit_base.specs.Numbers.{AreInRange, IsPrice, IsQuantity, market_price, price_form, quantity_form}
 use Rattle.audit_base.specs.RecordRanges.{RecordInRange}
 use Rattle.audit_base.specs.Trades.{TradesInRange}
 use Rattle.audit_base.proofs.RangeLemmas.{market-range, price-range, quantity-range}

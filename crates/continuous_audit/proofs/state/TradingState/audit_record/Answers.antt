@@ -13,7 +13,7 @@ use Rattle.continuous_audit.proofs.ReadyLemmas.{left-next, next-above, next-firs
 use Rattle.continuous_audit.proofs.RecordLemmas.{spread-shown, none-shown}
 use Rattle.continuous_audit.proofs.StandLemmas.{quiet-apart}
 use Rattle.continuous_audit.proofs.VerdictLemmas.{calm-next}
-use Rattle.continuous_audit.proofs.state.State.audit_record.Goals as goal
+use Rattle.continuous_audit.proofs.state.TradingState.audit_record.Goals as goal
 
 pub drop_own-requires-clause-dropped : goal.drop_own-requires-clause-dropped
 drop_own-requires-clause-dropped c =

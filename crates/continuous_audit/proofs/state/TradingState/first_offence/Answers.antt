@@ -6,7 +6,7 @@ use Rattle.continuous_audit.specs.Progress.{IsReadyNext}
 use Rattle.continuous_audit.specs.Records.{ConformsAndIsUncrossed}
 use Rattle.continuous_audit.proofs.ReadyLemmas.{ready-here}
 use Rattle.continuous_audit.proofs.VerdictLemmas.{offence}
-use Rattle.continuous_audit.proofs.state.State.first_offence.Goals as goal
+use Rattle.continuous_audit.proofs.state.TradingState.first_offence.Goals as goal
 
 pub loop-order-preserved : goal.loop-order-preserved
 loop-order-preserved c =

@@ -4,7 +4,7 @@ use Rattle.audit_base.specs.Flaws.{finding_of}
 use Rattle.continuous_audit.specs.Flaws.{IsFindingOfFlaw}
 use Rattle.continuous_audit.specs.Records.{conservation_at}
 use Rattle.continuous_audit.proofs.FlawLemmas.{conservation-flaw, priority-flaw}
-use Rattle.continuous_audit.proofs.state.State.trade.Goals as goal
+use Rattle.continuous_audit.proofs.state.TradingState.trade.Goals as goal
 
 pub returns-in-Some-clause-found : goal.returns-in-Some-clause-found
 returns-in-Some-clause-found c =

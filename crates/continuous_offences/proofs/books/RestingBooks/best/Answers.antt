@@ -5,7 +5,7 @@ use Rattle.continuous_offences.specs.Dealt.{deals_of, orders_of}
 use Rattle.continuous_offences.specs.Passing.{best_waiting}
 use Rattle.continuous_offences.proofs.BookLemmas.{book-inside}
 use Rattle.continuous_offences.proofs.StateLemmas.{best-read}
-use Rattle.continuous_offences.proofs.books.Books.best.Goals as goal
+use Rattle.continuous_offences.proofs.books.RestingBooks.best.Goals as goal
 
 pub first_resting-requires-clause-inside : goal.first_resting-requires-clause-inside
 first_resting-requires-clause-inside c =

@@ -6,7 +6,7 @@ use Rattle.audit_base.specs.Orders.{limit_at, order_at, side_at}
 use Rattle.continuous_offences.specs.Dealt.{deals_of, orders_of, place_of}
 use Rattle.continuous_offences.proofs.BookLemmas.{book-below}
 use Rattle.continuous_offences.proofs.EnterLemmas.{books-ask, books-bid}
-use Rattle.continuous_offences.proofs.books.Books.enter.Goals as goal
+use Rattle.continuous_offences.proofs.books.RestingBooks.enter.Goals as goal
 
 pub add-requires-clause-latest : goal.add-requires-clause-latest
 add-requires-clause-latest c =

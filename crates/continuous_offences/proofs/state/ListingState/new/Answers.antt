@@ -2,7 +2,7 @@ use Rattle.std.proofs.Common.{◌≡◌, ◌∙◌, ap, ℕ, length}
 use Rattle.std.specs.Prelude.{replicate}
 use Rattle.order_arrivals.proofs.ArrivalLemmas.{traded-first}
 use Rattle.continuous_offences.proofs.EnterLemmas.{books-none}
-use Rattle.continuous_offences.proofs.state.State.new.Goals as goal
+use Rattle.continuous_offences.proofs.state.ListingState.new.Goals as goal
 
 pub returns : goal.returns
 returns c =

@@ -9,7 +9,7 @@ use Rattle.continuous_offences.specs.DealFacts.{IsOffenceOf}
 use Rattle.continuous_offences.proofs.EnterLemmas.{books-later}
 use Rattle.continuous_offences.proofs.ReadyLemmas.{books-here, books-next, dealt-now, split-rises}
 use Rattle.continuous_offences.proofs.StateLemmas.{place-of}
-use Rattle.continuous_offences.proofs.state.State.next_offence.Goals as goal
+use Rattle.continuous_offences.proofs.state.ListingState.next_offence.Goals as goal
 
 pub first_deal_offence-by_itself-requires-clause-before : goal.first_deal_offence-by_itself-requires-clause-before
 first_deal_offence-by_itself-requires-clause-before c =

@@ -1,7 +1,7 @@
 use Rattle.std.proofs.Common.{◌/◌, sym, ap, subst, ◌∙◌}
 use Rattle.day_symbols.specs.Shares.{DayShare, IsDayShare}
 use Rattle.day_symbols.proofs.PlaceLemmas.{place-is}
-use Rattle.day_symbols.proofs.shares.Share.index_in_share.Goals as goal
+use Rattle.day_symbols.proofs.shares.DayShare.index_in_share.Goals as goal
 
 pub returns : goal.returns
 returns c =

@@ -2,7 +2,7 @@ use Rattle.std.proofs.Common.{◌≡◌, ◌+◌, ◌-◌, ◌*◌, sym, ap, sub
 use Rattle.std.specs.Prelude.{slice_get}
 use Rattle.day_symbols.specs.Shares.{DayShare, IsDayShare}
 use Rattle.day_symbols.proofs.KeptLemmas.{symbol-at}
-use Rattle.day_symbols.proofs.shares.Share.symbol_at.Goals as goal
+use Rattle.day_symbols.proofs.shares.DayShare.symbol_at.Goals as goal
 
 pub overflow_mul-share_index : goal.overflow_mul-share_index
 overflow_mul-share_index c =
