@@ -10,7 +10,7 @@ use audit_certificate::one_answer::{one_answer_for_a_text, one_certificate};
 use command_run::laws::{calls_agree, held_logs_are_answered};
 use log_verdict::laws::records_are_in_range;
 pub use log_verdict::laws::{forms_agree, one_verdict};
-use session_audit::verdict_laws::one_session;
+use session_audit::session_laws::one_session;
 use verdict_laws::histories::expected_trades_are_one;
 
 /// Two answers to one request on the same logs have the same status and the same text, whatever

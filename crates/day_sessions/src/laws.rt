@@ -2,7 +2,7 @@
 ghost use Rattle.day_sessions.specs.Laws.{OneSessionAnswer};
 
 use log_verdict::laws::records_are_in_range;
-use session_audit::verdict_laws::one_session;
+use session_audit::session_laws::one_session;
 
 /// Two answers to a question about two logs, by phases, have one text and one status, whatever
 /// forms the logs are in.

@@ -11,7 +11,7 @@
 //! that conforms.
 //!
 //! Proved: a day conforms exactly where each phase does and no call has an order that does not
-//! rest, else the first offence is given, and both are one (`laws`, `verdict_laws`). Costs: a pass
+//! rest, else the first offence is given, and both are one (`laws`, `session_laws`). Costs: a pass
 //! over all orders for each phase.
 #![tactic(auto)]
 
@@ -26,6 +26,6 @@ pub mod laws;
 mod leaving;
 pub mod phases;
 mod progress;
+pub mod session_laws;
 pub mod texts;
-pub mod verdict_laws;
 pub mod verdicts;
