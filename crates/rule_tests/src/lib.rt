@@ -6,7 +6,7 @@
 //! `records` makes the records of these logs, and what the audits are handed of them.
 //! `continuous` has the rule of continuous trading, `days` a day of phases, `certificates` the
 //! certificate of a call, `expected_trades` the trades that the audits of calls accept, and
-//! `fairness` the check of an order that is passed over.
+//! `fair_matchings` the check of an order that is passed over.
 #![tactic(auto)]
 
 #[cfg(test)]
@@ -18,6 +18,6 @@ mod days;
 #[cfg(test)]
 mod expected_trades;
 #[cfg(test)]
-mod fairness;
+mod fair_matchings;
 #[cfg(test)]
 mod records;
