@@ -39,13 +39,13 @@ use Rattle.command_run.specs.Runs.{IsAnswerToReadLogs, ReadingDecides, ReadsThen
 use Rattle.audit_run.specs.Sessions.{IsSessionAnswer, IsSessionAnswerToRecords}
 use Rattle.command_run.specs.VerdictAnswers.{IsAnswerWith, IsAuditAnswer, IsDone, IsVerdictAnswer}
 use Rattle.log_verdict.specs.BothLogs.{StaysWithin, StaysWithinAt}
-use Rattle.log_verdict.specs.Collecting.{step_of, IsUnread, TouchesOnly}
+use Rattle.log_verdict.specs.Collecting.{IsUnread, TouchesOnly}
 use Rattle.csv_logs.specs.Written.{csv_orders_text, csv_trades_text}
 use Rattle.session_audit.specs.declared.phases.Phase.{Phase}
 use Rattle.session_audit.specs.SessionVerdicts.{session_status}
 use Rattle.log_verdict.specs.LogVerdicts.{Log, records_of_order_log, trades_of_trade_log}
 use Rattle.log_verdict.specs.declared.sources.Source.{Source}
-use Rattle.log_verdict.specs.Steps.{Reading, LogStep, BeginsWithin, StepsLead, FaultsNeverFall, with_slot, reading, reading_by, reading_within}
+use Rattle.log_verdict.specs.Steps.{Reading, LogStep, BeginsWithin, StepsLead, FaultsNeverFall, with_slot, reading, reading_by, reading_within, step_of}
 
 -- The statuses that an answer may have.
 

@@ -25,9 +25,9 @@ use Rattle.audit_run.specs.Deciding.{request_to_verify}
 use Rattle.audit_run.specs.JudgedAnswers.{IsVerifyAnswerOn}
 use Rattle.audit_run.specs.Requests.{auditor_command_of}
 use Rattle.command_run.specs.Runs.{ReadingDecides, ReadsOneByOne, ReadsThenStarts}
-use Rattle.log_verdict.specs.Collecting.{step_of, IsReadAs, TouchesOnly}
+use Rattle.log_verdict.specs.Collecting.{TouchesOnly}
 use Rattle.log_verdict.specs.LogVerdicts.{log_in, records_of_order_log, trades_of_trade_log}
-use Rattle.log_verdict.specs.Steps.{Reading, LogStep, IsRead, IsReadFault, IsTooLong, StepsLead, FaultsNeverFall, with_slot}
+use Rattle.log_verdict.specs.Steps.{Reading, LogStep, IsRead, IsReadFault, IsTooLong, StepsLead, FaultsNeverFall, with_slot, step_of, IsReadAs}
 use Rattle.record_verdict.specs.BeforeRule.{is_malformed, IsBeforeRule}
 use Rattle.audit_run.proofs.AnswerLemmas.{verify-status}
 

@@ -18,11 +18,10 @@ use Rattle.audit_report.specs.declared.verdicts.Verdict.TheVariants as verdict
 use Rattle.log_verdict.specs.declared.sources.Source.{Source}
 use Rattle.log_verdict.specs.declared.stops.Stop.{Stop}
 use Rattle.log_verdict.specs.declared.stops.Stop.TheVariants as stop
-use Rattle.log_verdict.specs.BothLogs.{IsAfterGoodOrders, IsStopOfTwoLogs, IsUntouched, ReadsAfterOrders, ReadsVerdict}
+use Rattle.log_verdict.specs.BothLogs.{IsAfterGoodOrders, IsStopOfTwoLogs, ReadsAfterOrders, ReadsVerdict}
 use Rattle.log_verdict.specs.BothLogs as both
-use Rattle.log_verdict.specs.Collecting.{step_of}
 use Rattle.log_verdict.specs.LogVerdicts.{log_in, records_of_order_log, trades_of_trade_log, IsLogVerdict}
-use Rattle.log_verdict.specs.Steps.{Reading, LogStep, IsRead}
+use Rattle.log_verdict.specs.Steps.{Reading, LogStep, IsRead, step_of, IsUntouched}
 use Rattle.record_verdict.specs.declared.questions.Question.{Question}
 use Rattle.record_verdict.specs.RecordVerdicts.{question, IsRecordVerdict, IsOutcomeByFinding}
 use Rattle.case_run.specs.Causes.{IsFilingLogInTurn, OfFilingLog, ReadsGoodLogs, filing_log_name}

@@ -4,10 +4,8 @@ use Rattle.audit_base.specs.declared.terms.Form.{Form}
 use Rattle.audit_base.specs.declared.terms.Which.{Which}
 use Rattle.audit_base.specs.declared.terms.Which.TheVariants.{Orders, Trades}
 use Rattle.audit_report.specs.Lines.{read_fault_line, too_long_line}
-use Rattle.log_verdict.specs.BothLogs.{IsUntouched}
-use Rattle.log_verdict.specs.Collecting.{step_of, IsReadAs}
 use Rattle.log_verdict.specs.LogVerdicts.{records_of_order_log, trades_of_trade_log}
-use Rattle.log_verdict.specs.Steps.{Reading, LogStep, IsReadFault, IsTooLong}
+use Rattle.log_verdict.specs.Steps.{Reading, LogStep, IsReadFault, IsTooLong, step_of, IsReadAs, IsUntouched}
 use Rattle.case_keeper.specs.Keepers.{KeeperState}
 use Rattle.log_source.specs.Sources.{RoseOrIsFull}
 use Rattle.case_run.specs.Lines.{keeper_fault_line}

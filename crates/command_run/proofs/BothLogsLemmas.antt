@@ -16,9 +16,8 @@ use Rattle.command_run.specs.Commands.{Command, StartsBoth}
 use Rattle.command_run.specs.Deciding.{ReadingStops}
 use Rattle.command_run.specs.Laws.{AnswersBoth}
 use Rattle.command_run.specs.Runs.{IsAnswerToReadLogs, ReadingDecides, ReadsThenStarts}
-use Rattle.log_verdict.specs.Collecting.{step_of}
 use Rattle.log_verdict.specs.LogVerdicts.{log_in, records_of_order_log, trades_of_trade_log, OfLogs}
-use Rattle.log_verdict.specs.Steps.{Reading, LogStep, IsRead, StepsLead, FaultsNeverFall, with_slot}
+use Rattle.log_verdict.specs.Steps.{Reading, LogStep, IsRead, StepsLead, FaultsNeverFall, with_slot, step_of}
 use Rattle.command_run.proofs.EarlyLemmas.{line-alone}
 use Rattle.command_run.proofs.OneLogLemmas.{text-of}
 use Rattle.command_run.proofs.StepLemmas.{two-lead}

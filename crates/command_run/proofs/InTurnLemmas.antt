@@ -8,8 +8,8 @@ use Rattle.log_source.specs.Sources.{Slot, RoseOrIsFull}
 use Rattle.log_verdict.specs.declared.stops.Stop.{Stop}
 use Rattle.log_verdict.specs.declared.stops.Stop.TheVariants as stop
 use Rattle.log_verdict.specs.BothLogs.{IsLogStop, StaysWithin, StaysWithinAt}
-use Rattle.log_verdict.specs.Collecting.{step_of, TouchesOnly}
-use Rattle.log_verdict.specs.Steps.{Reading, EndsWithin, FaultsNeverFall, IsRead, IsReadFault, IsTooLong}
+use Rattle.log_verdict.specs.Collecting.{TouchesOnly}
+use Rattle.log_verdict.specs.Steps.{Reading, EndsWithin, FaultsNeverFall, IsRead, IsReadFault, IsTooLong, step_of}
 use Rattle.command_run.specs.declared.answers.Answer.{Answer}
 use Rattle.command_run.specs.Commands.{Command, StartsAnyTwo}
 use Rattle.command_run.specs.Deciding.{DecidesAnswer, DecidesBytes, IsStatusOfLogs, ReadingStops}

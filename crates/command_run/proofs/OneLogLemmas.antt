@@ -8,8 +8,8 @@ use Rattle.audit_report.specs.declared.statuses.Status.TheVariants as status
 use Rattle.log_source.specs.Sources.{other_log}
 use Rattle.log_verdict.specs.declared.stops.Stop.{Stop}
 use Rattle.log_verdict.specs.declared.stops.Stop.TheVariants as stop
-use Rattle.log_verdict.specs.Collecting.{step_of, TouchesOnly}
-use Rattle.log_verdict.specs.Steps.{Reading, LogStep, StepsLead, with_slot}
+use Rattle.log_verdict.specs.Collecting.{TouchesOnly}
+use Rattle.log_verdict.specs.Steps.{Reading, LogStep, StepsLead, with_slot, step_of}
 use Rattle.command_run.specs.declared.answers.Answer.{Answer}
 use Rattle.command_run.specs.Commands.{Command, StartsOne}
 use Rattle.command_run.specs.Deciding.{DecidesAnswer, DecidesBytes, IsStatusOfLogs}

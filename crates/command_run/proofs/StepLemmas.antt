@@ -5,8 +5,7 @@ use Rattle.audit_base.specs.declared.terms.Which.TheVariants.{Orders, Trades}
 use Rattle.log_source.specs.Sources.{Slot, RoseOrIsFull}
 use Rattle.command_run.specs.Commands.{Command}
 use Rattle.command_run.specs.Runs.{HoldsLog, HoldsNeededLogs, HoldsNext, ReadsNext, ReadsOneByOne}
-use Rattle.log_verdict.specs.Collecting.{step_of}
-use Rattle.log_verdict.specs.Steps.{Reading, LogStep, StepsLead, FaultsNeverFall, with_slot}
+use Rattle.log_verdict.specs.Steps.{Reading, LogStep, StepsLead, FaultsNeverFall, with_slot, step_of}
 
 -- what is in a slot after it was changed
 with_slot-same : (slots : Which → Slot) (log : Which) (slot : Slot) → with_slot slots log slot log ≡ slot

@@ -11,9 +11,8 @@ use Rattle.log_verdict.specs.declared.sources.Source.{Source}
 use Rattle.log_verdict.specs.declared.stops.Stop.{Stop}
 use Rattle.log_verdict.specs.declared.stops.Stop.TheVariants as stop
 use Rattle.log_verdict.specs.BothLogs.{IsLogStop}
-use Rattle.log_verdict.specs.Collecting.{IsReadAs}
 use Rattle.log_verdict.specs.LogVerdicts.{Log, log_in}
-use Rattle.log_verdict.specs.Steps.{Reading}
+use Rattle.log_verdict.specs.Steps.{Reading, IsReadAs}
 use Rattle.command_run.specs.declared.answers.Answer.{Answer}
 use Rattle.command_run.specs.Commands.{Command}
 use Rattle.command_run.specs.Runs.{IsEarlyText, ReadingDecides}

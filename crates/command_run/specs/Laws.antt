@@ -15,9 +15,9 @@ use Rattle.log_verdict.specs.declared.stops.Stop.{Stop}
 use Rattle.log_verdict.specs.declared.stops.Stop.TheVariants as stop
 use Rattle.log_verdict.specs.BothLogs.{IsLogStop, IsStopOfTwoLogs, ReadsLogs}
 use Rattle.log_verdict.specs.BothLogs.{StaysWithin, StaysWithinAt}
-use Rattle.log_verdict.specs.Collecting.{step_of, TouchesOnly}
+use Rattle.log_verdict.specs.Collecting.{TouchesOnly}
 use Rattle.log_verdict.specs.LogVerdicts.{OfLogs, log_in, records_of_order_log, trades_of_trade_log}
-use Rattle.log_verdict.specs.Steps.{FaultsNeverFall, IsRead, Reading}
+use Rattle.log_verdict.specs.Steps.{FaultsNeverFall, IsRead, Reading, step_of}
 use Rattle.command_run.specs.declared.answers.Answer.{Answer}
 use Rattle.command_run.specs.Commands.{Command, StartsAnyTwo, StartsBoth, StartsOne, log_read_at}
 use Rattle.command_run.specs.Deciding.{DecidesAnswer, DecidesBytes, IsStatusOfLogs, ReadingStops}

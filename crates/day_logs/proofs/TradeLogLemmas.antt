@@ -12,10 +12,9 @@ use Rattle.day_logs.specs.DayBeforeRule.{day_without_log, GivesDayBeforeRuleOrSt
 use Rattle.log_verdict.specs.declared.reading.Unread.{Unread}
 use Rattle.log_verdict.specs.declared.reading.Unread.TheVariants as unread
 use Rattle.log_verdict.specs.declared.sources.Source.{Source}
-use Rattle.log_verdict.specs.BothLogs.{IsUntouched}
-use Rattle.log_verdict.specs.Collecting.{HasLogTrades, IsReadAs, IsUnread}
+use Rattle.log_verdict.specs.Collecting.{HasLogTrades, IsUnread}
 use Rattle.log_verdict.specs.LogVerdicts.{records_of_order_log, trades_of_trade_log}
-use Rattle.log_verdict.specs.Steps.{Reading}
+use Rattle.log_verdict.specs.Steps.{Reading, IsReadAs, IsUntouched}
 use Rattle.record_verdict.specs.declared.scopes.Admission.{Admission}
 
 module _ (r : Reading) (share : DayShare) (admission : Admission) (trades : Source) (entries : List OrderRecord) where

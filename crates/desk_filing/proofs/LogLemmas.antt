@@ -19,9 +19,8 @@ use Rattle.log_digests.specs.Digests.{digest_of}
 use Rattle.log_source.specs.Sources.{RoseOrIsFull}
 use Rattle.log_verdict.specs.BothLogs.{IsStopOfTwoLogs, ReadsAfterOrders, ReadsLogs}
 use Rattle.log_verdict.specs.BothLogs as both
-use Rattle.log_verdict.specs.Collecting.{step_of}
 use Rattle.log_verdict.specs.LogVerdicts.{records_of_order_log, trades_of_trade_log}
-use Rattle.log_verdict.specs.Steps.{Reading, IsRead, IsReadFault, IsTooLong}
+use Rattle.log_verdict.specs.Steps.{Reading, IsRead, IsReadFault, IsTooLong, step_of}
 use Rattle.log_verdict.specs.declared.sources.Source.{Source}
 use Rattle.log_verdict.specs.declared.stops.Stop.{Stop}
 use Rattle.log_verdict.specs.declared.stops.Stop.TheVariants as stop

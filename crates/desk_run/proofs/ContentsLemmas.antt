@@ -27,9 +27,9 @@ use Rattle.log_verdict.specs.declared.sources.Source.{Source}
 use Rattle.log_verdict.specs.declared.stops.Stop.{Stop}
 use Rattle.log_verdict.specs.declared.stops.Stop.TheVariants as stop
 use Rattle.log_verdict.specs.BothLogs.{StaysWithin, StaysWithinAt}
-use Rattle.log_verdict.specs.Collecting.{step_of, IsUnread, TouchesOnly}
+use Rattle.log_verdict.specs.Collecting.{IsUnread, TouchesOnly}
 use Rattle.log_verdict.specs.LogVerdicts.{records_of_order_log}
-use Rattle.log_verdict.specs.Steps.{Reading, EndsWithin, FaultsNeverFall, IsRead, IsReadFault, IsTooLong, StepsLead, with_slot}
+use Rattle.log_verdict.specs.Steps.{Reading, EndsWithin, FaultsNeverFall, IsRead, IsReadFault, IsTooLong, StepsLead, with_slot, step_of}
 use Rattle.log_contents.specs.DayItems.{csv_items, fix_items, order_log_items}
 use Rattle.desk_run.specs.Contents.{IsAnswerToItems}
 

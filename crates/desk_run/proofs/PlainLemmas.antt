@@ -35,8 +35,8 @@ use Rattle.log_source.specs.Sources.{Slot, longest_read}
 use Rattle.log_verdict.specs.declared.stops.Stop.{Stop}
 use Rattle.log_verdict.specs.declared.stops.Stop.TheVariants as stop
 use Rattle.log_verdict.specs.BothLogs.{IsLogStop, StaysWithin}
-use Rattle.log_verdict.specs.Collecting.{step_of, TouchesOnly}
-use Rattle.log_verdict.specs.Steps.{EndsWithin, FaultsNeverFall, IsRead, LogStep, Reading, with_slot}
+use Rattle.log_verdict.specs.Collecting.{TouchesOnly}
+use Rattle.log_verdict.specs.Steps.{EndsWithin, FaultsNeverFall, IsRead, LogStep, Reading, with_slot, step_of}
 use Rattle.plain_logs.specs.declared.day_ends.DayEnd.{DayEnd}
 use Rattle.plain_logs.specs.declared.day_ends.PlainFault.{PlainFault}
 use Rattle.plain_logs.specs.declared.day_ends.PlainFault.TheVariants as plain

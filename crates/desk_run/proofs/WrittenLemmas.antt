@@ -19,9 +19,9 @@ use Rattle.csv_logs.specs.Feeds.{HasLogRecords}
 use Rattle.log_source.specs.Sources.{Slot}
 use Rattle.log_verdict.specs.declared.stops.Stop.{Stop}
 use Rattle.log_verdict.specs.BothLogs.{StaysWithin, StaysWithinAt}
-use Rattle.log_verdict.specs.Collecting.{HasLogTrades, IsReadAs, TouchesOnly}
+use Rattle.log_verdict.specs.Collecting.{HasLogTrades, TouchesOnly}
 use Rattle.log_verdict.specs.LogVerdicts.{Log, log_in, records_of_order_log, trades_of_trade_log}
-use Rattle.log_verdict.specs.Steps.{EndsWithin, FaultsNeverFall, Reading}
+use Rattle.log_verdict.specs.Steps.{EndsWithin, FaultsNeverFall, Reading, IsReadAs}
 use Rattle.written_logs.specs.Texts.{IsLogOfOrders, IsLogOfTrades, IsMadeOfOrders, IsMadeOfTrades}
 use Rattle.desk_run.specs.WrittenLogs.{IsWrittenLogAnswer, WritesTrades}
 

@@ -11,8 +11,7 @@ use Rattle.log_source.specs.declared.take.TakeFault.TheVariants as take
 use Rattle.log_verdict.specs.declared.stops.Stop.{Stop}
 use Rattle.log_verdict.specs.declared.stops.Stop.TheVariants as stop
 use Rattle.log_verdict.specs.BothLogs.{IsLogStop}
-use Rattle.log_verdict.specs.Collecting.{IsReadAs}
-use Rattle.log_verdict.specs.Steps.{Reading}
+use Rattle.log_verdict.specs.Steps.{Reading, IsReadAs}
 
 -- why there is no answer to a log, by why it was not taken whole
 abbrev pub stop_of_take : Which → TakeFault → Stop

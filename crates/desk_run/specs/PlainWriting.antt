@@ -8,8 +8,7 @@ use Rattle.fix_days.specs.declared.faults.BadMessage.{BadMessage}
 use Rattle.fix_days.specs.Fronts.{BeginsReadings}
 use Rattle.log_source.specs.Sinks.{AppendsPart, HasFailureCause, SinkState}
 use Rattle.log_verdict.specs.BothLogs.{IsLogStop, StaysWithin}
-use Rattle.log_verdict.specs.Collecting.{step_of}
-use Rattle.log_verdict.specs.Steps.{BeginsWithin, EndsWithin, IsRead, Reading}
+use Rattle.log_verdict.specs.Steps.{BeginsWithin, EndsWithin, IsRead, Reading, step_of}
 use Rattle.plain_logs.specs.declared.day_ends.DayEnd.{DayEnd}
 use Rattle.plain_logs.specs.declared.day_ends.PlainFault.{PlainFault}
 use Rattle.plain_logs.specs.declared.day_ends.PlainFault.TheVariants as plain

@@ -17,8 +17,8 @@ use Rattle.log_contents.specs.MessageFeeds.{HasContents}
 use Rattle.log_contents.specs.Summaries.{IsSummaryOf, log_items}
 use Rattle.log_verdict.specs.declared.reading.Unread.{Unread}
 use Rattle.log_verdict.specs.declared.reading.Unread.TheVariants as unread
-use Rattle.log_verdict.specs.Collecting.{step_of, unread_of_log, IsUnread}
-use Rattle.log_verdict.specs.Steps.{Reading, IsRead}
+use Rattle.log_verdict.specs.Collecting.{unread_of_log, IsUnread}
+use Rattle.log_verdict.specs.Steps.{Reading, IsRead, step_of}
 use Rattle.log_contents.specs.DayItems.{csv_items, fix_items}
 use Rattle.log_contents.specs.DayReading.{HasSummary}
 

@@ -5,8 +5,8 @@ use Rattle.audit_base.specs.declared.terms.Which.{Which}
 use Rattle.log_contents.specs.declared.summaries.Summary.{Summary}
 use Rattle.log_contents.specs.Summaries.{IsSummaryOf, LogItems}
 use Rattle.log_verdict.specs.declared.reading.Unread.{Unread}
-use Rattle.log_verdict.specs.Collecting.{IsReadAs, IsUnread}
-use Rattle.log_verdict.specs.Steps.{Reading}
+use Rattle.log_verdict.specs.Collecting.{IsUnread}
+use Rattle.log_verdict.specs.Steps.{Reading, IsReadAs}
 
 -- A log that says this is good, and this is told of what it has.
 pub record HasSummary (said : Result LogItems BadPlace) (summary : Summary) : Type 0 where

@@ -30,9 +30,9 @@ use Rattle.log_verdict.specs.declared.reading.Unread.TheVariants as unread
 use Rattle.log_verdict.specs.declared.stops.Stop.{Stop}
 use Rattle.log_verdict.specs.declared.stops.Stop.TheVariants as stop
 use Rattle.log_verdict.specs.BothLogs.{without_log, GivesBeforeRuleOrStop, GivesTradesOrStop, IsAfterOrders, IsAdmitted, AreResolvedTrades, ReadsAfterOrders, StaysWithin, StaysWithinAt}
-use Rattle.log_verdict.specs.Collecting.{step_of, HasCollected, HasLogTrades, IsReadAs, IsUnread}
+use Rattle.log_verdict.specs.Collecting.{HasCollected, HasLogTrades, IsUnread}
 use Rattle.log_verdict.specs.LogVerdicts.{records_of_order_log, trades_of_trade_log}
-use Rattle.log_verdict.specs.Steps.{Reading, IsReadFault, IsTooLong, KeepsShelfLogs, EndsWithin, FaultsNeverFall}
+use Rattle.log_verdict.specs.Steps.{Reading, IsReadFault, IsTooLong, KeepsShelfLogs, EndsWithin, FaultsNeverFall, step_of, IsReadAs}
 use Rattle.record_verdict.specs.BeforeRule.{finding_or_sound, IsBeforeRule}
 
 -- a reading of the whole, from the reading of a part before and one after

@@ -6,8 +6,8 @@ use Rattle.audit_base.specs.declared.faults.LogFault.TheVariants as fault
 use Rattle.audit_base.specs.declared.terms.Which.{Which}
 use Rattle.csv_logs.specs.Feeds.{IsLogFaultOf}
 use Rattle.fix_messages.specs.Feeds as fix
-use Rattle.log_verdict.specs.Collecting.{step_of, unread_of_log, IsUnread}
-use Rattle.log_verdict.specs.Steps.{Reading, IsRead}
+use Rattle.log_verdict.specs.Collecting.{unread_of_log, IsUnread}
+use Rattle.log_verdict.specs.Steps.{Reading, IsRead, step_of}
 
 -- a log that is not read into records is not for the fault of its feed
 pub unread-fault : {R : Type 0} (meaning : List ℕ → Result (List R) BadPlace) (r : Reading) (log : Which) (name bytes : List ℕ) (why : LogFault) → IsRead r (step_of r log name) bytes

@@ -18,10 +18,9 @@ use Rattle.record_verdict.specs.declared.before_rule.BeforeRule.{BeforeRule}
 use Rattle.record_verdict.specs.declared.before_rule.BeforeRule.TheVariants as before_rule
 use Rattle.record_verdict.specs.declared.questions.Question.{Question}
 use Rattle.log_verdict.specs.declared.sources.Source.{Source}
-use Rattle.log_verdict.specs.Collecting.{step_of, IsReadAs}
 use Rattle.log_verdict.specs.LogVerdicts.{records_of_order_log, trades_of_trade_log}
 use Rattle.record_verdict.specs.BeforeRule.{IsBeforeRule}
-use Rattle.log_verdict.specs.Steps.{Reading, IsReadFault, IsTooLong, BeginsWithin, EndsWithin}
+use Rattle.log_verdict.specs.Steps.{Reading, IsReadFault, IsTooLong, IsUntouched, BeginsWithin, EndsWithin, step_of, IsReadAs}
 use Rattle.record_verdict.specs.declared.scopes.Scope.{Scope}
 use Rattle.record_verdict.specs.RecordVerdicts.{IsRecordVerdict}
 use Rattle.record_verdict.specs.Scopes.{unadmitted_order_finding}
@@ -33,10 +32,6 @@ use Rattle.log_source.specs.Sources.{longest_read}
 pub record HaveOneLimit (orders trades : Source) : Type 0 where
   pub same : orders.limit ≡ trades.limit
   pub within : orders.limit ≤ longest_read
-
--- nothing was done to the slot
-abbrev pub IsUntouched : Reading → Which → Type 0
-IsUntouched r log = r.after log ≡ r.before log
 
 -- the trade log was read to its end, and this holds of the records of both logs, or of its first
 -- bad place

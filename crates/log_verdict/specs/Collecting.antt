@@ -15,24 +15,12 @@ use Rattle.log_verdict.specs.declared.reading.Unread.{Unread}
 use Rattle.log_verdict.specs.declared.reading.Unread.TheVariants as unread
 use Rattle.log_verdict.specs.declared.reading.Collected.{Collected}
 use Rattle.log_verdict.specs.declared.reading.Collected.TheVariants as collected
-use Rattle.log_verdict.specs.Steps.{Reading, LogStep, IsRead, IsReadFault, IsTooLong}
-
--- the step of a call that started one log
-abbrev pub step_of : Reading → Which → List ℕ → LogStep
-step_of r log name =
-    record { log = log; name = name; before = r.before log; after = r.after log }
+use Rattle.log_verdict.specs.Steps.{Reading, IsReadFault, IsReadAs, IsTooLong, step_of}
 
 -- Only this slot was touched, and its faults did not fall.
 pub record TouchesOnly (r : Reading) (log : Which) : Type 0 where
   pub other : r.after (other_log log) ≡ r.before (other_log log)
   pub later : (r.before log).faults ≤ (r.after log).faults
-
--- The log of this name was read to its end, and its bytes say this.
-pub record IsReadAs (r : Reading) (log : Which) (name : List ℕ)
-    (says : List ℕ → Type 0) : Type 0 where
-  pub bytes : List ℕ
-  pub read : IsRead r (step_of r log name) bytes
-  pub holds : says bytes
 
 -- why a log was not read into records: its first bad place, a fault,
 -- its length, or that memory ran out

@@ -49,6 +49,11 @@ pub record LogStep : Type 0 where
   pub before : Slot
   pub after : Slot
 
+-- the step of a call that started one log
+abbrev pub step_of : Reading → Which → List ℕ → LogStep
+step_of r log name =
+    record { log = log; name = name; before = r.before log; after = r.after log }
+
 -- the log was started once
 abbrev pub IsStartedOnce : LogStep → Type 0
 IsStartedOnce step = step.after.starts ≡ count_after step.before.starts
@@ -62,6 +67,13 @@ pub record IsRead (r : Reading) (step : LogStep) (bytes : List ℕ) : Type 0 whe
   pub within : length bytes ≤ r.limit
   pub taken : length bytes ≡ step.after.taken
   pub known : r.tells ≡ true → r.log_of step.log step.name ≡ Some bytes
+
+-- The log of this name was read to its end, and its bytes say this.
+pub record IsReadAs (r : Reading) (log : Which) (name : List ℕ)
+    (says : List ℕ → Type 0) : Type 0 where
+  pub bytes : List ℕ
+  pub read : IsRead r (step_of r log name) bytes
+  pub holds : says bytes
 
 -- The log was started once and could not be read: its faults rose,
 -- or the shelf knows that it lacks the log.
@@ -108,3 +120,7 @@ BeginsWithin r = (log : Which) → (r.before log).taken ≤ r.limit
 -- no more was taken of either log than a log may have
 abbrev pub EndsWithin : Reading → Type 0
 EndsWithin r = (log : Which) → (r.after log).taken ≤ r.limit
+
+-- nothing was done to the slot
+abbrev pub IsUntouched : Reading → Which → Type 0
+IsUntouched r log = r.after log ≡ r.before log

@@ -20,10 +20,9 @@ use Rattle.log_verdict.specs.declared.reading.Unread.{Unread}
 use Rattle.log_verdict.specs.declared.reading.Unread.TheVariants as unread
 use Rattle.log_verdict.specs.declared.sources.Source.{Source}
 use Rattle.log_verdict.specs.declared.stops.Stop.{Stop}
-use Rattle.log_verdict.specs.BothLogs.{IsUntouched}
-use Rattle.log_verdict.specs.Collecting.{HasLogTrades, IsReadAs, IsUnread}
+use Rattle.log_verdict.specs.Collecting.{HasLogTrades, IsUnread}
 use Rattle.log_verdict.specs.LogVerdicts.{records_of_order_log, trades_of_trade_log}
-use Rattle.log_verdict.specs.Steps.{Reading}
+use Rattle.log_verdict.specs.Steps.{Reading, IsReadAs, IsUntouched}
 use Rattle.matching_core.specs.declared.deals_draft.ResolvedTrades.{ResolvedTrades}
 use Rattle.record_verdict.specs.declared.before_rule.BeforeRule.{BeforeRule}
 use Rattle.record_verdict.specs.declared.before_rule.BeforeRule.TheVariants as before_rule
