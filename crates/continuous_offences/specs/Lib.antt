@@ -1,5 +1,5 @@
 -- What private functions pass on.
-pub mod RestingBooks
+pub mod Books
 pub mod Crossing
 pub mod DealFacts
 pub mod Dealt

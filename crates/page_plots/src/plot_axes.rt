@@ -4,7 +4,7 @@ ghost use Rattle.std.specs.List.{flat_map};
 ghost use Rattle.page_plots.specs.PlotAxes as spec;
 
 use crate::measures::{
-    BOTTOM, LEGEND_FOOT, MARKS_END, NUMBERS_FOOT, PRICES_END, PRICE_WORD_FOOT, RIGHT, TO_FOOT,
+    BOTTOM, LEGEND_FOOT, MARKS_END, NUMBERS_FOOT, PRICE_WORD_FOOT, PRICES_END, RIGHT, TO_FOOT,
 };
 use crate::papers::price_words;
 use crate::plot_lines::with_line_across;

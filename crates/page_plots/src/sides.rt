@@ -3,9 +3,7 @@
 ghost use Rattle.std.specs.Prelude.{◌≡◌, ◌++◌, ◌≤◌, IfOk};
 ghost use Rattle.page_plots.specs.Sides as spec;
 
-use crate::measures::{
-    BAR_HEIGHT, LEFT, LEGEND_FOOT, LEGEND_TOP, LEGEND_WIDTH, TO_LEGEND_WORDS,
-};
+use crate::measures::{BAR_HEIGHT, LEFT, LEGEND_FOOT, LEGEND_TOP, LEGEND_WIDTH, TO_LEGEND_WORDS};
 use crate::shapes::{Anchor, Point, with_label, with_rectangle};
 use audit_base::faults::NoMemory;
 use audit_base::terms::Side;
