@@ -31,8 +31,8 @@ crossing_offence-requires-clause-other c =
     let against : c.other.result ≡ side_against d = c.other.ensures ∙ ap other_side c.side-own.ensures in
     waiting-on-side d c.requires.dealt (side_against d) (suc (place_of d)) c.best-other.result (c.best-other.ensures.best ∙ (λ i. best_waiting d (against i) (next i)))
 
-pub returns-then-stands-clause-found : goal.returns-then-stands-clause-found
-returns-then-stands-clause-found c =
+pub returns-then-has_left_before-clause-found : goal.returns-then-has_left_before-clause-found
+returns-then-has_left_before-clause-found c =
     let d = c.args.dealt.now in
     let orders = orders_of d in
     let deals = deals_of d in
@@ -43,14 +43,14 @@ returns-then-stands-clause-found c =
     subst (λ (o : Option ListedOffence). IsOffenceOf orders o (crossing_finding orders deals (place_of d))) (sym c.crossing_offence.ensures)
     (crossing-is d c.requires.dealt on c.best-same.result c.best-other.result (c.best-same.ensures.best ∙ (λ i. best_waiting d (c.side-own.ensures i) (next i))) (c.best-other.ensures.best ∙ (λ i. best_waiting d (against i) (next i))))
 
-pub returns-then-stands-clause-books : goal.returns-then-stands-clause-books
-returns-then-stands-clause-books c =
+pub returns-then-has_left_before-clause-books : goal.returns-then-has_left_before-clause-books
+returns-then-has_left_before-clause-books c =
     let d = c.args.dealt.now in
     let next : c.place-next.result + 1 ≡ suc (place_of d) = add-one _ ∙ ap suc c.place-next.ensures.same in
     subst (λ (p : ℕ). AreBooksOf (orders_of d) (deals_of d) d.order p (suc (place_of d)) c.best-same.new.self) next c.best-same.ensures.books
 
-pub returns-else-stands-clause-found : goal.returns-else-stands-clause-found
-returns-else-stands-clause-found c =
+pub returns-else-has_left_before-clause-found : goal.returns-else-has_left_before-clause-found
+returns-else-has_left_before-clause-found c =
     let d = c.args.dealt.now in
     let orders = orders_of d in
     let deals = deals_of d in
