@@ -105,7 +105,7 @@ module _ (phases : List Phase) (orders : List Order) (list : IsOrderList orders)
           | inr some ↦ absurd (both_ways _ f (rests-true _ (list.resting i some.0 lt some.1)))
         ] in
         let is = numbers i order_past_end lt in
-        ap (λ (b : Bool). not (may_rest (order_at orders i).life) && b) (sym (any-own phases orders list deals i lt is.some none))
+        ap (λ (b : Bool). not (may_rest (order_at orders i).life) && b) (sym (any-own phases orders list deals i lt is.sized.some none))
   ]
 
   pub instant-is : first_instant_of_day phases orders ≡ instant_finding phases orders deals
