@@ -32,13 +32,13 @@ pub(crate) fn make_call<F: Shelf + Drop>(
     alloc: Global,
     words: &[String],
     shelf: F,
-    kept: Option<KeptCase>,
+    kept: &Option<KeptCase>,
 ) -> Result<Came, NoMemory>
     requires fresh { (which : Which) → (F.slot shelf which).started ≡ false }
 {
     let mut out = MemorySink::new(alloc, ROOM, ROOM, Vec::new(alloc))?;
     if asks_filing(words) {
-        let mut opener = MemoryDigestOpener::new(alloc, kept, Vec::new(alloc), Vec::new(alloc));
+        let mut opener = MemoryDigestOpener::new(alloc, *kept, Vec::new(alloc), Vec::new(alloc));
         let FilingEnd { status, book, .. } = run_filing(alloc, words, shelf, &mut out, &mut opener);
         let status = status.number();
         return Ok(Came { status, out, book });

@@ -1,4 +1,6 @@
 //! The run of an example: each of its lines, over its files and over their bytes in pieces.
+ghost use Rattle.std.specs.Prelude.{◌≤◌};
+
 use crate::calls::{Came, make_call};
 use crate::difference::Difference;
 use crate::example::{Example, read_example, shelf_of};
@@ -40,7 +42,7 @@ fn case_before<R: Files + AllocGlobal + Clone + Drop>(
         return Ok(None);
     };
     let files = FileShelf::new(rt.clone()?);
-    let filed = came(make_call(rt.alloc(), &words, files, None))?;
+    let filed = came(make_call(rt.alloc(), &words, files, &None))?;
     match (filed.book, read_name(label.as_bytes())) {
         (Some(mut book), Some(label)) => match book.find(&label) {
             Ok(Some(kept)) => Ok(Some(kept)),
@@ -69,18 +71,33 @@ fn compare(
     Ok(None)
 }
 
+/// Runs a line over the bytes of the logs, in pieces of one size.
+fn run_piece(
+    alloc: Global,
+    example: &Example,
+    line: &str,
+    kept: &Option<KeptCase>,
+    piece: usize,
+) -> io::Result<Option<Difference>>
+    requires { 1 ≤ piece }
+{
+    let words = words_of(alloc, line)?;
+    let Ok(shelf) = shelf_of(alloc, example, piece) else {
+        return Err(io::Error::from(ErrorKind::OutOfMemory));
+    };
+    let answer = came(make_call(alloc, &words, shelf, kept))?;
+    compare(alloc, example, line, &answer)
+}
+
 /// Runs a line over the bytes of the logs, in pieces of every size from 1 to 8.
 fn run_in_pieces(
     alloc: Global,
     example: &Example,
     line: &str,
-    kept: Option<KeptCase>,
+    kept: &Option<KeptCase>,
 ) -> io::Result<Option<Difference>> {
-    let words = words_of(alloc, line)?;
     for piece in 1..=8 {
-        let shelf = came(shelf_of(alloc, example, piece))?;
-        let answer = came(make_call(alloc, &words, shelf, kept))?;
-        if let Some(difference) = compare(alloc, example, line, &answer)? {
+        if let Some(difference) = run_piece(alloc, example, line, kept, piece)? {
             return Ok(Some(difference));
         }
     }
@@ -92,7 +109,7 @@ fn run_line<R: Files + AllocGlobal + Clone + Drop>(
     rt: &R,
     example: &Example,
     line: &str,
-    kept: Option<KeptCase>,
+    kept: &Option<KeptCase>,
 ) -> io::Result<Option<Difference>> {
     let words = words_of(rt.alloc(), line)?;
     let files = FileShelf::new(rt.clone()?);
@@ -114,7 +131,7 @@ pub(crate) fn run_example<R: Files + AllocGlobal + Clone + Drop>(
     let example = read_example(rt)?;
     let kept = case_before(rt, &example)?;
     for line in example.words.as_str().lines() {
-        if let Some(difference) = run_line(rt, &example, line, kept)? {
+        if let Some(difference) = run_line(rt, &example, line, &kept)? {
             return Ok(Some(difference));
         }
     }
