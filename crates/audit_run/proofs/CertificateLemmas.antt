@@ -1,6 +1,6 @@
 -- The command `verify`: the certificate is read after both logs.
-use Rattle.std.proofs.Common.{◌<◌, length, Option, None, ◌≡◌, ◌⊎◌, ◌∙◌, sym, subst, refl, inl, inr, ⊎_elim, ℕ, ◌≤◌, true, false, List, [], ◌∷◌, Some, Result, Ok, Err, arith}
-use Rattle.std.specs.Prelude.{is_ok, IsSomeAnd, MatchResult}
+use Rattle.std.proofs.Common.{◌<◌, length, Option, None, ◌≡◌, ◌⊎◌, ◌∙◌, sym, subst, refl, inl, inr, ⊎_elim, ℕ, ◌≤◌, true, List, [], ◌∷◌, Some, Result, Ok, Err, arith}
+use Rattle.std.specs.Prelude.{IsSomeAnd, MatchResult}
 use Rattle.audit_base.specs.declared.faults.BadPlace.{BadPlace}
 use Rattle.audit_base.specs.declared.findings.Finding.{Finding}
 use Rattle.audit_base.specs.declared.records.OrderRecord.{OrderRecord}
@@ -9,14 +9,13 @@ use Rattle.audit_base.specs.declared.terms.Which.{Which}
 use Rattle.audit_base.specs.declared.terms.Which.TheVariants.{Orders, Trades}
 use Rattle.log_source.specs.Sources.{Slot, RoseOrIsFull}
 use Rattle.record_verdict.specs.declared.before_rule.BeforeRule.{BeforeRule}
-use Rattle.record_verdict.specs.declared.before_rule.BeforeRule.TheVariants as before_rule
 use Rattle.record_verdict.specs.declared.scopes.Scope.{Scope}
 use Rattle.record_verdict.specs.Scopes.{call_scope}
 use Rattle.log_verdict.specs.declared.sources.Source.{Source}
 use Rattle.command_run.specs.declared.answers.Answer.{Answer}
 use Rattle.log_verdict.specs.declared.stops.Stop.{Stop}
 use Rattle.log_verdict.specs.declared.stops.Stop.TheVariants as stop
-use Rattle.log_verdict.specs.BothLogs.{IsAfterOrders, IsLogStop, ReadsAfterOrders, ReadsUpToRule, StaysWithin, StaysWithinAt}
+use Rattle.log_verdict.specs.BothLogs.{IsLogStop, ReadsAfterOrders, ReadsLogs, ReadsTrades, StaysWithin, StaysWithinAt}
 use Rattle.audit_run.specs.Certificates.{IsVerifyAnswer}
 use Rattle.command_run.specs.Commands.{Command}
 use Rattle.command_run.specs.Deciding.{DecidesAnswer, DecidesBytes, IsAnswerOfKind, ReadingStops}
@@ -28,23 +27,12 @@ use Rattle.command_run.specs.Runs.{ReadingDecides, ReadsOneByOne, ReadsThenStart
 use Rattle.log_verdict.specs.Collecting.{TouchesOnly}
 use Rattle.log_verdict.specs.LogVerdicts.{log_in, records_of_order_log, trades_of_trade_log}
 use Rattle.log_verdict.specs.Steps.{Reading, LogStep, IsRead, IsReadFault, IsTooLong, StepsLead, FaultsNeverFall, with_slot, step_of, IsReadAs}
-use Rattle.record_verdict.specs.BeforeRule.{is_malformed, IsBeforeRule}
+use Rattle.record_verdict.specs.BeforeRule.{IsBeforeRule}
 use Rattle.audit_run.proofs.AnswerLemmas.{verify-status}
 
 -- a reading of the whole, from the reading of a part before and one after
 abbrev joined : Reading → Reading → Reading
 joined first second = record { limit = first.limit; tells = first.tells; log_of = first.log_of; before = first.before; after = second.after }
-
-not_both : true ≡ false → ⊥
-not_both e = cc
-
--- a trade log that is not in its grammar starts no certificate
-pub bad_trades : (scope : Scope) (entries : List OrderRecord) (said : Result (Result (List TradeRecord) Finding) BadPlace) (reached : BeforeRule) → MatchResult said (λ paired. IsBeforeRule scope entries paired reached) (λ bad. reached ≡ before_rule.Malformed Trades bad) → is_malformed reached ≡ true
-    → is_ok said ≡ false
-bad_trades scope entries (Err bad) reached come malformed = refl
-bad_trades scope entries (Ok paired) (before_rule.Malformed log bad) come malformed = absurd come
-bad_trades scope entries (Ok paired) (before_rule.Found finding) come malformed = absurd (not_both (sym malformed))
-bad_trades scope entries (Ok paired) (before_rule.Sound resolved) come malformed = absurd (not_both (sym malformed))
 
 -- Both logs were read, are in their grammars, and this is known of them before the rule.
 pub record BothRead (r : Reading) (scope : Scope) (orders trades : Source) (reached : BeforeRule) : Type 0 where
@@ -58,14 +46,13 @@ pub record BothRead (r : Reading) (scope : Scope) (orders trades : Source) (reac
   pub trades_are : trades_of_trade_log trades.form two ≡ Ok paired
   pub come : IsBeforeRule scope entries paired reached
 
-pub both_read : (r : Reading) (scope : Scope) (orders trades : Source) (reached : BeforeRule) → is_malformed reached ≡ false → ReadsUpToRule r scope orders trades reached → BothRead r scope orders trades reached
-both_read r scope orders trades reached good is = of_orders (records_of_order_log orders.form is.bytes) refl is.holds
+pub both_read : (r : Reading) (scope : Scope) (orders trades : Source) (reached : BeforeRule) → ReadsLogs r orders trades (λ entries paired. IsBeforeRule scope entries paired reached) (λ log bad. ⊥)
+    → BothRead r scope orders trades reached
+both_read r scope orders trades reached is = of_orders (records_of_order_log orders.form is.bytes) refl is.holds
   where
-    no_bad : (log : Which) (bad : BadPlace) → reached ≡ before_rule.Malformed log bad → ⊥
-    no_bad log bad e = not_both (rw e at good)
-
-    of_trades : (entries : List OrderRecord) → records_of_order_log orders.form is.bytes ≡ Ok entries → (after : IsAfterOrders r scope trades entries reached) → (said : Result (Result (List TradeRecord) Finding) BadPlace)
-        → trades_of_trade_log trades.form after.bytes ≡ said → MatchResult said (λ paired. IsBeforeRule scope entries paired reached) (λ bad. reached ≡ before_rule.Malformed Trades bad) → BothRead r scope orders trades reached
+    of_trades : (entries : List OrderRecord) → records_of_order_log orders.form is.bytes ≡ Ok entries → (after : ReadsTrades r trades (λ paired. IsBeforeRule scope entries paired reached) (λ bad. ⊥))
+        → (said : Result (Result (List TradeRecord) Finding) BadPlace) → trades_of_trade_log trades.form after.bytes ≡ said → MatchResult said (λ paired. IsBeforeRule scope entries paired reached) (λ bad. ⊥)
+        → BothRead r scope orders trades reached
     of_trades entries e after (Ok paired) f come = record {
       one = is.bytes;
       two = after.bytes;
@@ -77,11 +64,12 @@ both_read r scope orders trades reached good is = of_orders (records_of_order_lo
       trades_are = f;
       come = come;
     }
-    of_trades entries e after (Err bad) f come = absurd (no_bad Trades bad come)
+    of_trades entries e after (Err bad) f come = absurd come
 
-    of_orders : (said : Result (List OrderRecord) BadPlace) → records_of_order_log orders.form is.bytes ≡ said → ReadsAfterOrders r trades (λ es paired. IsBeforeRule scope es paired reached) (λ log bad. reached ≡ before_rule.Malformed log bad) said → BothRead r scope orders trades reached
+    of_orders : (said : Result (List OrderRecord) BadPlace) → records_of_order_log orders.form is.bytes ≡ said → ReadsAfterOrders r trades (λ es paired. IsBeforeRule scope es paired reached) (λ log bad. ⊥) said
+        → BothRead r scope orders trades reached
     of_orders (Ok entries) e after = of_trades entries e after (trades_of_trade_log trades.form after.bytes) refl after.holds
-    of_orders (Err bad) e (same, untouched) = absurd (no_bad Orders bad same)
+    of_orders (Err bad) e (never, untouched) = absurd never
 
 -- The second reading goes on where the first ended, on the same shelf.
 pub record Continues (first second : Reading) : Type 0 where

@@ -14,14 +14,17 @@ use Rattle.audit_base.specs.Rules.{Conforms}
 use Rattle.audit_base.specs.Verdicts.{IsRuleFinding}
 use Rattle.audit_certificate.specs.Agreement.{AgreesUnder, IsCertificateUnder}
 use Rattle.audit_report.specs.declared.verdicts.Accepted.{Accepted}
-use Rattle.audit_report.specs.declared.verdicts.Verdict.{Verdict}
 use Rattle.audit_report.specs.declared.verdicts.Verdict.TheVariants as verdict
 use Rattle.matching_core.specs.declared.deals_draft.ResolvedTrades.{ResolvedTrades}
 use Rattle.record_verdict.specs.declared.before_rule.BeforeRule.{BeforeRule}
 use Rattle.record_verdict.specs.declared.before_rule.BeforeRule.TheVariants as before_rule
 use Rattle.record_verdict.specs.declared.questions.Question.{Question}
+use Rattle.record_verdict.specs.declared.verdicts.Judged.{Judged}
+use Rattle.record_verdict.specs.declared.verdicts.Judged.TheVariants as judged
+use Rattle.record_verdict.specs.Judged.{as_verdict}
 use Rattle.command_run.specs.declared.answers.Answer.{Answer}
-use Rattle.audit_run.specs.Certificates.{IsCertificateOf, IsVerdictAnswerWith}
+use Rattle.audit_report.specs.declared.statuses.Status.{Status}
+use Rattle.audit_run.specs.Certificates.{IsCertificateOf, IsCertifyAnswer, IsVerdictAnswerWith}
 use Rattle.command_run.specs.Deciding.{IsAnswerOfKind}
 use Rattle.audit_run.specs.JudgedAnswers.{IsCertifyAnswerOn, IsDealsCertificate, LogsReach}
 use Rattle.command_run.specs.VerdictAnswers.{IsVerdictAnswer}
@@ -43,30 +46,35 @@ of_logs P P' B B' records bads orders trades come = of_said (records_of_order_lo
     of_said (Ok entries) (Err bad) is = bads Trades bad is
     of_said (Err bad) second is = bads Orders bad is
 
--- the verdict by what is known of two logs is that of the logs
-pub verdict_of_logs : (q : Question) (reached : BeforeRule) (v : Verdict) (orders trades : Log) → IsVerdictAfterStages q reached v → LogsReach (scope_of q) orders trades reached → IsLogVerdict q orders trades v
-verdict_of_logs q reached v orders trades is come =
-    of_logs (λ entries paired. IsBeforeRule (scope_of q) entries paired reached) (λ entries paired. IsRecordVerdict q entries paired v)
-    (λ log bad. reached ≡ before_rule.Malformed log bad) (λ log bad. v ≡ verdict.Malformed log bad) is.of_records is.of_place orders trades come
+-- what holds of a first bad place holds of two logs that have it
+pub of_bad_logs : (P : List OrderRecord → Result (List TradeRecord) Finding → Type 0) (B : Which → BadPlace → Type 0) (log : Which) (bad : BadPlace) → B log bad → (orders trades : Log)
+    → OfLogs (λ entries paired. ⊥) (λ which place. (which ≡ log) × (place ≡ bad)) orders trades → OfLogs P B orders trades
+of_bad_logs P B log bad holds orders trades come =
+    of_logs (λ entries paired. ⊥) P (λ which place. (which ≡ log) × (place ≡ bad)) B (λ entries paired never. absurd never) (λ which place same. rw (same.0, same.1) holds) orders trades come
 
--- an answer of a bad place or of a finding is that of `certify`
-refused_certifies : (q : Question) (reached : BeforeRule) (v other : Verdict) (answer : Answer) → IsVerdictAfterStages q reached v → v ≡ other → IsAnswerOfKind (IsVerdictAnswer v) answer
-    → ((is_text : List ℕ → Type 0) → IsAnswerOfKind (IsVerdictAnswer other) answer → IsVerdictAnswerWith is_text other answer.status answer.text.items) → IsAnswerOfKind (IsCertifyAnswerOn q reached) answer
-refused_certifies q reached v other answer is same made reports orders trades come = record {
-  verdict = v;
-  is = verdict_of_logs q reached v orders trades is come;
-  answer = rw same (reports (IsCertificateOf q orders trades) (rw same at made));
+-- the verdict by what is known of two logs is that of the logs
+pub verdict_of_logs : (q : Question) (reached : BeforeRule) (v : Judged) (orders trades : Log) → IsVerdictAfterStages q reached v → LogsReach (scope_of q) orders trades reached → IsLogVerdict q orders trades (as_verdict v)
+verdict_of_logs q reached v orders trades is come =
+    of_logs (λ entries paired. IsBeforeRule (scope_of q) entries paired reached) (λ entries paired. IsRecordVerdict q entries paired (as_verdict v))
+    (λ log bad. ⊥) (λ log bad. as_verdict v ≡ verdict.Malformed log bad) is.of_records (λ log bad never. absurd never) orders trades come
+
+-- the answer of a bad place is that of `certify`
+pub bad_certifies : (q : Question) (orders trades : Log) (log : Which) (bad : BadPlace) (the_status : Status) (text : List ℕ) → IsVerdictAnswer (verdict.Malformed log bad) the_status text
+    → OfLogs (λ entries paired. ⊥) (λ which place. (which ≡ log) × (place ≡ bad)) orders trades → IsCertifyAnswer q orders trades the_status text
+bad_certifies q orders trades log bad the_status text made come = record {
+  verdict = verdict.Malformed log bad;
+  is = of_bad_logs (λ entries paired. IsRecordVerdict q entries paired (verdict.Malformed log bad)) (λ which place. verdict.Malformed log bad ≡ verdict.Malformed which place) log bad refl orders trades come;
+  answer = made;
 }
 
-pub answer_certifies : (q : Question) (reached : BeforeRule) (v : Verdict) (answer : Answer) → ((sound : ResolvedTrades) → reached ≡ before_rule.Sound sound → ⊥) → IsVerdictAfterStages q reached v → IsAnswerOfKind (IsVerdictAnswer v) answer
-    → IsAnswerOfKind (IsCertifyAnswerOn q reached) answer
-answer_certifies q (before_rule.Malformed log bad) v answer none is made =
-    refused_certifies q (before_rule.Malformed log bad) v (verdict.Malformed log bad) answer is (is.of_place log bad refl) made
-    (λ is_text is. is)
-answer_certifies q (before_rule.Found finding) v answer none is made =
-    refused_certifies q (before_rule.Found finding) v (verdict.Rejected finding) answer is (is.of_finding finding refl) made
-    (λ is_text is. is)
-answer_certifies q (before_rule.Sound sound) v answer none is made = absurd (none sound refl)
+-- so is that of a finding
+pub found_certifies : (q : Question) (finding : Finding) (v : Judged) (answer : Answer) → IsVerdictAfterStages q (before_rule.Found finding) v → IsAnswerOfKind (IsVerdictAnswer (verdict.Rejected finding)) answer
+    → IsAnswerOfKind (IsCertifyAnswerOn q (before_rule.Found finding)) answer
+found_certifies q finding v answer is made orders trades come = record {
+  verdict = verdict.Rejected finding;
+  is = subst (λ (j : Judged). IsLogVerdict q orders trades (as_verdict j)) (is.of_finding finding refl) (verdict_of_logs q (before_rule.Found finding) v orders trades is come);
+  answer = made;
+}
 
 -- Logs of which sound trades are known have records of which they are.
 pub record HaveSoundRecords (q : Question) (orders trades : Log) (resolved : ResolvedTrades) : Type 0 where
@@ -78,17 +86,13 @@ pub record HaveSoundRecords (q : Question) (orders trades : Log) (resolved : Res
 pub sound_records : (q : Question) (orders trades : Log) (resolved : ResolvedTrades) → LogsReach (scope_of q) orders trades (before_rule.Sound resolved) → HaveSoundRecords q orders trades resolved
 sound_records q orders trades resolved come = of_said (records_of_order_log orders.form orders.bytes) (trades_of_trade_log trades.form trades.bytes) refl refl come
   where
-    apart : (other : Which) (place : BadPlace) → before_rule.Sound resolved ≡ before_rule.Malformed other place → ⊥
-    apart other place e = cc
-
     of_said : (first : Result (List OrderRecord) BadPlace) (second : Result (Result (List TradeRecord) Finding) BadPlace)
         → records_of_order_log orders.form orders.bytes ≡ first → trades_of_trade_log trades.form trades.bytes ≡ second
-        → MatchResult first (λ entries. MatchResult second (λ paired. IsBeforeRule (scope_of q) entries paired (before_rule.Sound resolved)) (λ bad. before_rule.Sound resolved ≡ before_rule.Malformed Trades bad))
-        (λ bad. before_rule.Sound resolved ≡ before_rule.Malformed Orders bad)
+        → MatchResult first (λ entries. MatchResult second (λ paired. IsBeforeRule (scope_of q) entries paired (before_rule.Sound resolved)) (λ bad. ⊥)) (λ bad. ⊥)
         → HaveSoundRecords q orders trades resolved
     of_said (Ok entries) (Ok paired) e f is = record { entries = entries; paired = paired; logs = record { records = e; trades_are = f }; sound = is }
-    of_said (Ok entries) (Err bad) e f is = absurd (apart Trades bad is)
-    of_said (Err bad) second e f is = absurd (apart Orders bad is)
+    of_said (Ok entries) (Err bad) e f is = absurd is
+    of_said (Err bad) second e f is = absurd is
 
 certificate_of : (q : Question) (orders trades : Log) (resolved : ResolvedTrades) (text : List ℕ) → HaveSoundRecords q orders trades resolved → IsDealsCertificate q resolved text
     → IsCertificateOf q orders trades text
@@ -105,20 +109,19 @@ certificate_of q orders trades resolved text have is =
     }
 
 -- the answer of sound trades is that of `certify`
-pub sound_certifies : (q : Question) (resolved : ResolvedTrades) (v : Verdict) (answer : Answer) → IsVerdictAfterStages q (before_rule.Sound resolved) v → IsAnswerOfKind (IsVerdictAnswerWith (IsDealsCertificate q resolved) v) answer → IsAnswerOfKind (IsCertifyAnswerOn q (before_rule.Sound resolved)) answer
+pub sound_certifies : (q : Question) (resolved : ResolvedTrades) (v : Judged) (answer : Answer) → IsVerdictAfterStages q (before_rule.Sound resolved) v → IsAnswerOfKind (IsVerdictAnswerWith (IsDealsCertificate q resolved) (as_verdict v)) answer → IsAnswerOfKind (IsCertifyAnswerOn q (before_rule.Sound resolved)) answer
 sound_certifies q resolved v answer is made orders trades come = record {
-  verdict = v;
+  verdict = as_verdict v;
   is = verdict_of_logs q (before_rule.Sound resolved) v orders trades is come;
-  answer = of_verdict v made;
+  answer = of_judged v made;
 }
   where
-    of_verdict : (v : Verdict) → IsVerdictAnswerWith (IsDealsCertificate q resolved) v answer.status answer.text.items → IsVerdictAnswerWith (IsCertificateOf q orders trades) v answer.status answer.text.items
-    of_verdict (verdict.Accepted a) reports = record {
+    of_judged : (v : Judged) → IsVerdictAnswerWith (IsDealsCertificate q resolved) (as_verdict v) answer.status answer.text.items → IsVerdictAnswerWith (IsCertificateOf q orders trades) (as_verdict v) answer.status answer.text.items
+    of_judged (judged.Accepted a) reports = record {
       done = reports.done;
       is = certificate_of q orders trades resolved answer.text.items (sound_records q orders trades resolved come) reports.is;
     }
-    of_verdict (verdict.Rejected f) reports = reports
-    of_verdict (verdict.Malformed log bad) reports = reports
+    of_judged (judged.Rejected f) reports = reports
 
 -- deals that are accepted conform
 pub accepted_conforms : (q : Question) (orders : List Order) (deals : List Deal) (count : ℕ) (a : Accepted) → VerdictFollowsDeals q orders deals count (verdict.Accepted a) → Conforms q.rule orders deals

@@ -5,42 +5,36 @@ use Rattle.audit_base.specs.declared.findings.Finding.{Finding}
 use Rattle.audit_base.specs.declared.records.OrderRecord.{OrderRecord}
 use Rattle.audit_base.specs.declared.records.TradeRecord.{TradeRecord}
 use Rattle.audit_base.specs.declared.terms.Which.{Which}
-use Rattle.audit_report.specs.declared.verdicts.Verdict.{Verdict}
 use Rattle.audit_report.specs.declared.verdicts.Verdict.TheVariants as verdict
 use Rattle.session_audit.specs.declared.phases.Phase.{Phase}
 use Rattle.session_audit.specs.declared.verdicts.Session.{Session}
 use Rattle.session_audit.specs.SessionVerdicts.{session_status, IsSessionAfter, IsSessionOfRecords}
 use Rattle.record_verdict.specs.declared.before_rule.BeforeRule.{BeforeRule}
-use Rattle.record_verdict.specs.declared.before_rule.BeforeRule.TheVariants as before_rule
 use Rattle.command_run.specs.declared.answers.Answer.{Answer}
 use Rattle.record_verdict.specs.Scopes.{session_scope}
 use Rattle.command_run.specs.Deciding.{IsAnswerOfKind}
 use Rattle.audit_run.specs.JudgedAnswers.{IsSessionAnswerOn}
-use Rattle.audit_run.specs.Sessions.{IsSessionAnswerToRecords}
+use Rattle.audit_run.specs.Sessions.{IsSessionAnswer, IsSessionAnswerToRecords}
 use Rattle.command_run.specs.VerdictAnswers.{IsVerdictAnswer}
 use Rattle.record_verdict.specs.BeforeRule.{IsBeforeRule}
-use Rattle.audit_run.proofs.JudgedAnswerLemmas.{of_logs}
+use Rattle.log_verdict.specs.LogVerdicts.{Log, OfLogs}
+use Rattle.audit_report.specs.declared.statuses.Status.{Status}
+use Rattle.audit_run.proofs.JudgedAnswerLemmas.{of_bad_logs, of_logs}
 
-module _ (symbol : List ℕ) (phases : List Phase) (table : Bool) (answer : Answer) where
+module _ (symbol : List ℕ) (phases : List Phase) (table : Bool) where
   -- a bad place is answered, whatever the phases are
-  pub malformed_session : (log : Which) (bad : BadPlace) → IsAnswerOfKind (IsVerdictAnswer (verdict.Malformed log bad)) answer → IsAnswerOfKind (IsSessionAnswerOn symbol phases table (before_rule.Malformed log bad)) answer
-  malformed_session log bad made orders trades come =
-      of_logs (λ entries paired. IsBeforeRule (session_scope symbol) entries paired (before_rule.Malformed log bad)) (λ entries paired. IsSessionAnswerToRecords symbol phases table entries paired answer.status answer.text.items)
-      (λ other place. before_rule.Malformed log bad ≡ before_rule.Malformed other place) (λ other place. IsVerdictAnswer (verdict.Malformed other place) answer.status answer.text.items)
-      (λ entries paired is. absurd is)
-      (λ other place e. subst (λ (v : Verdict). IsVerdictAnswer v answer.status answer.text.items) (same other place e) made)
-      orders trades come
-    where
-      same : (other : Which) (place : BadPlace) → before_rule.Malformed log bad ≡ before_rule.Malformed other place → verdict.Malformed log bad ≡ verdict.Malformed other place
-      same other place e = cc
+  pub bad_session : (orders trades : Log) (log : Which) (bad : BadPlace) (the_status : Status) (text : List ℕ) → IsVerdictAnswer (verdict.Malformed log bad) the_status text
+      → OfLogs (λ entries paired. ⊥) (λ which place. (which ≡ log) × (place ≡ bad)) orders trades → IsSessionAnswer symbol phases table orders trades the_status text
+  bad_session orders trades log bad the_status text made come =
+      of_bad_logs (λ entries paired. IsSessionAnswerToRecords symbol phases table entries paired the_status text) (λ which place. IsVerdictAnswer (verdict.Malformed which place) the_status text) log bad made orders trades come
 
   -- else the session of the records is
-  pub session_answers : (given : BeforeRule) (session : Session) → ((log : Which) (bad : BadPlace) → given ≡ before_rule.Malformed log bad → ⊥) → IsSessionAfter symbol phases table given session
+  pub session_answers : (answer : Answer) (given : BeforeRule) (session : Session) → IsSessionAfter symbol phases table given session
       → answer.status ≡ session_status session.conforms → answer.text.items ≡ session.text.items → IsAnswerOfKind (IsSessionAnswerOn symbol phases table given) answer
-  session_answers given session good is status_is text_is orders trades come =
+  session_answers answer given session is status_is text_is orders trades come =
       of_logs (λ entries paired. IsBeforeRule (session_scope symbol) entries paired given) (λ entries paired. IsSessionAnswerToRecords symbol phases table entries paired answer.status answer.text.items)
-      (λ other place. given ≡ before_rule.Malformed other place) (λ other place. IsVerdictAnswer (verdict.Malformed other place) answer.status answer.text.items)
-      (λ entries paired known. of_records entries paired (is entries paired known)) (λ other place e. absurd (good other place e)) orders trades come
+      (λ other place. ⊥) (λ other place. IsVerdictAnswer (verdict.Malformed other place) answer.status answer.text.items)
+      (λ entries paired known. of_records entries paired (is entries paired known)) (λ other place never. absurd never) orders trades come
     where
       of_records : (entries : List OrderRecord) (paired : Result (List TradeRecord) Finding) → IsSessionOfRecords symbol phases table entries paired session.conforms session.text.items
           → IsSessionAnswerToRecords symbol phases table entries paired answer.status answer.text.items

@@ -5,7 +5,6 @@ use Rattle.audit_report.specs.declared.statuses.Status.{Status}
 use Rattle.session_audit.specs.declared.phases.Phase.{Phase}
 use Rattle.matching_core.specs.declared.deals_draft.ResolvedTrades.{ResolvedTrades}
 use Rattle.record_verdict.specs.declared.before_rule.BeforeRule.{BeforeRule}
-use Rattle.record_verdict.specs.declared.before_rule.BeforeRule.TheVariants as before_rule
 use Rattle.record_verdict.specs.declared.questions.Question.{Question}
 use Rattle.audit_run.specs.Certificates.{IsCertifyAnswer, IsVerifyAnswer}
 use Rattle.audit_run.specs.Sessions.{IsSessionAnswer}
@@ -14,12 +13,11 @@ use Rattle.record_verdict.specs.BeforeRule.{IsBeforeRule}
 use Rattle.record_verdict.specs.Scopes.{call_scope, scope_of, session_scope}
 use Rattle.record_verdict.specs.declared.scopes.Scope.{Scope}
 
--- two logs give this before the rule is looked at: their first bad place, or what their records
--- give
+-- two logs have records, and these give this before the rule is looked at
 abbrev pub LogsReach : Scope → Log → Log → BeforeRule → Type 0
 LogsReach scope orders trades given =
     OfLogs (λ entries paired. IsBeforeRule scope entries paired given)
-    (λ log bad. given ≡ before_rule.Malformed log bad) orders trades
+    (λ log bad. ⊥) orders trades
 
 -- `certify` answers this to whatever logs that give this before the rule
 abbrev pub IsCertifyAnswerOn : Question → BeforeRule → Status → List ℕ → Type 0

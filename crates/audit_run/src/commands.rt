@@ -17,7 +17,7 @@ use super::sessions::answer_session;
 use super::verifying::answer_verify;
 use audit_base::names::Name;
 use audit_base::terms::{Form, Rule};
-use command_run::answers::{Answer, verdict_answer};
+use command_run::answers::{Answer, answer_without, verdict_answer};
 use command_run::laws::{both_logs_decide, one_log_decides};
 use command_words::paths::PathText;
 use command_words::requests::Request;
@@ -79,7 +79,7 @@ fn answer_certify<F: Shelf>(
     // A match and no `?`, as in `verdict_on`.
     match read_both(alloc, shelf, &question.scope(), orders, trades) {
         Ok(given) => Ok(certify_answer(alloc, &question, &given)?),
-        Err(stop) => Err(stop),
+        Err(why) => answer_without(alloc, why),
     }
 }
 

@@ -20,17 +20,15 @@ impl GivenByLogs for GivenVerdict {
     ghost of_bad = { λ given log bad. given.1 ≡ Malformed log bad };
 }
 
-/// Two logs give what is known in a scope before a rule is looked at.
+/// The records of two logs give what is known in a scope before a rule is looked at.
 pub struct GivenBeforeRule;
 
 impl GivenByLogs for GivenBeforeRule {
-    ghost use Rattle.std.specs.Prelude.{◌≡◌};
-    ghost use Rattle.record_verdict.specs.declared.before_rule.BeforeRule.TheVariants.{Malformed};
     ghost use Rattle.record_verdict.specs.BeforeRule.{IsBeforeRule};
 
     type Given = (Scope, BeforeRule);
 
     ghost of_records = { λ given entries paired. IsBeforeRule given.0 entries paired given.1 };
 
-    ghost of_bad = { λ given log bad. given.1 ≡ Malformed log bad };
+    ghost of_bad = { λ given log bad. ⊥ };
 }

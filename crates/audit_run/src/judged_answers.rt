@@ -4,18 +4,17 @@ ghost use Rattle.audit_base.specs.RuleKinds.{asks_for_greatest};
 ghost use Rattle.audit_run.specs.Certificates.{IsVerdictAnswerWith};
 ghost use Rattle.command_run.specs.Deciding.{IsAnswerOfKind};
 ghost use Rattle.audit_run.specs.JudgedAnswers.{IsCertifyAnswerOn, IsDealsCertificate};
-ghost use Rattle.audit_report.specs.Texts.{IsVerdictInRange};
+ghost use Rattle.record_verdict.specs.Judged.{as_verdict};
 ghost use Rattle.record_verdict.specs.Stages.{VerdictFollowsDeals};
 ghost use Rattle.record_verdict.specs.BeforeRule.{AreResolvedTradesInRange, IsJudgeable};
 
 use audit_base::faults::NoMemory;
 use audit_certificate::certifying::certify;
-use audit_report::verdicts::Verdict;
-use command_run::answers::{Answer, done_answer, verdict_answer};
+use command_run::answers::{Answer, done_answer, finding_answer};
 use matching_core::deals_draft::ResolvedTrades;
 use record_verdict::before_rule::BeforeRule;
 use record_verdict::questions::Question;
-use record_verdict::verdicts::verdict_after;
+use record_verdict::verdicts::{Judged, verdict_after};
 use std::alloc::Global;
 
 /// The certificate of sound trades that conform, or what `audit` answers where they do not.
@@ -23,25 +22,25 @@ fn certified_answer(
     alloc: Global,
     question: &Question,
     resolved: &ResolvedTrades,
-    verdict: &Verdict,
+    judged: Judged,
 ) -> Result<Answer, NoMemory>
     requires rule { IsTrue (asks_for_greatest question.now.rule) }
     requires judgeable { AreResolvedTradesInRange resolved.now }
     requires judged { let sound = resolved.now in
-        VerdictFollowsDeals question.now sound.history sound.deals.items sound.count verdict.now }
-    requires in_range { IsVerdictInRange verdict.now }
+        VerdictFollowsDeals question.now sound.history sound.deals.items sound.count
+        (as_verdict judged) }
     ensures { IfOk result (IsAnswerOfKind
-        (IsVerdictAnswerWith (IsDealsCertificate question.now resolved.now) verdict.now)) }
+        (IsVerdictAnswerWith (IsDealsCertificate question.now resolved.now) (as_verdict judged))) }
 {
-    match verdict {
-        Verdict::Accepted(_) => Ok(done_answer(certify(
+    match judged {
+        Judged::Accepted(_) => Ok(done_answer(certify(
             alloc,
             question.rule,
             &question.symbol,
             &resolved.history.orders(),
             &resolved.deals,
         )?)),
-        Verdict::Rejected(_) | Verdict::Malformed { .. } => verdict_answer(alloc, verdict),
+        Judged::Rejected(finding) => finding_answer(alloc, finding),
     }
 }
 
@@ -55,9 +54,9 @@ pub(crate) fn certify_answer(
     requires judgeable { IsJudgeable given.now }
     ensures { IfOk result (IsAnswerOfKind (IsCertifyAnswerOn question.now given.now)) }
 {
-    let verdict = verdict_after(alloc, question, given)?;
-    if let BeforeRule::Sound(resolved) = given {
-        return certified_answer(alloc, question, resolved, &verdict);
+    let judged = verdict_after(alloc, question, given)?;
+    match given {
+        BeforeRule::Found(finding) => finding_answer(alloc, *finding),
+        BeforeRule::Sound(resolved) => certified_answer(alloc, question, resolved, judged),
     }
-    verdict_answer(alloc, &verdict)
 }

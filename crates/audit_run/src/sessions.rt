@@ -13,7 +13,7 @@ use super::given_logs::GivenBeforeRule;
 use super::program::Auditor;
 use audit_base::faults::NoMemory;
 use audit_base::names::Name;
-use command_run::answers::{Answer, malformed_answer};
+use command_run::answers::{Answer, answer_without};
 use command_run::laws::both_logs_decide;
 use log_source::shelf::Shelf;
 use log_verdict::both_logs::read_both;
@@ -48,9 +48,6 @@ fn session_answer(
     ensures { IfOk result (IsAnswerOfKind
         (IsSessionAnswerOn symbol.now phases.now table given.now)) }
 {
-    if let BeforeRule::Malformed { log, bad } = given {
-        return malformed_answer(alloc, *log, bad);
-    }
     let session = session_after(alloc, symbol, phases, table, given)?;
     Ok(answer_of_session(session))
 }
@@ -82,6 +79,6 @@ pub(crate) fn answer_session<F: Shelf>(
     // A match and no `?`, as in `verdict_on`.
     match read_both(alloc, shelf, &scope, orders, trades) {
         Ok(given) => Ok(session_answer(alloc, symbol, phases, table, &given)?),
-        Err(stop) => Err(stop),
+        Err(why) => answer_without(alloc, why),
     }
 }

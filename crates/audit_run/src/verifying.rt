@@ -24,7 +24,7 @@ use audit_certificate::faults::VerifyFault;
 use audit_certificate::verifying::verify;
 use audit_report::certificates::{append_refused_line, append_verified_line};
 use audit_report::statuses::Status;
-use command_run::answers::{Answer, done_answer, finding_answer, malformed_answer, unread_answer};
+use command_run::answers::{Answer, answer_without, done_answer, finding_answer, unread_answer};
 use command_run::laws::{both_logs_decide, read_logs_decide};
 use log_source::shelf::Shelf;
 use log_source::take::take_log;
@@ -98,7 +98,6 @@ fn verify_answer(
         (IsVerifyAnswerOn symbol.now given.now certificate.now)) }
 {
     match given {
-        BeforeRule::Malformed { log, bad } => malformed_answer(alloc, *log, bad),
         BeforeRule::Found(finding) => finding_answer(alloc, *finding),
         BeforeRule::Sound(resolved) => answer_sound(alloc, symbol, resolved, certificate),
     }
@@ -155,12 +154,7 @@ pub(crate) fn answer_verify<F: Shelf>(
     };
     // A match and no `?`, as in `verdict_on`.
     match read_both(alloc, shelf, &scope, orders, trades) {
-        Ok(given) => {
-            if given.is_malformed() {
-                return Ok(verify_answer(alloc, symbol, &given, &[])?);
-            }
-            answer_certificate(alloc, shelf, symbol, &given, certificate, orders.limit)
-        }
-        Err(stop) => Err(stop),
+        Ok(given) => answer_certificate(alloc, shelf, symbol, &given, certificate, orders.limit),
+        Err(why) => answer_without(alloc, why),
     }
 }

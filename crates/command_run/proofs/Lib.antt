@@ -6,6 +6,7 @@ mod ReadyLemmas
 mod MemoryLemmas
 mod OneLogLemmas
 mod BothLogsLemmas
+pub mod UnreadLemmas
 mod InTurnLemmas
 mod AgreeLemmas
 mod NoMemoryLemmas

@@ -6,11 +6,12 @@ use Rattle.audit_report.specs.declared.statuses.Status.TheVariants as status
 use Rattle.audit_report.specs.declared.verdicts.Verdict.TheVariants.{Malformed}
 use Rattle.audit_report.specs.Lines.{read_fault_line, too_long_line}
 use Rattle.log_verdict.specs.declared.reading.Unread.{Unread}
-use Rattle.log_verdict.specs.declared.reading.Unread.TheVariants as unread
 use Rattle.log_verdict.specs.declared.sources.Source.{Source}
 use Rattle.log_verdict.specs.declared.stops.Stop.{Stop}
 use Rattle.log_verdict.specs.declared.stops.Stop.TheVariants as stop
-use Rattle.log_verdict.specs.BothLogs.{IsLogStop}
+use Rattle.log_verdict.specs.declared.stops.NoRecords.{NoRecords}
+use Rattle.log_verdict.specs.declared.stops.NoRecords.TheVariants as norecords
+use Rattle.log_verdict.specs.BothLogs.{IsLogStop, no_records}
 use Rattle.log_verdict.specs.LogVerdicts.{Log, log_in}
 use Rattle.log_verdict.specs.Steps.{Reading, IsReadAs}
 use Rattle.command_run.specs.declared.answers.Answer.{Answer}
@@ -68,15 +69,17 @@ abbrev pub DecidesLog : Reading → Which → Source → (Log → Status → Lis
 DecidesLog r which source is_answer result =
     DecidesBytes r which source.name.now (λ bytes. is_answer (log_in source.form bytes)) result
 
--- what is decided where a log was not read into records: the answer is its first bad place, or
+-- what is decided where logs were not read into records: the answer is the first bad place, or
 -- there is none for a cause
-abbrev pub DecidesUnread : Which → Unread → Result Answer Stop → Type 0
-DecidesUnread log (unread.Bad bad) result =
+abbrev pub DecidesWithout : NoRecords → Result Answer Stop → Type 0
+DecidesWithout (norecords.Malformed log bad) result =
     MatchResult result (IsAnswerOfKind (IsVerdictAnswer (Malformed log bad)))
     (λ why. why ≡ stop.Memory)
-DecidesUnread log unread.ReadFault result = result ≡ Err (stop.ReadFault log)
-DecidesUnread log unread.TooLong result = result ≡ Err (stop.TooLong log)
-DecidesUnread log unread.Memory result = result ≡ Err stop.Memory
+DecidesWithout (norecords.Stopped why) result = result ≡ Err why
+
+-- the same where this one log was not
+abbrev pub DecidesUnread : Which → Unread → Result Answer Stop → Type 0
+DecidesUnread log why result = DecidesWithout (no_records log why) result
 
 -- the statuses of an answer to logs that were read
 abbrev pub IsStatusOfLogs : Status → Type 0

@@ -1,5 +1,5 @@
 -- The laws of calls that run a command, as statements about one command.
-use Rattle.std.specs.Prelude.{◌≡◌, ◌≤◌, ◌⊎◌, ℕ, true, List, [], ◌∷◌, None, Ok, Result, MatchResult}
+use Rattle.std.specs.Prelude.{◌≡◌, ◌≤◌, ◌⊎◌, ℕ, true, List, [], ◌∷◌, None, Ok, Err, Result, MatchResult}
 use Rattle.std.specs.Io.KnownBytes.{Appends}
 use Rattle.audit_base.specs.declared.faults.BadPlace.{BadPlace}
 use Rattle.audit_base.specs.declared.findings.Finding.{Finding}
@@ -9,19 +9,22 @@ use Rattle.audit_base.specs.declared.terms.Which.{Which}
 use Rattle.audit_base.specs.declared.terms.Which.TheVariants.{Orders, Trades}
 use Rattle.audit_report.specs.declared.statuses.Status.{Status}
 use Rattle.audit_report.specs.declared.statuses.Status.TheVariants.{Memory}
+use Rattle.audit_report.specs.declared.verdicts.Verdict.TheVariants.{Malformed}
 use Rattle.log_source.specs.Sinks.{SinkState}
 use Rattle.log_verdict.specs.declared.sources.Source.{Source}
 use Rattle.log_verdict.specs.declared.stops.Stop.{Stop}
 use Rattle.log_verdict.specs.declared.stops.Stop.TheVariants as stop
-use Rattle.log_verdict.specs.BothLogs.{IsLogStop, IsStopOfTwoLogs, ReadsLogs}
+use Rattle.log_verdict.specs.declared.stops.NoRecords.{NoRecords}
+use Rattle.log_verdict.specs.BothLogs.{IsLogStop, IsStopOfTwoLogs, IsUnreadOfTwoLogs, ReadsLogs}
 use Rattle.log_verdict.specs.BothLogs.{StaysWithin, StaysWithinAt}
 use Rattle.log_verdict.specs.Collecting.{TouchesOnly}
 use Rattle.log_verdict.specs.LogVerdicts.{OfLogs, log_in, records_of_order_log, trades_of_trade_log}
 use Rattle.log_verdict.specs.Steps.{FaultsNeverFall, IsRead, Reading, step_of}
 use Rattle.command_run.specs.declared.answers.Answer.{Answer}
 use Rattle.command_run.specs.Commands.{Command, StartsAnyTwo, StartsBoth, StartsOne, log_read_at}
-use Rattle.command_run.specs.Deciding.{DecidesAnswer, DecidesBytes, IsStatusOfLogs, ReadingStops}
+use Rattle.command_run.specs.Deciding.{DecidesAnswer, DecidesBytes, DecidesWithout, IsStatusOfLogs, ReadingStops}
 use Rattle.command_run.specs.InTurn.{ReadsInTurn, reading_of_both}
+use Rattle.command_run.specs.VerdictAnswers.{IsVerdictAnswer}
 use Rattle.command_run.specs.Runs.{AllIsThere, AnswersCommand, HoldsNeededLogs}
 use Rattle.command_run.specs.Runs.{IsAnswerToReadLogs, ReadingDecides, WritesAnswer}
 
@@ -124,6 +127,28 @@ BothLogsDecide {G = G} of_records of_bad command = (given : G) (r : Reading)
     → AnswersBoth command orders trades (of_records given) (of_bad given) the_status text
     → ReadsLogs r orders trades (of_records given) (of_bad given)
     → ReadingDecides r command the_status text
+
+-- What a command that starts both logs answers where one of them has a first bad place: its line,
+-- to whatever logs that have it, after which the command needs no third log.
+pub record AnswersBadPlace (command : Command) (orders trades : Source) : Type 0 where
+  pub starts : StartsBoth command orders trades
+  pub answer : (log : Which) (bad : BadPlace) (the_status : Status) (text : List ℕ)
+      → IsVerdictAnswer (Malformed log bad) the_status text
+      → (logs : List (List ℕ)) → log_read_at logs 2 ≡ []
+      → OfLogs (λ entries paired. ⊥) (λ which place. (which ≡ log) × (place ≡ bad))
+      (log_in orders.form (log_read_at logs 0)) (log_in trades.form (log_read_at logs 1))
+      → command.is_answer logs the_status text
+  pub ends : (bad : BadPlace) (first second : List ℕ) (entries : List OrderRecord)
+      → records_of_order_log orders.form first ≡ Ok entries
+      → trades_of_trade_log trades.form second ≡ Err bad
+      → command.next (first ∷ second ∷ []) ≡ None
+
+-- why both logs were not read into records decides the command
+abbrev pub BothLogsUnread : Command → Type 0
+BothLogsUnread command = (r : Reading) (orders trades : Source) (why : NoRecords)
+    (result : Result Answer Stop) → FaultsNeverFall r → AnswersBadPlace command orders trades
+    → IsUnreadOfTwoLogs r orders trades why → DecidesWithout why result
+    → DecidesAnswer r command result
 
 -- why nothing is known of both logs decides the command
 abbrev pub BothLogsStop : Command → Type 0

@@ -2,7 +2,7 @@
 ghost use Rattle.std.specs.Prelude.{◌≡◌, IfOk};
 ghost use Rattle.audit_report.specs.declared.verdicts.Verdict.TheVariants as verdict;
 ghost use Rattle.audit_report.specs.Texts.{IsVerdictInRange};
-ghost use Rattle.command_run.specs.Deciding.{DecidesUnread, IsAnswerOfKind};
+ghost use Rattle.command_run.specs.Deciding.{DecidesUnread, DecidesWithout, IsAnswerOfKind};
 ghost use Rattle.command_run.specs.VerdictAnswers.{IsVerdictAnswer};
 
 use audit_base::faults::{BadPlace, NoMemory};
@@ -12,7 +12,7 @@ use audit_report::reports::report_text;
 use audit_report::statuses::Status;
 use audit_report::verdicts::{Verdict, status_of};
 use log_verdict::reading::Unread;
-use log_verdict::stops::Stop;
+use log_verdict::stops::{NoRecords, Stop};
 use std::alloc::Global;
 
 /// What a command answers: the status, and the text that is written.
@@ -59,14 +59,19 @@ pub fn done_answer(text: Vec<u8>) -> Answer
     }
 }
 
-/// The answer to a log that was not read into records, or why there is none.
+/// The answer to logs that were not read into records: the first bad place, or there is none.
+pub fn answer_without(alloc: Global, why: NoRecords) -> Result<Answer, Stop>
+    ensures { DecidesWithout why result }
+{
+    match why {
+        NoRecords::Malformed { log, bad } => Ok(malformed_answer(alloc, log, &bad)?),
+        NoRecords::Stopped(stop) => Err(stop),
+    }
+}
+
+/// The same, where this one log was not.
 pub fn unread_answer(alloc: Global, log: Which, unread: Unread) -> Result<Answer, Stop>
     ensures { DecidesUnread log unread result }
 {
-    match unread {
-        Unread::Bad(bad) => Ok(malformed_answer(alloc, log, &bad)?),
-        Unread::ReadFault => Err(Stop::ReadFault(log)),
-        Unread::TooLong => Err(Stop::TooLong(log)),
-        Unread::Memory => Err(Stop::Memory),
-    }
+    answer_without(alloc, NoRecords::at(log, unread))
 }

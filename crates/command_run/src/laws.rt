@@ -1,7 +1,7 @@
 //! What holds of every command, whichever it is. Each law is the contract of a call that does
 //! nothing, for the requests of one program.
 ghost use Rattle.std.specs.Prelude.{◌≢◌, Option};
-ghost use Rattle.command_run.specs.Laws.{BothLogsDecide, BothLogsStop, CallsAgree};
+ghost use Rattle.command_run.specs.Laws.{BothLogsDecide, BothLogsStop, BothLogsUnread, CallsAgree};
 ghost use Rattle.command_run.specs.Laws.{FirstLogStops, SecondLogDecides};
 ghost use Rattle.command_run.specs.Laws.{HeldLogsAreAnswered, HeldLogsAreRead};
 ghost use Rattle.command_run.specs.Laws.{InTurnFaultsNeverFall, InTurnStaysWithin};
@@ -47,11 +47,13 @@ pub fn no_log_decides<P: Program>()
 {}
 
 /// What both logs give decides a command that reads both, where it answers by the records of both
-/// or by the first bad place; and so does why nothing is known of both.
+/// or by the first bad place; and so does why nothing is known of both, or why both were not read
+/// into records.
 pub fn both_logs_decide<P: Program, G: GivenByLogs>()
     ensures answers { (request : P.Request)
         → BothLogsDecide G.of_records G.of_bad (P.command request) }
     ensures stops { (request : P.Request) → BothLogsStop (P.command request) }
+    ensures unread { (request : P.Request) → BothLogsUnread (P.command request) }
 {}
 
 /// What is read of one log after the other, whatever is in them, decides a command that answers

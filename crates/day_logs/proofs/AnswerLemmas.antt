@@ -17,7 +17,9 @@ use Rattle.log_source.specs.Sources.{RoseOrIsFull}
 use Rattle.log_verdict.specs.declared.sources.Source.{Source}
 use Rattle.log_verdict.specs.declared.stops.Stop.{Stop}
 use Rattle.log_verdict.specs.declared.stops.Stop.TheVariants as stop
-use Rattle.log_verdict.specs.BothLogs.{ReadsAfterOrders, source_of}
+use Rattle.log_verdict.specs.declared.stops.NoRecords.{NoRecords}
+use Rattle.log_verdict.specs.declared.stops.NoRecords.TheVariants as norecords
+use Rattle.log_verdict.specs.BothLogs.{IsUnreadOfTwoLogs, ReadsAfterOrders, ReadsLogs, ReadsWithin, source_of, StaysWithin}
 use Rattle.log_verdict.specs.LogVerdicts.{log_in, records_of_order_log, trades_of_trade_log}
 use Rattle.log_verdict.specs.Steps.{Reading}
 use Rattle.record_verdict.specs.Scopes.{admission_of}
@@ -26,15 +28,26 @@ use Rattle.day_logs.specs.declared.answers.DayAnswer.TheVariants as answer
 use Rattle.day_logs.specs.declared.answers.DayQuestion.{DayQuestion}
 use Rattle.day_logs.specs.declared.before_rule.DayBeforeRule.{DayBeforeRule}
 use Rattle.day_logs.specs.declared.before_rule.DayBeforeRule.TheVariants as before_rule
-use Rattle.day_logs.specs.DayAnswers.{AnswersHeldDay, DayMeaning, GivesDayAnswerOrStop, HoldsDay, IsAnswerToLogs, IsAnswerToRecords, IsAnswerUpToRule, AreVerdictsOfDay, ReadsDayAnswer}
-use Rattle.day_logs.specs.DayBeforeRule.{IsDayBeforeRule, ReadsDayUpToRule}
-use Rattle.day_logs.proofs.JoinLemmas.{reads-on}
+use Rattle.day_logs.specs.DayAnswers.{day_without, AnswersHeldDay, DayMeaning, GivesDayAnswerOrStop, HoldsDay, IsAnswerToLogs, IsAnswerToRecords, IsAnswerUpToRule, AreVerdictsOfDay, ReadsDayAnswer}
+use Rattle.day_logs.specs.DayBeforeRule.{IsDayBeforeRule}
+use Rattle.log_verdict.proofs.JoinLemmas.{reads-bad, reads-good}
 
--- the answer to what both logs come to is the answer to both
-pub reads-answer : (r : Reading) (share : DayShare) (admission : Admission) (meaning : DayMeaning) (orders trades : Source) (given : DayBeforeRule) (a : DayAnswer) → ReadsDayUpToRule r share admission orders trades given
-    → IsAnswerUpToRule share admission meaning given a → ReadsDayAnswer r meaning orders trades a
+-- the answer to what the records of both logs come to is the answer to both
+pub reads-answer : (r : Reading) (share : DayShare) (admission : Admission) (meaning : DayMeaning) (orders trades : Source) (given : DayBeforeRule) (a : DayAnswer)
+    → ReadsLogs r orders trades (λ entries paired. IsDayBeforeRule share admission entries paired given) (λ log bad. ⊥) → IsAnswerUpToRule share admission meaning given a → ReadsDayAnswer r meaning orders trades a
 reads-answer r share admission meaning orders trades given a read is =
-    reads-on r orders trades _ _ _ _ is.of_records is.of_place read
+    reads-good r orders trades (λ entries paired. IsDayBeforeRule share admission entries paired given) (λ entries paired. IsAnswerToRecords meaning entries paired a) (λ log bad. a ≡ answer.Malformed log bad) is read
+
+-- so is their first bad place
+pub reads-without : (r : Reading) (meaning : DayMeaning) (orders trades : Source) (why : NoRecords) → IsUnreadOfTwoLogs r orders trades why → GivesDayAnswerOrStop r meaning orders trades (day_without why)
+reads-without r meaning orders trades (norecords.Malformed log bad) is =
+    reads-bad r orders trades (λ entries paired. IsAnswerToRecords meaning entries paired (answer.Malformed log bad)) (λ which place. answer.Malformed log bad ≡ answer.Malformed which place) log bad refl is
+reads-without r meaning orders trades (norecords.Stopped why) is = is
+
+-- and the slots stay within the limit as they did
+pub stays-without : {T : Type 0} (r : Reading) (why : NoRecords) (result : Result T NoRecords) → result ≡ Err why → ReadsWithin r result → StaysWithin r (day_without why)
+stays-without r (norecords.Malformed log bad) result is within = rw is at within
+stays-without r (norecords.Stopped why) result is within = rw is at within
 
 some-not-none : (bytes : List ℕ) → Some bytes ≡ None → ⊥
 some-not-none bytes e = cc
@@ -87,7 +100,7 @@ answers-held r meaning orders trades (Err stop.Memory) is orders_bytes trades_by
 
 -- The answer to what two logs come to: their verdicts.
 pub judged-up-to : (q : DayQuestion) (ended : EndedTrades) (judged : JudgedSymbols) → IsJudgedShare q.rule q.table q.checks q.share ended judged → IsAnswerUpToRule q.share (admission_of q.rule) (AreVerdictsOfDay q) (before_rule.Read ended) (answer.Judged judged)
-judged-up-to q ended judged is = record { of_place = λ log bad e. absurd (cc); of_records = of-records }
+judged-up-to q ended judged is = of-records
   where
     of-records : (entries : List OrderRecord) (paired : Result (List TradeRecord) Finding) → IsDayBeforeRule q.share (admission_of q.rule) entries paired (before_rule.Read ended) → IsAnswerToRecords (AreVerdictsOfDay q) entries paired (answer.Judged judged)
     of-records entries (Ok trades) has = is entries trades has

@@ -1,4 +1,3 @@
-mod JoinLemmas
 mod TradeLogLemmas
 pub mod AnswerLemmas
 pub mod LawLemmas

@@ -1,7 +1,6 @@
 -- The answer to two logs of a day: the verdicts on its symbols, finding 4 alone, or a first bad
 -- place.
 use Rattle.std.specs.Prelude.{◌≡◌, ◌≤◌, ℕ, true, List, Some, Result, Err, IsOkAnd, MatchResult, length}
-use Rattle.audit_base.specs.declared.faults.BadPlace.{BadPlace}
 use Rattle.audit_base.specs.declared.findings.Finding.{Finding}
 use Rattle.audit_base.specs.declared.records.OrderRecord.{OrderRecord}
 use Rattle.audit_base.specs.declared.records.TradeRecord.{TradeRecord}
@@ -11,7 +10,6 @@ use Rattle.day_logs.specs.declared.answers.DayAnswer.{DayAnswer}
 use Rattle.day_logs.specs.declared.answers.DayAnswer.TheVariants as answer
 use Rattle.day_logs.specs.declared.answers.DayQuestion.{DayQuestion}
 use Rattle.day_logs.specs.declared.before_rule.DayBeforeRule.{DayBeforeRule}
-use Rattle.day_logs.specs.declared.before_rule.DayBeforeRule.TheVariants as before_rule
 use Rattle.day_logs.specs.DayBeforeRule.{IsDayBeforeRule}
 use Rattle.day_symbols.specs.Shares.{DayShare, symbols_in}
 use Rattle.day_symbols.specs.Symbols.{symbols_of_day}
@@ -21,6 +19,8 @@ use Rattle.log_source.specs.Sources.{RoseOrIsFull}
 use Rattle.log_verdict.specs.declared.sources.Source.{Source}
 use Rattle.log_verdict.specs.declared.stops.Stop.{Stop}
 use Rattle.log_verdict.specs.declared.stops.Stop.TheVariants as stop
+use Rattle.log_verdict.specs.declared.stops.NoRecords.{NoRecords}
+use Rattle.log_verdict.specs.declared.stops.NoRecords.TheVariants as norecords
 use Rattle.log_verdict.specs.BothLogs.{IsStopOfTwoLogs, ReadsLogs}
 use Rattle.log_verdict.specs.LogVerdicts.{Log, log_in, OfLogs}
 use Rattle.log_verdict.specs.Steps.{Reading}
@@ -88,12 +88,15 @@ AnswersHeldDay r meaning orders trades result = (orders_bytes trades_bytes : Lis
 
 -- What functions pass on.
 
--- The answer to what two logs give before the rule is looked at: their first bad place; and of
--- whatever records give this, the answer to them.
-pub record IsAnswerUpToRule (share : DayShare) (admission : Admission)
-    (meaning : DayMeaning) (given : DayBeforeRule) (the_answer : DayAnswer) : Type 0 where
-  pub of_place : (log : Which) (bad : BadPlace) → given ≡ before_rule.Malformed log bad
-      → the_answer ≡ answer.Malformed log bad
-  pub of_records : (entries : List OrderRecord) (paired : Result (List TradeRecord) Finding)
-      → IsDayBeforeRule share admission entries paired given
-      → IsAnswerToRecords meaning entries paired the_answer
+-- the answer to what the records of two logs give before the rule is looked at: of whatever
+-- records give this, the answer to them
+abbrev pub IsAnswerUpToRule : DayShare → Admission → DayMeaning → DayBeforeRule → DayAnswer → Type 0
+IsAnswerUpToRule share admission meaning given the_answer =
+    (entries : List OrderRecord) (paired : Result (List TradeRecord) Finding)
+    → IsDayBeforeRule share admission entries paired given
+    → IsAnswerToRecords meaning entries paired the_answer
+
+-- the answer to two logs that were not read into records: their first bad place, or there is none
+abbrev pub day_without : NoRecords → Result DayAnswer Stop
+day_without (norecords.Malformed log bad) = Ok (answer.Malformed log bad)
+day_without (norecords.Stopped why) = Err why

@@ -1,10 +1,10 @@
 //! The verdicts on the symbols of two logs of a shelf.
-ghost use Rattle.std.specs.Prelude.{IfOk};
+ghost use Rattle.std.specs.Prelude.{◌≡◌, IfOk};
 ghost use Rattle.log_verdict.specs.BothLogs.{HaveOneLimit, StaysWithin};
 ghost use Rattle.log_verdict.specs.Steps.{reading_by, KeepsShelfLogs, FaultsNeverFall};
 ghost use Rattle.record_verdict.specs.Scopes.{admission_of};
 ghost use Rattle.day_logs.specs.DayAnswers.{AnswersHeldDay, GivesDayAnswerOrStop};
-ghost use Rattle.day_logs.specs.DayAnswers.{IsAnswerUpToRule, AreVerdictsOfDay};
+ghost use Rattle.day_logs.specs.DayAnswers.{day_without, IsAnswerUpToRule, AreVerdictsOfDay};
 ghost use Rattle.day_logs.specs.DayBeforeRule.{IsDayWithFewTrades};
 
 use crate::before_rule::DayBeforeRule;
@@ -17,7 +17,7 @@ use day_verdicts::day_verdicts::{JudgedSymbols, judge_day};
 use further_checks::findings::FurtherChecks;
 use log_source::shelf::Shelf;
 use log_verdict::sources::Source;
-use log_verdict::stops::Stop;
+use log_verdict::stops::{NoRecords, Stop};
 use record_verdict::scopes::Admission;
 use std::alloc::Global;
 
@@ -45,7 +45,17 @@ pub enum DayAnswer {
     Judged(JudgedSymbols),
 }
 
-/// The answer to what two logs give before the rule is looked at.
+/// The answer to two logs that were not read into records: their first bad place, or there is none.
+pub fn day_without(why: NoRecords) -> Result<DayAnswer, Stop>
+    ensures { result ≡ day_without why }
+{
+    match why {
+        NoRecords::Malformed { log, bad } => Ok(DayAnswer::Malformed { log, bad }),
+        NoRecords::Stopped(stop) => Err(stop),
+    }
+}
+
+/// The answer to what the records of two logs give before the rule is looked at.
 fn answer_after(
     alloc: Global,
     question: &DayQuestion,
@@ -56,7 +66,6 @@ fn answer_after(
         (IsAnswerUpToRule question.now.share admission (AreVerdictsOfDay question.now) given) }
 {
     match given {
-        DayBeforeRule::Malformed { log, bad } => Ok(DayAnswer::Malformed { log, bad }),
         DayBeforeRule::Unpaired(finding) => Ok(DayAnswer::Unpaired(finding)),
         DayBeforeRule::Read(ended) => {
             let judged = judge_day(
@@ -90,7 +99,7 @@ fn answer_to<F: Shelf>(
     let admission = Admission::of(question.rule);
     match read_day(alloc, shelf, question.share, admission, orders, trades) {
         Ok(given) => Ok(answer_after(alloc, question, given)?),
-        Err(stop) => Err(stop),
+        Err(why) => day_without(why),
     }
 }
 

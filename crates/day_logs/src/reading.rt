@@ -6,11 +6,10 @@ ghost use Rattle.audit_base.specs.declared.terms.Which.{Which};
 ghost use Rattle.day_records.specs.DayOrders.{HasOrders};
 ghost use Rattle.day_records.specs.DayTrades.{IsDayTrades};
 ghost use Rattle.log_source.specs.Sources.{longest_read};
-ghost use Rattle.log_verdict.specs.BothLogs.{HaveOneLimit, StaysWithin, StaysWithinAt};
+ghost use Rattle.log_verdict.specs.BothLogs.{GivesOfRecords, GivesOfTrades, HaveOneLimit, ReadsWithin, ReadsWithinAt};
 ghost use Rattle.log_verdict.specs.Collecting.{TouchesOnly};
 ghost use Rattle.log_verdict.specs.Steps.{reading_by, KeepsShelfLogs, FaultsNeverFall};
-ghost use Rattle.day_logs.specs.DayBeforeRule.{day_without_log, IsDayWithFewTrades};
-ghost use Rattle.day_logs.specs.DayBeforeRule.{GivesDayBeforeRuleOrStop, GivesDayTradesOrStop};
+ghost use Rattle.day_logs.specs.DayBeforeRule.{IsDayBeforeRule, IsDayWithFewTrades};
 
 use crate::before_rule::DayBeforeRule;
 use audit_base::terms::Which;
@@ -18,24 +17,12 @@ use day_records::day_orders::{AuditedShare, DayOrders, EndedOrders};
 use day_records::day_trades::{AuditedDay, DayTrades};
 use day_symbols::shares::DayShare;
 use log_source::shelf::Shelf;
-use log_verdict::reading::{Collected, Unread, collect_orders, collect_trades};
+use log_verdict::reading::{Collected, collect_orders, collect_trades};
 use log_verdict::sources::Source;
-use log_verdict::stops::Stop;
+use log_verdict::stops::{NoRecords, Stop};
 use record_verdict::scopes::Admission;
 use std::alloc::Global;
 use std::marker::Brand;
-
-/// What is answered where a log was not read into records.
-fn day_without(log: Which, unread: Unread) -> Result<DayBeforeRule, Stop>
-    ensures { result ≡ day_without_log log unread }
-{
-    match unread {
-        Unread::Bad(bad) => Ok(DayBeforeRule::Malformed { log, bad }),
-        Unread::ReadFault => Err(Stop::ReadFault(log)),
-        Unread::TooLong => Err(Stop::TooLong(log)),
-        Unread::Memory => Err(Stop::Memory),
-    }
-}
 
 /// What is known where the trade log is read by a day that has been handed no trade yet.
 fn read_trades<M: AuditedDay, F: Shelf>(
@@ -43,22 +30,22 @@ fn read_trades<M: AuditedDay, F: Shelf>(
     shelf: &mut F,
     trades: &Source<'_>,
     day: DayTrades<M>,
-) -> Result<DayBeforeRule, Stop>
+) -> Result<DayBeforeRule, NoRecords>
     requires limit { trades.now.limit ≤ longest_read }
     requires fresh { IsDayTrades M.share M.admission M.may_have day [] }
     ensures logs { KeepsShelfLogs F.Shelf shelf.old shelf.new }
     ensures only { TouchesOnly (reading_by trades.now F.Shelf shelf.old shelf.new) Which.Trades }
     ensures decides { (entries : List AnEntry) → M.may_have entries
-        → GivesDayTradesOrStop (reading_by trades.now F.Shelf shelf.old shelf.new)
-        M.share M.admission trades.now entries result }
+        → GivesOfTrades (IsDayBeforeRule M.share M.admission entries)
+        (reading_by trades.now F.Shelf shelf.old shelf.new) trades.now result }
     ensures fits_places { IfOk result (IsDayWithFewTrades M.share M.admission) }
-    ensures within { StaysWithinAt (reading_by trades.now F.Shelf shelf.old shelf.new)
+    ensures within { ReadsWithinAt (reading_by trades.now F.Shelf shelf.old shelf.new)
         Which.Trades result }
 {
     match collect_trades::<F, DayTrades<M>>(alloc, shelf, trades, day) {
         Ok(Collected::Trades(day)) => Ok(DayBeforeRule::Read(day.end())),
         Ok(Collected::Alone(finding)) => Ok(DayBeforeRule::Unpaired(finding)),
-        Err(unread) => day_without(Which::Trades, unread),
+        Err(unread) => Err(NoRecords::at(Which::Trades, unread)),
     }
 }
 
@@ -70,7 +57,7 @@ fn after_orders<M: AuditedDay, F: Shelf>(
     admission: Admission,
     trades: &Source<'_>,
     orders: EndedOrders,
-) -> Result<DayBeforeRule, Stop>
+) -> Result<DayBeforeRule, NoRecords>
     requires limit { trades.now.limit ≤ longest_read }
     requires share { share ≡ M.share }
     requires admission { admission ≡ M.admission }
@@ -80,15 +67,15 @@ fn after_orders<M: AuditedDay, F: Shelf>(
     ensures logs { KeepsShelfLogs F.Shelf shelf.old shelf.new }
     ensures only { TouchesOnly (reading_by trades.now F.Shelf shelf.old shelf.new) Which.Trades }
     ensures decides { (entries : List AnEntry) → M.may_have entries
-        → GivesDayTradesOrStop (reading_by trades.now F.Shelf shelf.old shelf.new)
-        share admission trades.now entries result }
+        → GivesOfTrades (IsDayBeforeRule share admission entries)
+        (reading_by trades.now F.Shelf shelf.old shelf.new) trades.now result }
     ensures fits_places { IfOk result (IsDayWithFewTrades share admission) }
     ensures within { (F.slot shelf.old Which.Trades).taken ≤ trades.now.limit
-        → StaysWithinAt (reading_by trades.now F.Shelf shelf.old shelf.new) Which.Trades result }
+        → ReadsWithinAt (reading_by trades.now F.Shelf shelf.old shelf.new) Which.Trades result }
 {
     match DayTrades::<M>::new(alloc, trades.seed, share, admission, orders) {
         Ok(day) => read_trades::<M, F>(alloc, shelf, trades, day),
-        Err(_) => Err(Stop::Memory),
+        Err(_) => Err(NoRecords::Stopped(Stop::Memory)),
     }
 }
 
@@ -100,20 +87,20 @@ fn read_share<D: AuditedShare, F: Shelf>(
     admission: Admission,
     orders: &Source<'_>,
     trades: &Source<'_>,
-) -> Result<DayBeforeRule, Stop>
+) -> Result<DayBeforeRule, NoRecords>
     requires share { share ≡ D.share }
     requires limit { HaveOneLimit orders.now trades.now }
     ensures logs { KeepsShelfLogs F.Shelf shelf.old shelf.new }
     ensures later { FaultsNeverFall (reading_by orders.now F.Shelf shelf.old shelf.new) }
-    ensures decides { GivesDayBeforeRuleOrStop (reading_by orders.now F.Shelf shelf.old shelf.new)
-        share admission orders.now trades.now result }
+    ensures decides { GivesOfRecords (IsDayBeforeRule share admission)
+        (reading_by orders.now F.Shelf shelf.old shelf.new) orders.now trades.now result }
     ensures fits_places { IfOk result (IsDayWithFewTrades share admission) }
-    ensures within { StaysWithin (reading_by orders.now F.Shelf shelf.old shelf.new) result }
+    ensures within { ReadsWithin (reading_by orders.now F.Shelf shelf.old shelf.new) result }
 {
     let day = DayOrders::<D>::new(alloc, orders.seed, share);
     match collect_orders::<F, DayOrders<D>>(alloc, shelf, orders, day) {
         Ok(day) => after_orders::<Brand, F>(alloc, shelf, share, admission, trades, day.end()),
-        Err(unread) => day_without(Which::Orders, unread),
+        Err(unread) => Err(NoRecords::at(Which::Orders, unread)),
     }
 }
 
@@ -127,14 +114,14 @@ pub fn read_day<F: Shelf>(
     admission: Admission,
     orders: &Source<'_>,
     trades: &Source<'_>,
-) -> Result<DayBeforeRule, Stop>
+) -> Result<DayBeforeRule, NoRecords>
     requires limit { HaveOneLimit orders.now trades.now }
     ensures logs { KeepsShelfLogs F.Shelf shelf.old shelf.new }
     ensures later { FaultsNeverFall (reading_by orders.now F.Shelf shelf.old shelf.new) }
-    ensures decides { GivesDayBeforeRuleOrStop (reading_by orders.now F.Shelf shelf.old shelf.new)
-        share admission orders.now trades.now result }
+    ensures decides { GivesOfRecords (IsDayBeforeRule share admission)
+        (reading_by orders.now F.Shelf shelf.old shelf.new) orders.now trades.now result }
     ensures fits_places { IfOk result (IsDayWithFewTrades share admission) }
-    ensures within { StaysWithin (reading_by orders.now F.Shelf shelf.old shelf.new) result }
+    ensures within { ReadsWithin (reading_by orders.now F.Shelf shelf.old shelf.new) result }
 {
     read_share::<Brand, F>(alloc, shelf, share, admission, orders, trades)
 }

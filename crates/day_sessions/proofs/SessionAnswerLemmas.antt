@@ -17,7 +17,7 @@ use Rattle.session_audit.specs.declared.phases.Phase.{Phase}
 
 pub sessions-up-to : (phases : List Phase) (table : Bool) (checks : FurtherChecks) (share : DayShare) (ended : EndedTrades) (judged : JudgedSymbols) → AreJudgedSessionsOfShare phases table checks share ended judged
     → IsAnswerUpToRule share admission.All (AreSessionsOfDay phases table checks share) (before_rule.Read ended) (answer.Judged judged)
-sessions-up-to phases table checks share ended judged is = record { of_place = λ log bad e. absurd (cc); of_records = of-records }
+sessions-up-to phases table checks share ended judged is = of-records
   where
     of-records : (entries : List OrderRecord) (paired : Result (List TradeRecord) Finding) → IsDayBeforeRule share admission.All entries paired (before_rule.Read ended)
         → IsAnswerToRecords (AreSessionsOfDay phases table checks share) entries paired (answer.Judged judged)

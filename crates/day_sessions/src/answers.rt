@@ -11,7 +11,7 @@ ghost use Rattle.session_audit.specs.Phases.{ArePhases};
 
 use crate::judged_sessions::judge_sessions;
 use audit_base::faults::NoMemory;
-use day_logs::answers::DayAnswer;
+use day_logs::answers::{DayAnswer, day_without};
 use day_logs::before_rule::DayBeforeRule;
 use day_logs::reading::read_day;
 use day_symbols::shares::DayShare;
@@ -23,7 +23,7 @@ use record_verdict::scopes::Admission;
 use session_audit::phases::Phase;
 use std::alloc::Global;
 
-/// The answer to what two logs give before any phase is looked at.
+/// The answer to what the records of two logs give before any phase is looked at.
 fn sessions_after(
     alloc: Global,
     phases: &[Phase],
@@ -38,7 +38,6 @@ fn sessions_after(
         IfOk result (IsAnswerUpToRule share AdmitsAll meaning given) }
 {
     match given {
-        DayBeforeRule::Malformed { log, bad } => Ok(DayAnswer::Malformed { log, bad }),
         DayBeforeRule::Unpaired(finding) => Ok(DayAnswer::Unpaired(finding)),
         DayBeforeRule::Read(ended) => {
             let judged = judge_sessions(alloc, phases, table, checks, share, ended)?;
@@ -68,7 +67,7 @@ fn sessions_of_logs<F: Shelf>(
 {
     match read_day(alloc, shelf, share, Admission::All, orders, trades) {
         Ok(given) => Ok(sessions_after(alloc, phases, table, checks, share, given)?),
-        Err(stop) => Err(stop),
+        Err(why) => day_without(why),
     }
 }
 

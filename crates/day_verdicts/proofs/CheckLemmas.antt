@@ -10,7 +10,6 @@ use Rattle.audit_base.specs.declared.records.OrderRecord.{OrderRecord}
 use Rattle.audit_base.specs.declared.records.TradeRecord.{TradeRecord}
 use Rattle.audit_base.specs.Histories.{order_list}
 use Rattle.audit_base.specs.Trades.{deal_of_trade, deals_of_symbol, trades_of_symbol}
-use Rattle.audit_report.specs.declared.verdicts.Verdict.{Verdict}
 use Rattle.further_checks.specs.declared.findings.FurtherChecks.{FurtherChecks}
 use Rattle.further_checks.specs.declared.findings.FurtherFinding.{FurtherFinding}
 use Rattle.further_checks.specs.FurtherRules.{asks_further, first_finding_of_symbol, further_findings, further_findings_of_symbol, times_of_symbol}
@@ -21,6 +20,8 @@ use Rattle.record_verdict.specs.declared.before_rule.BeforeRule.TheVariants as b
 use Rattle.record_verdict.specs.declared.questions.Question.{Question}
 use Rattle.record_verdict.specs.declared.scopes.Scope.{Scope}
 use Rattle.record_verdict.specs.BeforeRule.{IsBeforeRule, IsResolvedWithoutFinding}
+use Rattle.record_verdict.specs.declared.verdicts.Judged.{Judged}
+use Rattle.record_verdict.specs.Judged.{as_verdict}
 use Rattle.record_verdict.specs.Stages.{IsVerdictAfterStages}
 use Rattle.day_verdicts.specs.CheckedSymbols.{after_checks, after_finding, after_given, asked_times, HasTimes, told_by_finding}
 use Rattle.day_verdicts.specs.DayVerdicts.{is_acceptance}
@@ -67,7 +68,6 @@ times-asked checks symbol trades times times_are asked = times_are ∙ ap (λ (b
 -- there is a time for each deal of what is given
 pub has-times : (checks : FurtherChecks) (scope : Scope) (entries : List OrderRecord) (trades : List TradeRecord) (given : BeforeRule) (times : List Moment) → IsBeforeRule scope entries (Ok trades) given
     → times ≡ asked_times checks scope.symbol trades → HasTimes checks given times
-has-times checks scope entries trades (before_rule.Malformed log bad) times is times_are = tt
 has-times checks scope entries trades (before_rule.Found finding) times is times_are = tt
 has-times checks scope entries trades (before_rule.Sound sound) times is times_are = λ asked.
     ap length (times-asked checks scope.symbol trades times times_are asked)
@@ -93,15 +93,14 @@ same-findings none checks scope entries trades sound times is times_are = by-ask
 pub told-after : NothingIsFoundUnasked → (checks : FurtherChecks) (scope : Scope) (entries : List OrderRecord) (trades : List TradeRecord) (given : BeforeRule) (times : List Moment) (told : Told)
     → IsBeforeRule scope entries (Ok trades) given → times ≡ asked_times checks scope.symbol trades → ((finding : Finding) → given ≡ before_rule.Found finding → told.accepted ≡ false)
     → after_given checks given times told ≡ after_checks checks entries trades scope.symbol told
-told-after none checks scope entries trades (before_rule.Malformed log bad) times told is times_are rejects = absurd is
 told-after none checks scope entries trades (before_rule.Found finding) times told is times_are rejects =
     sym (rejected-stays (first_finding_of_symbol checks (order_list scope.symbol entries) scope.symbol trades) told (rejects finding refl))
 told-after none checks scope entries trades (before_rule.Sound sound) times told is times_are rejects =
     ap (λ (found : List FurtherFinding). after_finding (slice_get found 0) told) (same-findings none checks scope entries trades sound times is times_are)
 
 -- a verdict after a finding before the rule rejects
-pub verdict-rejects : (q : Question) (given : BeforeRule) (v : Verdict) → IsVerdictAfterStages q given v → (finding : Finding) → given ≡ before_rule.Found finding → is_acceptance v ≡ false
-verdict-rejects q given v stages finding found = ap is_acceptance (stages.of_finding finding found)
+pub verdict-rejects : (q : Question) (given : BeforeRule) (v : Judged) → IsVerdictAfterStages q given v → (finding : Finding) → given ≡ before_rule.Found finding → is_acceptance (as_verdict v) ≡ false
+verdict-rejects q given v stages finding found = ap (λ (j : Judged). is_acceptance (as_verdict j)) (stages.of_finding finding found)
 
 -- where no check is asked for, what is told stays
 pub unchecked : NothingIsFoundUnasked → UncheckedSymbols

@@ -34,7 +34,6 @@ after_checks checks entries trades symbol told =
 
 -- the same of what records give before the rule is looked at, with the times of the trades
 abbrev pub after_given : FurtherChecks → BeforeRule → List Moment → Told → Told
-after_given checks (before_rule.Malformed log bad) times told = told
 after_given checks (before_rule.Found finding) times told = told
 after_given checks (before_rule.Sound sound) times told =
     after_finding (slice_get (further_findings checks sound.history sound.deals.items times) 0) told
@@ -46,7 +45,6 @@ asked_times checks symbol trades =
 
 -- where a further check is asked for, there is a time for each deal
 abbrev pub HasTimes : FurtherChecks → BeforeRule → List Moment → Type 0
-HasTimes checks (before_rule.Malformed log bad) times = Unit {0}
 HasTimes checks (before_rule.Found finding) times = Unit {0}
 HasTimes checks (before_rule.Sound sound) times =
     asks_further checks ≡ true → length times ≡ length sound.deals.items

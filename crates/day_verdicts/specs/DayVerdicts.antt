@@ -22,6 +22,8 @@ use Rattle.day_verdicts.specs.ToldSymbols.{AddsTold, Told, TellsSymbols, tell_ea
 use Rattle.further_checks.specs.declared.findings.FurtherChecks.{FurtherChecks}
 use Rattle.record_verdict.specs.declared.before_rule.BeforeRule.{BeforeRule}
 use Rattle.record_verdict.specs.declared.questions.Question.{Question}
+use Rattle.record_verdict.specs.declared.verdicts.Judged.{Judged}
+use Rattle.record_verdict.specs.Judged.{as_verdict}
 use Rattle.record_verdict.specs.RecordVerdicts.{IsRecordVerdict, question}
 use Rattle.record_verdict.specs.Scopes.{admission_of}
 use Rattle.record_verdict.specs.Stages.{IsVerdictAfterStages}
@@ -96,9 +98,9 @@ IsToldOfSymbol q checks count symbol_trades times the_verdict told =
 -- This is told of what was given by the verdict on it, and then by the checks.
 pub record TellsVerdict (q : Question) (checks : FurtherChecks) (given : BeforeRule)
     (times : List Moment) (report : SymbolReport) : Type 0 where
-  pub one : Verdict
+  pub one : Judged
   pub is : IsVerdictAfterStages q given one
-  pub told_is : told_by report ≡ after_given checks given times (told_by_verdict one)
+  pub told_is : told_by report ≡ after_given checks given times (told_by_verdict (as_verdict one))
 
 -- What the verdict that the question asks for, and then the checks tell of the symbol is counted
 -- and written.

@@ -1,9 +1,9 @@
 //! The verdict on each symbol of a share, one symbol after another.
 ghost use Rattle.std.specs.Prelude.{◌≡◌, ◌++◌, IfOk, OnOk};
 ghost use Rattle.audit_report.specs.DayTexts.{day_line};
-ghost use Rattle.audit_report.specs.Texts.{IsVerdictInRange};
 ghost use Rattle.day_records.specs.SymbolTrades.{HasFewOfSymbol};
 ghost use Rattle.record_verdict.specs.BeforeRule.{IsJudgeable};
+ghost use Rattle.record_verdict.specs.Judged.{as_verdict, IsJudgedInRange};
 ghost use Rattle.day_verdicts.specs.CheckedSymbols.{HasFewTimed, HasTimes};
 ghost use Rattle.day_verdicts.specs.DayVerdicts as day;
 ghost use Rattle.day_verdicts.specs.ToldSymbols.{told_by, with_one, AddsTold, IsNothingTold};
@@ -16,7 +16,6 @@ use audit_base::terms::Rule;
 use audit_report::day_line::{DayCounts, append_day_line};
 use audit_report::reports::report_text;
 use audit_report::symbol_lines::append_symbol_lines;
-use audit_report::verdicts::Verdict;
 use day_records::day_trades::EndedTrades;
 use day_records::symbol_trades::SymbolTrades;
 use day_symbols::shares::DayShare;
@@ -24,7 +23,7 @@ use further_checks::findings::FurtherChecks;
 use further_checks::laws::nothing_is_found_unasked;
 use record_verdict::before_rule::BeforeRule;
 use record_verdict::questions::Question;
-use record_verdict::verdicts::verdict_after;
+use record_verdict::verdicts::{Judged, verdict_after};
 use std::alloc::Global;
 
 /// The verdict on a symbol of a day, by what is known of it, whose memory is freed.
@@ -33,23 +32,23 @@ pub(crate) fn verdict_of(
     question: &Question,
     symbol_trades: SymbolTrades,
     count: u32,
-) -> Result<Verdict, NoMemory>
+) -> Result<Judged, NoMemory>
     requires { HasFewOfSymbol count symbol_trades }
-    ensures judged { IfOk result (day.IsVerdictOnSymbol question.now count symbol_trades) }
-    ensures in_range { IfOk result IsVerdictInRange }
+    ensures judged { IfOk result (λ judged.
+        day.IsVerdictOnSymbol question.now count symbol_trades (as_verdict judged)) }
+    ensures in_range { IfOk result IsJudgedInRange }
 {
     let given = symbol_trades.end(count);
     verdict_after(alloc, question, &given)
 }
 
-/// Whether a verdict is that the log is accepted.
-fn is_acceptance(verdict: &Verdict) -> bool
-    ensures { result ≡ day.is_acceptance verdict.now }
+/// Whether a verdict is that the records are accepted.
+fn is_acceptance(judged: &Judged) -> bool
+    ensures { result ≡ day.is_acceptance (as_verdict judged.now) }
 {
-    match verdict {
-        Verdict::Accepted(_) => true,
-        Verdict::Rejected(_) => false,
-        Verdict::Malformed { .. } => false,
+    match judged {
+        Judged::Accepted(_) => true,
+        Judged::Rejected(_) => false,
     }
 }
 
@@ -65,9 +64,9 @@ fn report_of(
     requires timed { HasTimes checks given.now times.now }
     ensures { IfOk result (day.TellsVerdict question.now checks given.now times.now) }
 {
-    let verdict = verdict_after(alloc, question, given)?;
-    let accepted = is_acceptance(&verdict);
-    let text = report_text(alloc, &verdict)?;
+    let judged = verdict_after(alloc, question, given)?;
+    let accepted = is_acceptance(&judged);
+    let text = report_text(alloc, &judged.into_verdict())?;
     report_after(alloc, checks, given, times, SymbolReport { accepted, text })
 }
 

@@ -83,7 +83,6 @@ pub fn report_after(
         (λ told. told_by told ≡ after_given checks given.now times.now (told_by report)) }
 {
     match given {
-        BeforeRule::Malformed { .. } => Ok(report),
         BeforeRule::Found(_) => Ok(report),
         BeforeRule::Sound(sound) => {
             let orders = sound.history.orders();

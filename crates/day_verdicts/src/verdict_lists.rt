@@ -3,15 +3,16 @@ ghost use Rattle.std.specs.Prelude.{[], ℕ, List, IfOk, OnOk};
 ghost use Rattle.audit_report.specs.declared.verdicts.Verdict.{Verdict as AVerdict};
 ghost use Rattle.day_verdicts.specs.DayVerdicts.{RuleTradesFitPlaces};
 ghost use Rattle.day_verdicts.specs.VerdictLists.{HasTakenShare, TakesVerdict};
+ghost use Rattle.record_verdict.specs.Judged.{as_verdict};
 
 use crate::day_verdicts::verdict_of;
 use audit_base::faults::NoMemory;
 use audit_base::names::Name;
 use audit_base::terms::Rule;
-use audit_report::verdicts::Verdict;
 use day_records::day_trades::EndedTrades;
 use day_symbols::shares::DayShare;
 use record_verdict::questions::Question;
+use record_verdict::verdicts::Judged;
 use std::alloc::Global;
 
 /// What is handed the verdicts on symbols in their order, one by one, and keeps what it needs of
@@ -23,9 +24,9 @@ pub trait VerdictList: Drop {
 
     /// Hands on the verdict on the next symbol. A list that has answered `NoMemory` is given up:
     /// nothing is known of it afterwards.
-    fn take(&mut self, symbol: &Name, verdict: &Verdict) -> Result<(), NoMemory>
+    fn take(&mut self, symbol: &Name, judged: &Judged) -> Result<(), NoMemory>
         ensures { OnOk result ((first : Self) → TakesVerdict (has_taken first self.old)
-            (has_taken first self.new) symbol.now verdict.now) };
+            (has_taken first self.new) symbol.now (as_verdict judged.now)) };
 }
 
 /// Hands the verdicts of a rule on the symbols of a share to a list, in their order, without
@@ -61,8 +62,8 @@ pub fn hand_verdicts<L: VerdictList>(
             symbol: *symbol,
             table: false,
         };
-        let verdict = verdict_of(alloc, &question, symbol_trades, count)?;
-        handed.take(symbol, &verdict)?;
+        let judged = verdict_of(alloc, &question, symbol_trades, count)?;
+        handed.take(symbol, &judged)?;
         share_index += 1;
     }
     Ok(handed)

@@ -9,9 +9,12 @@ use Rattle.audit_base.specs.declared.records.TradeRecord.{TradeRecord}
 use Rattle.audit_base.specs.declared.terms.Rule.{Rule}
 use Rattle.audit_base.specs.declared.terms.Which.{Which}
 use Rattle.audit_base.specs.declared.terms.Which.TheVariants.{Orders, Trades}
+use Rattle.audit_report.specs.declared.verdicts.Verdict.{Verdict}
 use Rattle.audit_report.specs.declared.verdicts.Verdict.TheVariants as verdict
+use Rattle.case_run.specs.declared.halts.Halt.{Halt}
+use Rattle.case_run.specs.Turns.{EndsWithinOrHalts}
 use Rattle.case_run.specs.declared.statuses.CaseStatus.TheVariants as status
-use Rattle.day_logs.specs.DayBeforeRule.{IsDayBeforeRule, ReadsDayUpToRule}
+use Rattle.day_logs.specs.DayBeforeRule.{IsDayBeforeRule}
 use Rattle.day_logs.specs.declared.before_rule.DayBeforeRule.{DayBeforeRule}
 use Rattle.day_logs.specs.declared.before_rule.DayBeforeRule.TheVariants as before_rule
 use Rattle.day_symbols.specs.Shares.{whole_day}
@@ -21,9 +24,9 @@ use Rattle.desk_words.specs.declared.requests.DayLogs.{DayLogs}
 use Rattle.digest_keeper.specs.declared.digested.CaseDigests.{CaseDigests}
 use Rattle.digest_keeper.specs.declared.digested.KeptCase.{KeptCase}
 use Rattle.desk_filing.specs.Causes.{ReadsLogsFor}
-use Rattle.desk_filing.specs.Days.{JudgesDay, JudgesGiven, TellsUnpaired}
+use Rattle.desk_filing.specs.Days.{JudgesDay, JudgesGiven, JudgesWithout, TellsUnpaired}
 use Rattle.desk_filing.specs.Judging.{TellsBadPlace}
-use Rattle.desk_filing.specs.Steps.{NamesLogs, ReadsJudged, ReadsBadPlace, ReadsRecords, ReadsRefusal}
+use Rattle.desk_filing.specs.Steps.{JudgesLogs, NamesLogs, ReadsJudged, ReadsBadPlace, ReadsRecords, ReadsRefusal}
 use Rattle.desk_filing.specs.Turns.{FilesDayOrNone, FilingTurn, IsFilingTurn, IsTurnOfRecords, cases_of_day, day_turn, filed_turn, symbols_of_whole_day, unfiled_turn}
 use Rattle.desk_filing.specs.declared.answers.FilingAnswer.{FilingAnswer}
 use Rattle.desk_filing.specs.declared.answers.Judged.{Judged}
@@ -31,12 +34,17 @@ use Rattle.desk_filing.specs.declared.answers.Judged.TheVariants as judged
 use Rattle.desk_filing.specs.declared.requests.FilingCommand.{FilingCommand}
 use Rattle.desk_filing.specs.declared.requests.FilingCommand.TheVariants as command
 use Rattle.desk_filing.specs.declared.requests.FilingRequest.{FilingRequest}
-use Rattle.desk_filing.proofs.LogLemmas.{reads_either, turn_of_records}
+use Rattle.desk_filing.proofs.LogLemmas.{reads_either, stops_reading, turn_of_records}
+use Rattle.desk_filing.proofs.WritingLemmas.{ends_stopped}
 use Rattle.desk_filing.proofs.JudgeLemmas.{refuses}
 use Rattle.log_digests.specs.Digests.{digest_of}
 use Rattle.log_digests.specs.DigestShelves.{IsDigestAtEnd}
 use Rattle.log_verdict.specs.Steps.{Reading}
 use Rattle.log_verdict.specs.declared.sources.Source.{Source}
+use Rattle.log_verdict.specs.declared.stops.NoRecords.{NoRecords}
+use Rattle.log_verdict.specs.declared.stops.NoRecords.TheVariants as norecords
+use Rattle.log_verdict.specs.declared.stops.Stop.TheVariants as stop
+use Rattle.log_verdict.specs.BothLogs.{IsUnreadOfTwoLogs, ReadsLogs, ReadsWithin}
 use Rattle.record_verdict.specs.Scopes.{admission_of}
 
 -- The digests are those that the shelf took of both logs.
@@ -58,24 +66,15 @@ one_digest log bytes digest is has = sym (same_Some (digest_of bytes) digest (sy
 refused_not_done : status.Refused ≡ status.Done → ⊥
 refused_not_done e = cc
 
-no_place : (ended : EndedTrades) (log : Which) (bad : BadPlace) → before_rule.Read ended ≡ before_rule.Malformed log bad → ⊥
-no_place ended log bad e = cc
-
-not_unpaired : (finding : Finding) (log : Which) (bad : BadPlace) → before_rule.Unpaired finding ≡ before_rule.Malformed log bad → ⊥
-not_unpaired finding log bad e = cc
-
-same_place : (log log' : Which) (bad bad' : BadPlace) → before_rule.Malformed log bad ≡ before_rule.Malformed log' bad' → verdict.Malformed log bad ≡ verdict.Malformed log' bad'
-same_place log log' bad bad' e = cc
-
 module _ (r : Reading) (request : FilingRequest) (orders trades : Source) (names : NamesLogs request.logs orders trades) (the_rule : Rule) (asked : request.command ≡ command.FileAll the_rule) where
   abbrev On : DayBeforeRule → List OrderRecord → Result (List TradeRecord) Finding → Type 0
   On given entries paired = IsDayBeforeRule whole_day (admission_of the_rule) entries paired given
 
-  abbrev Bad : DayBeforeRule → Which → BadPlace → Type 0
-  Bad given log bad = given ≡ before_rule.Malformed log bad
+  abbrev AreRead : DayBeforeRule → Type 0
+  AreRead given = ReadsLogs r orders trades (On given) (λ log bad. ⊥)
 
-  either : (given : DayBeforeRule) → ReadsDayUpToRule r whole_day (admission_of the_rule) orders trades given → ReadsRecords r request.logs (On given) ⊎ ReadsBadPlace r request.logs (Bad given)
-  either given reads = reads_either r request.logs orders trades names (On given) (Bad given) reads
+  either : (given : DayBeforeRule) → AreRead given → ReadsRecords r request.logs (On given) ⊎ ReadsBadPlace r request.logs (λ log bad. ⊥)
+  either given reads = reads_either r request.logs orders trades names (On given) (λ log bad. ⊥) reads
 
   -- what the command leaves of records that are paired so
   turns : (given : DayBeforeRule) (reads : ReadsRecords r request.logs (On given)) → r.tells ≡ true → (kept : List KeptCase) (turn : FilingTurn) (paired : Result (List TradeRecord) Finding) → reads.paired ≡ paired
@@ -128,14 +127,14 @@ module _ (r : Reading) (request : FilingRequest) (orders trades : Source) (names
 
   -- the verdicts on its symbols
   judges_read : (ended : EndedTrades) (digests : CaseDigests) → TakesDigests r request.logs digests → (given : Judged) → JudgesDay request.label the_rule digests ended given
-      → ReadsDayUpToRule r whole_day (admission_of the_rule) orders trades (before_rule.Read ended) → ReadsJudged r request given
+      → AreRead (before_rule.Read ended) → ReadsJudged r request given
   judges_read ended digests takes given judges reads = ⊎_elim
       (λ records. by_paired ended records digests takes given judges records.paired refl records.holds)
-      (λ place. absurd (no_place ended place.log place.bad place.holds))
+      (λ place. absurd place.holds)
       (either (before_rule.Read ended) reads)
 
   -- its reports do not pair
-  judges_unpaired : (finding : Finding) (answer : FilingAnswer) → TellsUnpaired finding answer → ReadsDayUpToRule r whole_day (admission_of the_rule) orders trades (before_rule.Unpaired finding) → ReadsRefusal r request answer
+  judges_unpaired : (finding : Finding) (answer : FilingAnswer) → TellsUnpaired finding answer → AreRead (before_rule.Unpaired finding) → ReadsRefusal r request answer
   judges_unpaired finding answer tells_finding reads = ⊎_elim
       (λ records. record {
         read = subst (ReadsLogsFor r request.logs) (sym tells_finding.status_is) records.good;
@@ -143,27 +142,39 @@ module _ (r : Reading) (request : FilingRequest) (orders trades : Source) (names
         turn = λ tells kept.
             turns (before_rule.Unpaired finding) records tells kept (unfiled_turn kept answer.status answer.text.items) (Err finding) records.holds (ap₂ (unfiled_turn kept) tells_finding.status_is tells_finding.text_is);
       })
-      (λ place. absurd (not_unpaired finding place.log place.bad place.holds))
+      (λ place. absurd place.holds)
       (either (before_rule.Unpaired finding) reads)
 
   -- a log is not in its grammar
-  judges_bad : (log : Which) (bad : BadPlace) (answer : FilingAnswer) → TellsBadPlace (verdict.Malformed log bad) answer → ReadsDayUpToRule r whole_day (admission_of the_rule) orders trades (before_rule.Malformed log bad) → ReadsRefusal r request answer
+  judges_bad : (log : Which) (bad : BadPlace) (answer : FilingAnswer) → TellsBadPlace (verdict.Malformed log bad) answer
+      → ReadsLogs r orders trades (λ entries paired. ⊥) (λ which place. (which ≡ log) × (place ≡ bad)) → ReadsRefusal r request answer
   judges_bad log bad answer tells_bad reads = ⊎_elim
       (λ records. absurd records.holds)
       (λ place. refuses r request (verdict.Malformed log bad) answer tells_bad (record {
         log = place.log;
         bad = place.bad;
-        holds = same_place log place.log bad place.bad place.holds;
+        holds = ap₂ {C = Verdict} (λ l b. verdict.Malformed l b) (sym place.holds.0) (sym place.holds.1);
         read = place.read;
         turn = place.turn;
       }))
-      (either (before_rule.Malformed log bad) reads)
+      (reads_either r request.logs orders trades names (λ entries paired. ⊥) (λ which place. (which ≡ log) × (place ≡ bad)) reads)
 
   -- what the logs come to
-  pub judges_given : (given : DayBeforeRule) (digests : CaseDigests) → TakesDigests r request.logs digests → (made : Judged) → JudgesGiven request.label the_rule digests given made → ReadsDayUpToRule r whole_day (admission_of the_rule) orders trades given
+  pub judges_given : (given : DayBeforeRule) (digests : CaseDigests) → TakesDigests r request.logs digests → (made : Judged) → JudgesGiven request.label the_rule digests given made → AreRead given
       → ReadsJudged r request made
   judges_given (before_rule.Read ended) digests takes made judges reads = judges_read ended digests takes made judges reads
   judges_given (before_rule.Unpaired finding) digests takes (judged.Cases cases) judges reads = absurd judges
   judges_given (before_rule.Unpaired finding) digests takes (judged.Refused answer) judges reads = judges_unpaired finding answer judges reads
-  judges_given (before_rule.Malformed log bad) digests takes (judged.Cases cases) judges reads = absurd judges
-  judges_given (before_rule.Malformed log bad) digests takes (judged.Refused answer) judges reads = judges_bad log bad answer judges reads
+
+  -- the same of logs that were not read into records
+  pub judges_without : (why : NoRecords) (result : Result Judged Halt) → JudgesWithout why result → IsUnreadOfTwoLogs r orders trades why → JudgesLogs r request result
+  judges_without (norecords.Malformed log bad) (Ok (judged.Cases cases)) judges is = absurd judges
+  judges_without (norecords.Malformed log bad) (Ok (judged.Refused answer)) judges is = judges_bad log bad answer judges is
+  judges_without (norecords.Malformed log bad) (Err why) judges is = rw judges (stops_reading r request.logs orders trades names request refl stop.Memory tt)
+  judges_without (norecords.Stopped why) result judges is = rw judges (stops_reading r request.logs orders trades names request refl why is)
+
+-- and the slots end as they did
+pub ends_without : {S : Type 0} (r : Reading) (why : NoRecords) (read : Result S NoRecords) (result : Result Judged Halt) → read ≡ Err why → ReadsWithin r read → JudgesWithout why result → EndsWithinOrHalts r result
+ends_without r (norecords.Malformed log bad) read (Ok made) is within judges = rw is at within
+ends_without r (norecords.Malformed log bad) read (Err why) is within judges = rw judges (rw is at within)
+ends_without {S = S} r (norecords.Stopped why) read result is within judges = rw judges (ends_stopped (Option S) Judged why (rw is at within))

@@ -1,5 +1,5 @@
 -- The cases of a day, symbol by symbol.
-use Rattle.std.specs.Prelude.{◌≡◌, ℕ, false, List, [], ◌∷◌, ◌++◌, Option, None, Some, length, nat_lt, if◌then◌else◌}
+use Rattle.std.specs.Prelude.{◌≡◌, ℕ, false, List, [], ◌∷◌, ◌++◌, Option, None, Some, Result, Err, MatchResult, length, nat_lt, if◌then◌else◌}
 use Rattle.audit_base.specs.declared.findings.Finding.{Finding}
 use Rattle.audit_base.specs.declared.records.OrderRecord.{OrderRecord}
 use Rattle.audit_base.specs.declared.records.TradeRecord.{TradeRecord}
@@ -7,7 +7,10 @@ use Rattle.audit_base.specs.declared.terms.Rule.{Rule}
 use Rattle.audit_report.specs.Texts.{verdict_text}
 use Rattle.audit_report.specs.declared.verdicts.Verdict.{Verdict}
 use Rattle.audit_report.specs.declared.verdicts.Verdict.TheVariants.{Malformed, Rejected}
+use Rattle.case_run.specs.declared.halts.Halt.{Halt}
+use Rattle.case_run.specs.declared.halts.Halt.TheVariants as halt
 use Rattle.case_run.specs.declared.statuses.CaseStatus.TheVariants as status
+use Rattle.case_run.specs.Turns.{halt_of_stop}
 use Rattle.day_logs.specs.declared.before_rule.DayBeforeRule.{DayBeforeRule}
 use Rattle.day_logs.specs.declared.before_rule.DayBeforeRule.TheVariants as before_rule
 use Rattle.day_symbols.specs.Shares.{symbols_in, whole_day}
@@ -23,6 +26,8 @@ use Rattle.desk_filing.specs.declared.answers.FilingAnswer.{FilingAnswer}
 use Rattle.desk_filing.specs.declared.answers.Judged.{Judged}
 use Rattle.desk_filing.specs.declared.answers.Judged.TheVariants as judged
 use Rattle.desk_filing.specs.declared.days.DayCases.{DayCases}
+use Rattle.log_verdict.specs.declared.stops.NoRecords.{NoRecords}
+use Rattle.log_verdict.specs.declared.stops.NoRecords.TheVariants as norecords
 use Rattle.record_verdict.specs.Scopes.{admission_of}
 
 -- the label of a symbol, if it has no more than 64 bytes
@@ -110,11 +115,17 @@ abbrev pub IsRefusedBy : (FilingAnswer → Type 0) → Judged → Type 0
 IsRefusedBy tells (judged.Cases cases) = ⊥
 IsRefusedBy tells (judged.Refused answer) = tells answer
 
--- what two logs come to, by what they give before the rule is looked at
+-- what two logs come to, by what their records give before the rule is looked at
 abbrev pub JudgesGiven : List ℕ → Rule → CaseDigests → DayBeforeRule → Judged → Type 0
 JudgesGiven label the_rule digests (before_rule.Read ended) judged =
     JudgesDay label the_rule digests ended judged
 JudgesGiven label the_rule digests (before_rule.Unpaired finding) judged =
     IsRefusedBy (TellsUnpaired finding) judged
-JudgesGiven label the_rule digests (before_rule.Malformed log bad) judged =
-    IsRefusedBy (TellsBadPlace (Malformed log bad)) judged
+
+-- what two logs come to that were not read into records: the answer to their first bad place, or
+-- why there is none
+abbrev pub JudgesWithout : NoRecords → Result Judged Halt → Type 0
+JudgesWithout (norecords.Malformed log bad) result =
+    MatchResult result (IsRefusedBy (TellsBadPlace (Malformed log bad)))
+    (λ why. why ≡ halt.Memory)
+JudgesWithout (norecords.Stopped why) result = result ≡ Err (halt_of_stop why)

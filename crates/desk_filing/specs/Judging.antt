@@ -5,7 +5,10 @@ use Rattle.audit_base.specs.declared.terms.Which.{Which}
 use Rattle.audit_report.specs.Lines.{malformed_line}
 use Rattle.audit_report.specs.declared.verdicts.Verdict.{Verdict}
 use Rattle.audit_report.specs.declared.verdicts.Verdict.TheVariants.{Malformed}
+use Rattle.audit_base.specs.declared.terms.Rule.{Rule}
 use Rattle.case_keeper.specs.declared.case.Case.{Case}
+use Rattle.case_keeper.specs.declared.case.Offence.{Offence}
+use Rattle.digest_keeper.specs.declared.digested.DigestedCase.{DigestedCase}
 use Rattle.case_run.specs.declared.statuses.CaseStatus.TheVariants as status
 use Rattle.digest_keeper.specs.declared.digested.CaseDigests.{CaseDigests}
 use Rattle.desk_filing.specs.Lines.{comparison_line}
@@ -33,6 +36,13 @@ pub record TellsBadPlace (v : Verdict) (answer : FilingAnswer) : Type 0 where
 abbrev pub IsRefusalIn : Verdict → Option FilingAnswer → Type 0
 IsRefusalIn v None = IsNoBadPlace v
 IsRefusalIn v (Some answer) = TellsBadPlace v answer
+
+-- the case of an audit that ended so, on logs of these digests
+abbrev pub case_that_ended : List ℕ → Rule → CaseDigests → List ℕ → Option Offence → DigestedCase
+case_that_ended label the_rule digests symbol offence = record {
+  case = record { label = label; rule = the_rule; symbol = symbol; offence = offence };
+  digests = digests;
+}
 
 -- what a verdict comes to: its case, or the answer that a log is not in its grammar
 abbrev pub IsJudgedVerdict : CaseDigests → List ℕ → Question → Verdict → Judged → Type 0

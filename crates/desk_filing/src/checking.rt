@@ -17,14 +17,14 @@ ghost use Rattle.log_verdict.specs.Steps.{reading_by, FaultsNeverFall, KeepsShel
 use crate::answers::FilingAnswer;
 use crate::differences::{AuditedLogs, CaseDifference, first_difference};
 use crate::digested_verdicts::{DigestedVerdict, digested_verdict_on};
-use crate::judging::{malformed_answer, offence_in};
+use crate::judging::{malformed_answer, offence_of};
 use crate::lines::{comparison_text, no_case_text, no_digest_text};
 use crate::requests::FilingRequest;
 use audit_base::faults::NoMemory;
 use audit_base::names::Name;
 use audit_base::terms::Rule;
 use audit_report::verdicts::Verdict;
-use case_keeper::case::Case;
+use case_keeper::case::{Case, Offence};
 use case_run::halts::Halt;
 use case_run::statuses::CaseStatus;
 use digest_keeper::digested::{CaseDigests, KeptCase};
@@ -102,6 +102,29 @@ fn comparison(
     })
 }
 
+/// How an audit that ended so, on logs of these digests, compares with a case on logs of those.
+fn compared_audit(
+    alloc: Global,
+    label: &Name,
+    case: &Case,
+    filed: &CaseDigests,
+    digests: &CaseDigests,
+    offence: Option<Offence>,
+) -> Result<FilingAnswer, NoMemory>
+    ensures { let was = record { digests = filed.now; offence = case.now.offence } in
+        IfOk result (TellsFirst label.now was (record { digests = digests.now; offence = offence })) }
+{
+    let filed = AuditedLogs {
+        digests: *filed,
+        offence: case.offence,
+    };
+    let now = AuditedLogs {
+        digests: *digests,
+        offence,
+    };
+    comparison(alloc, label, &filed, &now)
+}
+
 /// What a verdict comes to beside a case with these digests.
 fn compared(
     alloc: Global,
@@ -113,17 +136,12 @@ fn compared(
     ensures { IfOk result (IsComparedVerdict label.now case.now filed.now made.now.digests
         made.now.verdict) }
 {
-    let filed = AuditedLogs {
-        digests: *filed,
-        offence: case.offence,
-    };
-    let now = AuditedLogs {
-        digests: made.digests,
-        offence: offence_in(&made.verdict),
-    };
     match &made.verdict {
-        Verdict::Accepted(_) => comparison(alloc, label, &filed, &now),
-        Verdict::Rejected(_) => comparison(alloc, label, &filed, &now),
+        Verdict::Accepted(_) => compared_audit(alloc, label, case, filed, &made.digests, None),
+        Verdict::Rejected(finding) => {
+            let offence = Some(offence_of(finding));
+            compared_audit(alloc, label, case, filed, &made.digests, offence)
+        }
         Verdict::Malformed { log, bad } => malformed_answer(alloc, *log, bad),
     }
 }

@@ -6,24 +6,24 @@ ghost use Rattle.case_run.specs.Turns.{EndsWithinOrHalts};
 ghost use Rattle.day_logs.specs.DayBeforeRule.{IsDayWithFewTrades};
 ghost use Rattle.day_symbols.specs.Shares.{whole_day};
 ghost use Rattle.day_verdicts.specs.DayVerdicts.{RuleTradesFitPlaces};
-ghost use Rattle.desk_filing.specs.Days.{IsDayOf, IsJudgedAs, JudgesDay, JudgesGiven};
+ghost use Rattle.desk_filing.specs.Days.{IsDayOf, IsJudgedAs, JudgesDay, JudgesGiven, JudgesWithout};
 ghost use Rattle.desk_filing.specs.Days.{KeepsCase, TellsUnpaired, label_if_short};
 ghost use Rattle.desk_filing.specs.Steps.{JudgesLogs, NamesLogs};
 ghost use Rattle.desk_filing.specs.Turns.{label_of_symbol};
 ghost use Rattle.desk_filing.specs.declared.requests.FilingCommand.TheVariants as command;
 ghost use Rattle.log_verdict.specs.BothLogs.{HaveOneLimit};
 ghost use Rattle.log_verdict.specs.Steps.{reading_by, FaultsNeverFall, KeepsShelfLogs};
+ghost use Rattle.record_verdict.specs.Judged.{as_verdict};
 ghost use Rattle.record_verdict.specs.Scopes.{admission_of};
 
 use crate::answers::{FilingAnswer, Judged};
-use crate::judging::{digested_case, malformed_answer};
+use crate::judging::{digested_case, malformed_answer, offence_in};
 use crate::lines::{finding_text, long_label_text};
 use crate::requests::FilingRequest;
 use audit_base::faults::NoMemory;
 use audit_base::findings::Finding;
 use audit_base::names::{Name, read_name};
 use audit_base::terms::{Rule, Which};
-use audit_report::verdicts::Verdict;
 use case_run::halts::Halt;
 use case_run::statuses::CaseStatus;
 use day_logs::before_rule::DayBeforeRule;
@@ -35,7 +35,9 @@ use digest_keeper::digested::{CaseDigests, DigestedCase};
 use log_digests::digest_shelf::DigestShelf;
 use log_source::shelf::Shelf;
 use log_verdict::sources::Source;
+use log_verdict::stops::NoRecords;
 use record_verdict::scopes::Admission;
+use record_verdict::verdicts as records;
 use std::alloc::Global;
 
 /// The text of the label of a symbol of a day, LABEL/SYMBOL.
@@ -92,14 +94,16 @@ impl DayCases {
         &mut self,
         label: Option<Name>,
         symbol: &Name,
-        verdict: &Verdict,
+        judged: &records::Judged,
     ) -> Result<(), NoMemory>
         requires { self.old.long ≡ None }
-        ensures { OnOk result (KeepsCase self.old self.new label symbol.now verdict.now) }
+        ensures { OnOk result
+            (KeepsCase self.old self.new label symbol.now (as_verdict judged.now)) }
     {
         match label {
             Some(label) => {
-                let case = digested_case(&label, self.rule, &self.digests, symbol, verdict);
+                let offence = offence_in(judged);
+                let case = digested_case(&label, self.rule, &self.digests, symbol, offence);
                 self.cases.push(case)?;
                 Ok(())
             }
@@ -116,12 +120,12 @@ impl VerdictList for DayCases {
 
     ghost has_taken = { HasDayTaken };
 
-    fn take(&mut self, symbol: &Name, verdict: &Verdict) -> Result<(), NoMemory> {
+    fn take(&mut self, symbol: &Name, judged: &records::Judged) -> Result<(), NoMemory> {
         if self.long.is_some() {
             return Ok(());
         }
         let label = label_of_symbol(self.alloc, &self.label, symbol)?;
-        self.keep(label, symbol, verdict)
+        self.keep(label, symbol, judged)
     }
 }
 
@@ -165,7 +169,21 @@ fn unpaired_answer(alloc: Global, finding: &Finding) -> Result<FilingAnswer, NoM
     })
 }
 
-/// What two logs of these digests come to, by what they give before the rule is looked at.
+/// What two logs come to that were not read into records: the answer to their first bad place, or
+/// why there is none.
+fn judged_without(alloc: Global, why: NoRecords) -> Result<Judged, Halt>
+    ensures { JudgesWithout why result }
+{
+    match why {
+        NoRecords::Malformed { log, bad } => {
+            Ok(Judged::Refused(malformed_answer(alloc, log, &bad)?))
+        }
+        NoRecords::Stopped(stop) => Err(Halt::from(stop)),
+    }
+}
+
+/// What two logs of these digests come to, by what their records give before the rule is looked
+/// at.
 fn judged_logs(
     alloc: Global,
     label: &Name,
@@ -180,9 +198,6 @@ fn judged_logs(
         DayBeforeRule::Read(ended) => judged_day(alloc, label, rule, digests, ended),
         DayBeforeRule::Unpaired(finding) => {
             Ok(Judged::Refused(unpaired_answer(alloc, &finding)?))
-        }
-        DayBeforeRule::Malformed { log, bad } => {
-            Ok(Judged::Refused(malformed_answer(alloc, log, &bad)?))
         }
     }
 }
@@ -222,6 +237,6 @@ pub(crate) fn judge_day<'a, F: Shelf>(
             };
             Ok(judged_logs(alloc, &request.label, rule, &digests, given)?)
         }
-        Err(stop) => Err(Halt::from(stop)),
+        Err(why) => judged_without(alloc, why),
     }
 }

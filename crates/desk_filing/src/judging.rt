@@ -3,12 +3,13 @@
 ghost use Rattle.std.specs.Prelude.{◌≡◌, ◌∷◌, [], IfOk, false};
 ghost use Rattle.case_run.specs.Play.{offence_of};
 ghost use Rattle.case_run.specs.Turns.{EndsWithinOrHalts};
-ghost use Rattle.desk_filing.specs.Judging.{IsJudgedVerdict, TellsBadPlace};
+ghost use Rattle.desk_filing.specs.Judging.{case_that_ended, IsJudgedVerdict, TellsBadPlace};
 ghost use Rattle.desk_filing.specs.Steps.{JudgesLogs, NamesLogs};
-ghost use Rattle.desk_filing.specs.Turns.{digested_case, offence_in};
+ghost use Rattle.desk_filing.specs.Turns.{offence_in};
 ghost use Rattle.desk_filing.specs.declared.requests.FilingCommand.TheVariants as command;
 ghost use Rattle.log_verdict.specs.BothLogs.{HaveOneLimit};
 ghost use Rattle.log_verdict.specs.Steps.{reading_by, FaultsNeverFall, KeepsShelfLogs};
+ghost use Rattle.record_verdict.specs.Judged.{as_verdict};
 
 use crate::answers::{FilingAnswer, Judged};
 use crate::digested_verdicts::{DigestedVerdict, digested_verdict_on};
@@ -27,10 +28,11 @@ use log_digests::digest_shelf::DigestShelf;
 use log_source::shelf::Shelf;
 use log_verdict::sources::Source;
 use record_verdict::questions::Question;
+use record_verdict::verdicts as records;
 use std::alloc::Global;
 
 /// The offence of a finding.
-fn offence_of(finding: &Finding) -> Offence
+pub(crate) fn offence_of(finding: &Finding) -> Offence
     ensures { result ≡ offence_of finding.now }
 {
     Offence {
@@ -40,33 +42,32 @@ fn offence_of(finding: &Finding) -> Offence
     }
 }
 
-/// How an audit ended with a verdict.
-pub(crate) fn offence_in(verdict: &Verdict) -> Option<Offence>
-    ensures { result ≡ offence_in verdict.now }
+/// How an audit ended with a verdict on records.
+pub(crate) fn offence_in(judged: &records::Judged) -> Option<Offence>
+    ensures { result ≡ offence_in (as_verdict judged.now) }
 {
-    match verdict {
-        Verdict::Accepted(_) => None,
-        Verdict::Rejected(finding) => Some(offence_of(finding)),
-        Verdict::Malformed { .. } => None,
+    match judged {
+        records::Judged::Accepted(_) => None,
+        records::Judged::Rejected(finding) => Some(offence_of(finding)),
     }
 }
 
-/// The case of a verdict on logs of these digests.
+/// The case of an audit that ended so, on logs of these digests.
 pub(crate) fn digested_case(
     label: &Name,
     rule: Rule,
     digests: &CaseDigests,
     symbol: &Name,
-    verdict: &Verdict,
+    offence: Option<Offence>,
 ) -> DigestedCase
-    ensures { result ≡ digested_case label.now rule digests.now symbol.now verdict.now }
+    ensures { result ≡ case_that_ended label.now rule digests.now symbol.now offence }
 {
     DigestedCase {
         case: Case {
             label: *label,
             rule,
             symbol: *symbol,
-            offence: offence_in(verdict),
+            offence,
         },
         digests: *digests,
     }
@@ -86,19 +87,20 @@ pub(crate) fn malformed_answer(
     })
 }
 
-/// The case of a verdict that is no bad place, alone.
+/// The case of an audit that ended so, alone.
 fn case_alone(
     alloc: Global,
     label: &Name,
     question: &Question,
-    made: &DigestedVerdict,
+    digests: &CaseDigests,
+    offence: Option<Offence>,
 ) -> Result<Vec<DigestedCase>, NoMemory>
-    ensures { let q = question.now in let one = digested_case label.now q.rule made.now.digests
-        q.symbol made.now.verdict in IfOk result (λ cases. cases.items ≡ one ∷ []) }
+    ensures { let q = question.now in
+        let one = case_that_ended label.now q.rule digests.now q.symbol offence in
+        IfOk result (λ cases. cases.items ≡ one ∷ []) }
 {
-    let DigestedVerdict { verdict, digests } = made;
     let mut cases = Vec::new(alloc);
-    let case = digested_case(label, question.rule, digests, &question.symbol, verdict);
+    let case = digested_case(label, question.rule, digests, &question.symbol, offence);
     cases.push(case)?;
     Ok(cases)
 }
@@ -114,8 +116,15 @@ fn judged_verdict(
         (IsJudgedVerdict made.now.digests label.now question.now made.now.verdict) }
 {
     match &made.verdict {
-        Verdict::Accepted(_) => Ok(Judged::Cases(case_alone(alloc, label, question, made)?)),
-        Verdict::Rejected(_) => Ok(Judged::Cases(case_alone(alloc, label, question, made)?)),
+        Verdict::Accepted(_) => {
+            let cases = case_alone(alloc, label, question, &made.digests, None)?;
+            Ok(Judged::Cases(cases))
+        }
+        Verdict::Rejected(finding) => {
+            let offence = Some(offence_of(finding));
+            let cases = case_alone(alloc, label, question, &made.digests, offence)?;
+            Ok(Judged::Cases(cases))
+        }
         Verdict::Malformed { log, bad } => {
             Ok(Judged::Refused(malformed_answer(alloc, *log, bad)?))
         }

@@ -1,12 +1,10 @@
 -- The page of what two logs give is the page of the verdict on the records that give it.
 use Rattle.std.proofs.Common.{◌≡◌, ◌∙◌, sym, ap, subst, ℕ, Bool, true, false, List, [], Option, Some, None, Result}
-use Rattle.audit_base.specs.declared.faults.BadPlace.{BadPlace}
 use Rattle.audit_base.specs.declared.findings.Finding.{Finding}
 use Rattle.audit_base.specs.declared.orders.Deal.{Deal}
 use Rattle.audit_base.specs.declared.orders.Order.{Order}
 use Rattle.audit_base.specs.declared.records.OrderRecord.{OrderRecord}
 use Rattle.audit_base.specs.declared.records.TradeRecord.{TradeRecord}
-use Rattle.audit_base.specs.declared.terms.Which.{Which}
 use Rattle.audit_base.specs.Histories.{order_list}
 use Rattle.audit_base.specs.Trades.{deals_of_symbol}
 use Rattle.audit_base.specs.Verdicts.{paired_trades}
@@ -16,13 +14,14 @@ use Rattle.audit_report.specs.declared.verdicts.Verdict.TheVariants as verdict
 use Rattle.audit_report.specs.Statuses.{verdict_status}
 use Rattle.command_run.specs.declared.answers.Answer.{Answer}
 use Rattle.command_run.specs.Deciding.{IsAnswerOfKind}
-use Rattle.command_run.specs.VerdictAnswers.{IsVerdictAnswer}
 use Rattle.matching_core.specs.declared.deals_draft.ResolvedTrades.{ResolvedTrades}
 use Rattle.desk_page.specs.PageAnswers.{finding_of, in_words, IsPageAfter, IsPageOfMarket, Pictures}
 use Rattle.desk_page.specs.Telling.{IsAnswerBySome, IsAnswerToGiven, IsNamedByPresence, IsPageOfFinding}
 use Rattle.record_verdict.specs.declared.before_rule.BeforeRule.{BeforeRule}
 use Rattle.record_verdict.specs.declared.before_rule.BeforeRule.TheVariants as before_rule
 use Rattle.record_verdict.specs.declared.questions.Question.{Question}
+use Rattle.record_verdict.specs.declared.verdicts.Judged.{Judged}
+use Rattle.record_verdict.specs.Judged.{as_verdict}
 use Rattle.record_verdict.specs.BeforeRule.{IsBeforeRule, IsResolvedWithoutFinding}
 use Rattle.record_verdict.specs.RecordVerdicts.{IsRecordVerdict}
 use Rattle.record_verdict.specs.Scopes.{finding_before_rule_in_scope, scope_of}
@@ -32,12 +31,6 @@ use Rattle.symbol_offences.specs.OffenceAnswers.{is_absent}
 use Rattle.symbol_offences.specs.Telling.{are_none}
 use Rattle.page_parts.specs.declared.repeats.PageLogs.{PageLogs}
 use Rattle.page_parts.specs.VerdictPages.{IsVerdictPage}
-
-found-apart : (finding : Finding) (log : Which) (bad : BadPlace) (given : BeforeRule) → given ≡ before_rule.Found finding → given ≡ before_rule.Malformed log bad → ⊥
-found-apart finding log bad given is other = cc (is, other)
-
-sound-apart : (sound : ResolvedTrades) (log : Which) (bad : BadPlace) (given : BeforeRule) → given ≡ before_rule.Sound sound → given ≡ before_rule.Malformed log bad → ⊥
-sound-apart sound log bad given is other = cc (is, other)
 
 module _ (is_picture : Pictures) (q : Question) (named : PageLogs) (text : List ℕ) (v : Verdict) where
   -- where this was found before the rule, the page is that of the finding
@@ -94,29 +87,16 @@ module _ (is_picture : Pictures) (q : Question) (named : PageLogs) (entries : Li
       (subst (λ (ds : List Deal). IsAnswerBySome (are_none orders ds) is_picture q named orders ds v the_status text) resolved.deals
       (subst (λ (os : List Order). IsAnswerBySome (are_none os sound.deals.items) is_picture q named os sound.deals.items v the_status text) resolved.orders told)))
 
-module _ (is_picture : Pictures) (q : Question) (named : PageLogs) (given : BeforeRule) (v : Verdict) (answer : Answer) (stages : IsVerdictAfterStages q given v) where
-  -- a bad place
-  pub malformed-told : (log : Which) (bad : BadPlace) → given ≡ before_rule.Malformed log bad → IsAnswerOfKind (IsVerdictAnswer v) answer → IsAnswerToGiven is_picture q named given answer
-  malformed-told log bad is told = record {
-    of_place = λ l b e. subst (λ (w : Verdict). IsAnswerOfKind (IsVerdictAnswer w) answer) (stages.of_place l b e) told;
-    of_records = λ entries paired before. absurd (subst (λ (b : BeforeRule). IsBeforeRule (scope_of q) entries paired b) is before);
-  }
-
+module _ (is_picture : Pictures) (q : Question) (named : PageLogs) (given : BeforeRule) (v : Judged) (answer : Answer) (stages : IsVerdictAfterStages q given v) where
   -- a finding before the rule
   pub found-told : FoundIsPresent → (finding : Finding) → given ≡ before_rule.Found finding → IsAnswerOfKind (IsPageOfFinding q named finding) answer → IsAnswerToGiven is_picture q named given answer
-  found-told present finding is told = record {
-    of_place = λ l b e. absurd (found-apart finding l b given is e);
-    of_records = λ entries paired before.
-        found-answer is_picture q named entries paired v (stages.of_records entries paired before) answer.status answer.text.items present finding
-        (subst (λ (b : BeforeRule). IsBeforeRule (scope_of q) entries paired b) is before) (stages.of_finding finding is) told;
-  }
+  found-told present finding is told entries paired before =
+      found-answer is_picture q named entries paired (as_verdict v) (stages.of_records entries paired before) answer.status answer.text.items present finding
+      (subst (λ (b : BeforeRule). IsBeforeRule (scope_of q) entries paired b) is before) (ap as_verdict (stages.of_finding finding is)) told
 
   -- sound trades
-  pub sound-told : AbsentHasNothing → (sound : ResolvedTrades) → given ≡ before_rule.Sound sound → IsAnswerOfKind (IsAnswerBySome (are_none sound.history sound.deals.items) is_picture q named sound.history sound.deals.items v) answer
+  pub sound-told : AbsentHasNothing → (sound : ResolvedTrades) → given ≡ before_rule.Sound sound → IsAnswerOfKind (IsAnswerBySome (are_none sound.history sound.deals.items) is_picture q named sound.history sound.deals.items (as_verdict v)) answer
       → IsAnswerToGiven is_picture q named given answer
-  sound-told absent sound is told = record {
-    of_place = λ l b e. absurd (sound-apart sound l b given is e);
-    of_records = λ entries paired before.
-        sound-answer is_picture q named entries paired v (stages.of_records entries paired before) answer.status answer.text.items absent sound
-        (subst (λ (b : BeforeRule). IsBeforeRule (scope_of q) entries paired b) is before) told;
-  }
+  sound-told absent sound is told entries paired before =
+      sound-answer is_picture q named entries paired (as_verdict v) (stages.of_records entries paired before) answer.status answer.text.items absent sound
+      (subst (λ (b : BeforeRule). IsBeforeRule (scope_of q) entries paired b) is before) told

@@ -14,7 +14,7 @@ use Rattle.command_run.specs.VerdictAnswers.{IsVerdictAnswer}
 use Rattle.log_digests.specs.Digests.{digest_of}
 use Rattle.log_digests.specs.DigestShelves.{IsDigestAtEnd}
 use Rattle.log_verdict.specs.declared.sources.Source.{Source}
-use Rattle.log_verdict.specs.BothLogs.{ReadsAfterOrders, ReadsLogs, ReadsUpToRule}
+use Rattle.log_verdict.specs.BothLogs.{ReadsAfterOrders, ReadsLogs}
 use Rattle.log_verdict.specs.LogVerdicts.{records_of_order_log, trades_of_trade_log}
 use Rattle.log_verdict.specs.Steps.{Reading}
 use Rattle.desk_page.specs.declared.page_logs.PageDigests.{PageDigests}
@@ -23,7 +23,6 @@ use Rattle.desk_page.specs.PageAnswers.{IsAnswerByPresence, IsAnswerToRecords, l
 use Rattle.desk_page.specs.PageLogs.{AreDigestsOf}
 use Rattle.desk_page.specs.Telling.{IsDigestedAnswer, IsNamedByPresence}
 use Rattle.record_verdict.specs.declared.before_rule.BeforeRule.{BeforeRule}
-use Rattle.record_verdict.specs.declared.before_rule.BeforeRule.TheVariants as before_rule
 use Rattle.record_verdict.specs.BeforeRule.{IsBeforeRule}
 use Rattle.record_verdict.specs.Scopes.{scope_of}
 use Rattle.symbol_offences.specs.OffenceAnswers.{is_absent}
@@ -49,17 +48,17 @@ module _ (is_picture : Pictures) (r : Reading) (request : PageRequest) (orders t
   by-presence are entries paired false is = record { digests = digests; are_digests = are; named = digested.named; names = digested.names; page = is }
 
   by-trades : AreDigestsOf (logs_in r) request.logs digests → (entries : List OrderRecord) (said : Result (Result (List TradeRecord) Finding) BadPlace)
-      → MatchResult said (λ paired. IsBeforeRule (scope_of (page_question request)) entries paired given) (λ bad. given ≡ before_rule.Malformed Trades bad) → MatchResult said (of_records entries) (of_bad Trades)
-  by-trades are entries (Ok paired) holds = by-presence are entries paired (is_absent request.symbol entries paired) (digested.told.of_records entries paired holds)
-  by-trades are entries (Err bad) holds = digested.told.of_place Trades bad holds
+      → MatchResult said (λ paired. IsBeforeRule (scope_of (page_question request)) entries paired given) (λ bad. ⊥) → MatchResult said (of_records entries) (of_bad Trades)
+  by-trades are entries (Ok paired) holds = by-presence are entries paired (is_absent request.symbol entries paired) (digested.told entries paired holds)
+  by-trades are entries (Err bad) holds = absurd holds
 
-  pub reads-page : ReadsUpToRule r (scope_of (page_question request)) orders trades given → ReadsLogs r orders trades of_records of_bad
+  pub reads-page : ReadsLogs r orders trades (λ entries paired. IsBeforeRule (scope_of (page_question request)) entries paired given) (λ log bad. ⊥) → ReadsLogs r orders trades of_records of_bad
   reads-page is = record { bytes = is.bytes; read = is.read; holds = after (records_of_order_log orders.form is.bytes) is.holds }
     where
       after : (said : Result (List OrderRecord) BadPlace)
-          → ReadsAfterOrders r trades (λ entries paired. IsBeforeRule (scope_of (page_question request)) entries paired given) (λ log bad. given ≡ before_rule.Malformed log bad) said
+          → ReadsAfterOrders r trades (λ entries paired. IsBeforeRule (scope_of (page_question request)) entries paired given) (λ log bad. ⊥) said
           → ReadsAfterOrders r trades of_records of_bad said
-      after (Err bad) holds = (digested.told.of_place Orders bad holds.0, holds.1)
+      after (Err bad) holds = absurd holds.0
       after (Ok entries) holds = record {
         bytes = holds.bytes;
         read = holds.read;

@@ -1,12 +1,10 @@
 -- The answer to what two logs give of a symbol, on a page that names these logs.
 use Rattle.std.specs.Prelude.{◌≡◌, ℕ, Bool, true, false, List, [], None, Some, Result}
-use Rattle.audit_base.specs.declared.faults.BadPlace.{BadPlace}
 use Rattle.audit_base.specs.declared.findings.Finding.{Finding}
 use Rattle.audit_base.specs.declared.orders.Deal.{Deal}
 use Rattle.audit_base.specs.declared.orders.Order.{Order}
 use Rattle.audit_base.specs.declared.records.OrderRecord.{OrderRecord}
 use Rattle.audit_base.specs.declared.records.TradeRecord.{TradeRecord}
-use Rattle.audit_base.specs.declared.terms.Which.{Which}
 use Rattle.audit_report.specs.declared.statuses.Status.{Status}
 use Rattle.audit_report.specs.declared.statuses.Status.TheVariants.{Rejected}
 use Rattle.audit_report.specs.declared.verdicts.Verdict.{Verdict}
@@ -14,13 +12,12 @@ use Rattle.audit_report.specs.declared.verdicts.Verdict.TheVariants as verdict
 use Rattle.audit_report.specs.Statuses.{verdict_status}
 use Rattle.command_run.specs.declared.answers.Answer.{Answer}
 use Rattle.command_run.specs.Deciding.{IsAnswerOfKind}
-use Rattle.command_run.specs.VerdictAnswers.{IsAnswerWith, IsVerdictAnswer}
+use Rattle.command_run.specs.VerdictAnswers.{IsAnswerWith}
 use Rattle.desk_page.specs.declared.page_logs.PageDigests.{PageDigests}
 use Rattle.desk_page.specs.declared.requests.PageRequest.{PageRequest}
 use Rattle.desk_page.specs.PageAnswers.{finding_of, in_words, IsPageOfMarket, IsPageOfRecords, page_question, Pictures}
 use Rattle.desk_page.specs.PageLogs.{NamesLogs}
 use Rattle.record_verdict.specs.declared.before_rule.BeforeRule.{BeforeRule}
-use Rattle.record_verdict.specs.declared.before_rule.BeforeRule.TheVariants as before_rule
 use Rattle.record_verdict.specs.declared.questions.Question.{Question}
 use Rattle.record_verdict.specs.BeforeRule.{IsBeforeRule}
 use Rattle.record_verdict.specs.Scopes.{scope_of}
@@ -58,16 +55,14 @@ IsNamedByPresence true is_picture q named entries paired =
 IsNamedByPresence false is_picture q named entries paired =
     IsPageOfRecords is_picture q named entries paired
 
--- The answer to what two logs give: their first bad place; and of whatever records give this, the
--- answer to them.
-pub record IsAnswerToGiven (is_picture : Pictures) (q : Question) (named : PageLogs)
-    (given : BeforeRule) (answer : Answer) : Type 0 where
-  pub of_place : (log : Which) (bad : BadPlace) → given ≡ before_rule.Malformed log bad
-      → IsAnswerOfKind (IsVerdictAnswer (verdict.Malformed log bad)) answer
-  pub of_records : (entries : List OrderRecord) (paired : Result (List TradeRecord) Finding)
-      → IsBeforeRule (scope_of q) entries paired given
-      → IsAnswerOfKind (IsNamedByPresence (is_absent q.symbol entries paired) is_picture q named
-      entries paired) answer
+-- the answer to what the records of two logs give: of whatever records give this, the answer to
+-- them
+abbrev pub IsAnswerToGiven : Pictures → Question → PageLogs → BeforeRule → Answer → Type 0
+IsAnswerToGiven is_picture q named given answer =
+    (entries : List OrderRecord) (paired : Result (List TradeRecord) Finding)
+    → IsBeforeRule (scope_of q) entries paired given
+    → IsAnswerOfKind (IsNamedByPresence (is_absent q.symbol entries paired) is_picture q named
+    entries paired) answer
 
 -- The answer to what two logs give, on a page that names the logs of a request with these digests.
 pub record IsDigestedAnswer (is_picture : Pictures) (request : PageRequest) (digests : PageDigests)

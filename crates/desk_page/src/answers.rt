@@ -10,6 +10,7 @@ ghost use Rattle.desk_page.specs.PageAnswers.{GivesPageOrStop, page_question};
 ghost use Rattle.desk_page.specs.Telling.{IsAnswerBySome, IsAnswerToGiven, IsDigestedAnswer};
 ghost use Rattle.desk_page.specs.Telling.{IsPageOfDeals, IsPageOfFinding};
 ghost use Rattle.record_verdict.specs.BeforeRule.{IsJudgeable};
+ghost use Rattle.record_verdict.specs.Judged.{as_verdict};
 ghost use Rattle.symbol_offences.specs.Telling.{are_none};
 
 use crate::drawings::Drawing;
@@ -21,8 +22,7 @@ use audit_base::findings::Finding;
 use audit_base::orders::Deal;
 use audit_base::terms::Which;
 use audit_report::statuses::Status;
-use audit_report::verdicts::{Verdict, status_of};
-use command_run::answers::{Answer, verdict_answer};
+use command_run::answers::{Answer, answer_without};
 use log_digests::digest_shelf::DigestShelf;
 use log_source::shelf::Shelf;
 use log_verdict::both_logs::read_both;
@@ -33,7 +33,7 @@ use order_list::lists::OrderList;
 use page_parts::repeats::PageLogs;
 use record_verdict::before_rule::BeforeRule;
 use record_verdict::questions::Question;
-use record_verdict::verdicts::verdict_after;
+use record_verdict::verdicts::{Judged, verdict_after};
 use std::alloc::Global;
 use symbol_offences::answers::absent_answer;
 use symbol_offences::laws::absent_symbols_have_nothing;
@@ -72,18 +72,18 @@ fn answer_market<D: Drawing>(
     question: &Question,
     orders: &OrderList<'_>,
     deals: &[Deal],
-    verdict: &Verdict,
+    judged: &Judged,
     named: &PageLogs<'_>,
 ) -> Result<Answer, NoMemory>
     requires order_list { IsOrderList orders.now }
     requires deal_list { IsDealList orders.now deals.now }
     ensures { IfOk result (IsAnswerOfKind (IsPageOfDeals D.is_picture question.now named.now
-        orders.now deals.now verdict.now)) }
+        orders.now deals.now (as_verdict judged.now))) }
 {
-    let finding = finding_of(verdict);
+    let finding = finding_of(judged);
     let text = page_of_market::<D>(alloc, question, orders, deals, &finding, named)?;
     Ok(Answer {
-        status: status_of(verdict),
+        status: judged.status(),
         text,
     })
 }
@@ -94,19 +94,19 @@ fn answer_sound<D: Drawing>(
     alloc: Global,
     question: &Question,
     sound: &ResolvedTrades,
-    verdict: &Verdict,
+    judged: &Judged,
     named: &PageLogs<'_>,
 ) -> Result<Answer, NoMemory>
     requires { IsDealList sound.now.history sound.now.deals.items }
     ensures { let none = are_none sound.now.history sound.now.deals.items in
         let told = IsAnswerBySome none D.is_picture question.now named.now sound.now.history in
-        IfOk result (IsAnswerOfKind (told sound.now.deals.items verdict.now)) }
+        IfOk result (IsAnswerOfKind (told sound.now.deals.items (as_verdict judged.now))) }
 {
     let orders = sound.history.orders();
     if orders.len() == 0 && sound.deals.is_empty() {
         return absent_answer(alloc, &question.symbol);
     }
-    answer_market::<D>(alloc, question, &orders, &sound.deals, verdict, named)
+    answer_market::<D>(alloc, question, &orders, &sound.deals, judged, named)
 }
 
 /// The answer to what two logs give before the rule is looked at.
@@ -121,11 +121,10 @@ fn answer_after<D: Drawing>(
 {
     // A law that the answer rests on. It computes nothing.
     absent_symbols_have_nothing();
-    let verdict = verdict_after(alloc, question, given)?;
+    let judged = verdict_after(alloc, question, given)?;
     match given {
-        BeforeRule::Malformed { .. } => verdict_answer(alloc, &verdict),
         BeforeRule::Found(finding) => answer_found(alloc, question, finding, named),
-        BeforeRule::Sound(sound) => answer_sound::<D>(alloc, question, sound, &verdict, named),
+        BeforeRule::Sound(sound) => answer_sound::<D>(alloc, question, sound, &judged, named),
     }
 }
 
@@ -181,6 +180,6 @@ pub(crate) fn page_on<'a, D: Drawing, F: Shelf>(
             };
             Ok(answer_digested::<D>(alloc, request, &given, &digests)?)
         }
-        Err(stop) => Err(stop),
+        Err(why) => answer_without(alloc, why),
     }
 }

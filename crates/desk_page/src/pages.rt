@@ -4,12 +4,12 @@ ghost use Rattle.audit_base.specs.Deals.{IsDealList};
 ghost use Rattle.audit_base.specs.Orders.{IsOrderList};
 ghost use Rattle.desk_page.specs.PageAnswers as spec;
 ghost use Rattle.page_parts.specs.VerdictPages.{IsVerdictPage};
+ghost use Rattle.record_verdict.specs.Judged.{as_verdict};
 
 use crate::drawings::Drawing;
 use audit_base::faults::NoMemory;
 use audit_base::findings::Finding;
 use audit_base::orders::Deal;
-use audit_report::verdicts::Verdict;
 use matching_core::totals::volume_of;
 use order_list::lists::OrderList;
 use page_markup::markup::Markup;
@@ -17,16 +17,16 @@ use page_parts::repeats::PageLogs;
 use page_parts::sentences::{SymbolTotals, VerdictInWords};
 use page_parts::verdict_pages::verdict_page;
 use record_verdict::questions::Question;
+use record_verdict::verdicts::Judged;
 use std::alloc::Global;
 
 /// The finding of a verdict.
-pub(crate) fn finding_of(verdict: &Verdict) -> Option<Finding>
-    ensures { result ≡ spec.finding_of verdict.now }
+pub(crate) fn finding_of(judged: &Judged) -> Option<Finding>
+    ensures { result ≡ spec.finding_of (as_verdict judged.now) }
 {
-    match verdict {
-        Verdict::Accepted(_) => None,
-        Verdict::Rejected(finding) => Some(*finding),
-        Verdict::Malformed { .. } => None,
+    match judged {
+        Judged::Accepted(_) => None,
+        Judged::Rejected(finding) => Some(*finding),
     }
 }
 

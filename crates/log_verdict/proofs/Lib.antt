@@ -1,4 +1,5 @@
 mod CollectLemmas
+pub mod JoinLemmas
 mod AuditLemmas
 mod VerdictLemmas
 mod LawLemmas

@@ -1,38 +1,35 @@
--- The verdict on two logs that were read up to the rule.
-use Rattle.std.proofs.Common.{List, Result, Ok, Err}
-use Rattle.std.specs.Prelude.{MatchResult}
-use Rattle.audit_base.specs.declared.faults.BadPlace.{BadPlace}
-use Rattle.audit_base.specs.declared.findings.Finding.{Finding}
-use Rattle.audit_base.specs.declared.records.OrderRecord.{OrderRecord}
-use Rattle.audit_base.specs.declared.records.TradeRecord.{TradeRecord}
-use Rattle.audit_base.specs.declared.terms.Which.{Which}
-use Rattle.audit_base.specs.declared.terms.Which.TheVariants.{Orders, Trades}
-use Rattle.audit_report.specs.declared.verdicts.Verdict.{Verdict}
+-- The verdict on two logs that were read up to the rule, or not read into records.
+use Rattle.std.proofs.Common.{◌≡◌, refl, Err}
+use Rattle.std.specs.Prelude.{Result}
+use Rattle.audit_report.specs.declared.verdicts.Verdict.TheVariants.{Malformed}
 use Rattle.record_verdict.specs.declared.before_rule.BeforeRule.{BeforeRule}
 use Rattle.record_verdict.specs.declared.questions.Question.{Question}
+use Rattle.record_verdict.specs.declared.verdicts.Judged.{Judged}
+use Rattle.record_verdict.specs.BeforeRule.{IsBeforeRule}
+use Rattle.record_verdict.specs.Judged.{as_verdict}
+use Rattle.record_verdict.specs.RecordVerdicts.{IsRecordVerdict}
 use Rattle.record_verdict.specs.Scopes.{scope_of}
 use Rattle.record_verdict.specs.Stages.{IsVerdictAfterStages}
 use Rattle.log_verdict.specs.declared.sources.Source.{Source}
-use Rattle.log_verdict.specs.BothLogs.{ReadsAfterOrders, ReadsLogs, ReadsUpToRule, ReadsVerdict}
-use Rattle.log_verdict.specs.LogVerdicts.{records_of_order_log, trades_of_trade_log}
+use Rattle.log_verdict.specs.declared.stops.NoRecords.{NoRecords}
+use Rattle.log_verdict.specs.declared.stops.NoRecords.TheVariants as norecords
+use Rattle.log_verdict.specs.BothLogs.{GivesVerdictOrStop, IsUnreadOfTwoLogs, ReadsLogs, ReadsVerdict, ReadsWithin, StaysWithin, verdict_without}
 use Rattle.log_verdict.specs.Steps.{Reading}
-
--- what follows of records and of a bad place follows of logs that were read
-pub reads-more : (r : Reading) (orders trades : Source) (P P' : List OrderRecord → Result (List TradeRecord) Finding → Type 0) (B B' : Which → BadPlace → Type 0)
-    → ((entries : List OrderRecord) (paired : Result (List TradeRecord) Finding) → P entries paired → P' entries paired)
-    → ((log : Which) (bad : BadPlace) → B log bad → B' log bad) → ReadsLogs r orders trades P B → ReadsLogs r orders trades P' B'
-reads-more r orders trades P P' B B' records bads is = record { bytes = is.bytes; read = is.read; holds = of_orders (records_of_order_log orders.form is.bytes) is.holds }
-  where
-    of_trades : (entries : List OrderRecord) (said : Result (Result (List TradeRecord) Finding) BadPlace) → MatchResult said (P entries) (B Trades) → MatchResult said (P' entries) (B' Trades)
-    of_trades entries (Ok paired) holds = records entries paired holds
-    of_trades entries (Err bad) holds = bads Trades bad holds
-
-    of_orders : (said : Result (List OrderRecord) BadPlace) → ReadsAfterOrders r trades P B said → ReadsAfterOrders r trades P' B' said
-    of_orders (Ok entries) holds = record { bytes = holds.bytes; read = holds.read; holds = of_trades entries (trades_of_trade_log trades.form holds.bytes) holds.holds }
-    of_orders (Err bad) holds = (bads Orders bad holds.0, holds.1)
+use Rattle.log_verdict.proofs.JoinLemmas.{reads-bad, reads-good}
 
 -- the verdict on what both logs give is the verdict on both
-pub reads-verdict : (r : Reading) (q : Question) (orders trades : Source) (reached : BeforeRule) (v : Verdict) → ReadsUpToRule r (scope_of q) orders trades reached → IsVerdictAfterStages q reached v
-    → ReadsVerdict r q orders trades v
+pub reads-verdict : (r : Reading) (q : Question) (orders trades : Source) (reached : BeforeRule) (v : Judged)
+    → ReadsLogs r orders trades (λ entries paired. IsBeforeRule (scope_of q) entries paired reached) (λ log bad. ⊥) → IsVerdictAfterStages q reached v → ReadsVerdict r q orders trades (as_verdict v)
 reads-verdict r q orders trades reached v read is =
-    reads-more r orders trades _ _ _ _ is.of_records is.of_place read
+    reads-good r orders trades (λ entries paired. IsBeforeRule (scope_of q) entries paired reached) (λ entries paired. IsRecordVerdict q entries paired (as_verdict v)) (λ log bad. as_verdict v ≡ Malformed log bad) is.of_records read
+
+-- the first bad place is the verdict on both
+pub reads-without : (r : Reading) (q : Question) (orders trades : Source) (why : NoRecords) → IsUnreadOfTwoLogs r orders trades why → GivesVerdictOrStop r q orders trades (verdict_without why)
+reads-without r q orders trades (norecords.Malformed log bad) is =
+    reads-bad r orders trades (λ entries paired. IsRecordVerdict q entries paired (Malformed log bad)) (λ which place. Malformed log bad ≡ Malformed which place) log bad refl is
+reads-without r q orders trades (norecords.Stopped why) is = is
+
+-- and the slots stay as they did
+pub stays-without : {T : Type 0} (r : Reading) (why : NoRecords) (result : Result T NoRecords) → result ≡ Err why → ReadsWithin r result → StaysWithin r (verdict_without why)
+stays-without r (norecords.Malformed log bad) result is within = rw is at within
+stays-without r (norecords.Stopped why) result is within = rw is at within

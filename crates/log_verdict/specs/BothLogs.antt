@@ -1,5 +1,5 @@
 -- Two logs, read one after the other: what is known of both, or why it is not.
-use Rattle.std.specs.Prelude.{◌≡◌, ◌≤◌, ◌⊎◌, ℕ, List, None, Result, Ok, Err, IsOk, length, MatchResult}
+use Rattle.std.specs.Prelude.{◌≡◌, ◌≤◌, ◌⊎◌, ℕ, List, Option, None, Some, Result, Ok, Err, IsOk, length, MatchResult}
 use Rattle.audit_base.specs.declared.terms.Which.{Which}
 use Rattle.audit_base.specs.declared.terms.Which.TheVariants.{Orders, Trades}
 use Rattle.audit_base.specs.declared.faults.BadPlace.{BadPlace}
@@ -12,15 +12,14 @@ use Rattle.audit_base.specs.Trades.{deals_of_symbol, trades_finding}
 use Rattle.matching_core.specs.declared.deals_draft.ResolvedTrades.{ResolvedTrades}
 use Rattle.log_verdict.specs.declared.stops.Stop.{Stop}
 use Rattle.log_verdict.specs.declared.stops.Stop.TheVariants as stop
+use Rattle.log_verdict.specs.declared.stops.NoRecords.{NoRecords}
+use Rattle.log_verdict.specs.declared.stops.NoRecords.TheVariants as norecords
 use Rattle.log_verdict.specs.declared.reading.Unread.{Unread}
 use Rattle.log_verdict.specs.declared.reading.Unread.TheVariants as unread
-use Rattle.record_verdict.specs.declared.before_rule.BeforeRule.{BeforeRule}
-use Rattle.record_verdict.specs.declared.before_rule.BeforeRule.TheVariants as before_rule
 use Rattle.record_verdict.specs.declared.questions.Question.{Question}
 use Rattle.log_verdict.specs.declared.sources.Source.{Source}
 use Rattle.log_verdict.specs.LogVerdicts.{records_of_order_log, trades_of_trade_log}
-use Rattle.record_verdict.specs.BeforeRule.{IsBeforeRule}
-use Rattle.log_verdict.specs.Steps.{Reading, IsReadFault, IsTooLong, IsUntouched, BeginsWithin, EndsWithin, step_of, IsReadAs}
+use Rattle.log_verdict.specs.Steps.{Reading, IsReadFault, IsTooLong, BeginsWithin, EndsWithin, IsUntouched, step_of, IsReadAs}
 use Rattle.record_verdict.specs.declared.scopes.Scope.{Scope}
 use Rattle.record_verdict.specs.RecordVerdicts.{IsRecordVerdict}
 use Rattle.record_verdict.specs.Scopes.{unadmitted_order_finding}
@@ -58,18 +57,6 @@ abbrev pub ReadsLogs : Reading → Source → Source
 ReadsLogs r orders trades of_records of_bad =
     IsReadAs r Orders orders.name.now
     (λ bytes. ReadsAfterOrders r trades of_records of_bad (records_of_order_log orders.form bytes))
-
--- both logs were read, and give this before the rule is looked at
-abbrev pub ReadsUpToRule : Reading → Scope → Source → Source → BeforeRule → Type 0
-ReadsUpToRule r scope orders trades given =
-    ReadsLogs r orders trades (λ entries paired. IsBeforeRule scope entries paired given)
-    (λ log bad. given ≡ before_rule.Malformed log bad)
-
--- the trade log was read, and gives this after these records of the order log
-abbrev pub IsAfterOrders : Reading → Scope → Source → List OrderRecord → BeforeRule → Type 0
-IsAfterOrders r scope trades entries given =
-    ReadsTrades r trades (λ paired. IsBeforeRule scope entries paired given)
-    (λ bad. given ≡ before_rule.Malformed Trades bad)
 
 -- both logs were read, and this is their verdict
 abbrev pub ReadsVerdict : Reading → Question → Source → Source → Verdict → Type 0
@@ -109,12 +96,39 @@ IsStopOfTwoLogs r orders trades (stop.ReadFault log) = StopsAtFault r orders tra
 IsStopOfTwoLogs r orders trades (stop.TooLong log) = StopsAtLength r orders trades log
 IsStopOfTwoLogs r orders trades stop.Memory = Unit {0}
 
--- what is answered where a log was not read into records
-abbrev pub without_log : Which → Unread → Result BeforeRule Stop
-without_log log (unread.Bad bad) = Ok (before_rule.Malformed log bad)
-without_log log unread.ReadFault = Err (stop.ReadFault log)
-without_log log unread.TooLong = Err (stop.TooLong log)
-without_log log unread.Memory = Err stop.Memory
+-- why two logs were not read into records, where this one was not
+abbrev pub no_records : Which → Unread → NoRecords
+no_records log (unread.Bad bad) = norecords.Malformed log bad
+no_records log unread.ReadFault = norecords.Stopped (stop.ReadFault log)
+no_records log unread.TooLong = norecords.Stopped (stop.TooLong log)
+no_records log unread.Memory = norecords.Stopped stop.Memory
+
+-- a log was read to its end in its turn, and this is its first bad place: of the order log, after
+-- which the trade log is not started; or of the trade log, after an order log in its grammar
+abbrev pub ReadsBadPlace : Reading → Source → Source → Which → BadPlace → Type 0
+ReadsBadPlace r orders trades log bad =
+    ReadsLogs r orders trades (λ entries paired. ⊥)
+    (λ which place. (which ≡ log) × (place ≡ bad))
+
+-- why two logs were not read into records: the first bad place, or why nothing is known of them
+abbrev pub IsUnreadOfTwoLogs : Reading → Source → Source → NoRecords → Type 0
+IsUnreadOfTwoLogs r orders trades (norecords.Malformed log bad) = ReadsBadPlace r orders trades log bad
+IsUnreadOfTwoLogs r orders trades (norecords.Stopped why) = IsStopOfTwoLogs r orders trades why
+
+-- both logs were read, each into records, and what is given is of these; or they were not
+abbrev pub GivesOfRecords : {T : Type 0}
+    → (List OrderRecord → Result (List TradeRecord) Finding → T → Type 0)
+    → Reading → Source → Source → Result T NoRecords → Type 0
+GivesOfRecords of_records r orders trades result =
+    MatchResult result
+    (λ given. ReadsLogs r orders trades (λ entries paired. of_records entries paired given)
+    (λ log bad. ⊥))
+    (IsUnreadOfTwoLogs r orders trades)
+
+-- the verdict on two logs that were not read into records: the first bad place, or there is none
+abbrev pub verdict_without : NoRecords → Result Verdict Stop
+verdict_without (norecords.Malformed log bad) = Ok (Malformed log bad)
+verdict_without (norecords.Stopped why) = Err why
 
 -- reading stopped at a log that is too long
 abbrev pub IsLengthStop : {T : Type 0} → Result T Stop → Type 0
@@ -130,18 +144,20 @@ IsLogStop r log name (stop.ReadFault which) =
 IsLogStop r log name (stop.TooLong which) = (which ≡ log) × IsTooLong r (step_of r log name)
 IsLogStop r log name stop.Memory = Unit {0}
 
--- what is known after the order log, or why nothing is
-abbrev pub GivesTradesOrStop : Reading → Scope → Source → List OrderRecord
-    → Result BeforeRule Stop → Type 0
-GivesTradesOrStop r scope trades entries result =
-    MatchResult result (IsAfterOrders r scope trades entries)
-    (IsLogStop r Trades trades.name.now)
+-- why the trade log was not read into records
+abbrev pub IsUnreadTrades : Reading → Source → NoRecords → Type 0
+IsUnreadTrades r trades (norecords.Malformed log bad) =
+    (log ≡ Trades) × IsReadAs r Trades trades.name.now
+    (λ bytes. trades_of_trade_log trades.form bytes ≡ Err bad)
+IsUnreadTrades r trades (norecords.Stopped why) = IsLogStop r Trades trades.name.now why
 
--- what both logs give, or why that is not known
-abbrev pub GivesBeforeRuleOrStop : Reading → Scope → Source → Source → Result BeforeRule Stop
-    → Type 0
-GivesBeforeRuleOrStop r scope orders trades result =
-    MatchResult result (ReadsUpToRule r scope orders trades) (IsStopOfTwoLogs r orders trades)
+-- the trade log was read into records, and what is given is of these; or it was not
+abbrev pub GivesOfTrades : {T : Type 0} → (Result (List TradeRecord) Finding → T → Type 0)
+    → Reading → Source → Result T NoRecords → Type 0
+GivesOfTrades of_trades r trades result =
+    MatchResult result
+    (λ given. ReadsTrades r trades (λ paired. of_trades paired given) (λ bad. ⊥))
+    (IsUnreadTrades r trades)
 
 -- the verdict on both logs, or why there is none
 abbrev pub GivesVerdictOrStop : Reading → Question → Source → Source → Result Verdict Stop
@@ -156,6 +172,20 @@ StaysWithin r result = BeginsWithin r → IsLengthStop result ⊎ EndsWithin r
 -- the same of the slot of one log
 abbrev pub StaysWithinAt : {T : Type 0} → Reading → Which → Result T Stop → Type 0
 StaysWithinAt r log result = IsLengthStop result ⊎ ((r.after log).taken ≤ r.limit)
+
+-- a reading that gave something, or that a log is malformed; or that stopped
+abbrev pub read_or_stopped : {T : Type 0} → Result T NoRecords → Result (Option T) Stop
+read_or_stopped (Ok given) = Ok (Some given)
+read_or_stopped (Err (norecords.Malformed log bad)) = Ok None
+read_or_stopped (Err (norecords.Stopped why)) = Err why
+
+-- where no log was too long for a reading, both slots end within the limit if they began so
+abbrev pub ReadsWithin : {T : Type 0} → Reading → Result T NoRecords → Type 0
+ReadsWithin r result = StaysWithin r (read_or_stopped result)
+
+-- the same of the slot of one log
+abbrev pub ReadsWithinAt : {T : Type 0} → Reading → Which → Result T NoRecords → Type 0
+ReadsWithinAt r log result = StaysWithinAt r log (read_or_stopped result)
 
 -- The history of these records is well-formed and has these orders, which are admitted.
 pub record IsAdmitted (scope : Scope) (entries : List OrderRecord)

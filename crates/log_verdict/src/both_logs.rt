@@ -9,15 +9,15 @@ ghost use Rattle.instruction_history.specs.HistoryDraft.{IsHistoryDraft};
 ghost use Rattle.log_source.specs.Collectors.{HasPlace};
 ghost use Rattle.log_source.specs.Sources.{longest_read};
 ghost use Rattle.record_verdict.specs.Scopes.{finding_before_rule_in_scope};
-ghost use Rattle.log_verdict.specs.BothLogs.{GivesBeforeRuleOrStop, GivesTradesOrStop, HaveOneLimit, IsAdmitted};
-ghost use Rattle.log_verdict.specs.BothLogs.{StaysWithin, StaysWithinAt, without_log};
+ghost use Rattle.log_verdict.specs.BothLogs.{GivesOfRecords, GivesOfTrades, HaveOneLimit, IsAdmitted};
+ghost use Rattle.log_verdict.specs.BothLogs.{ReadsWithin, ReadsWithinAt};
 ghost use Rattle.log_verdict.specs.Collecting.{TouchesOnly};
 ghost use Rattle.log_verdict.specs.Steps.{reading_by, KeepsShelfLogs, FaultsNeverFall};
-ghost use Rattle.record_verdict.specs.BeforeRule.{IsJudgeable};
+ghost use Rattle.record_verdict.specs.BeforeRule.{IsBeforeRule, IsJudgeable};
 
-use crate::reading::{Collected, Unread, collect_orders, collect_trades};
+use crate::reading::{Collected, collect_orders, collect_trades};
 use crate::sources::Source;
-use crate::stops::Stop;
+use crate::stops::NoRecords;
 use audit_base::findings::Finding;
 use audit_base::records::{OrderRecord, TradeRecord};
 use audit_base::terms::Which;
@@ -31,19 +31,6 @@ use record_verdict::scopes::Scope;
 use std::alloc::Global;
 use std::marker::Brand;
 
-/// What is answered where a log was not read into records.
-fn answer_without(log: Which, unread: Unread) -> Result<BeforeRule, Stop>
-    ensures answer { result ≡ without_log log unread }
-    ensures judgeable { IfOk result IsJudgeable }
-{
-    match unread {
-        Unread::Bad(bad) => Ok(BeforeRule::Malformed { log, bad }),
-        Unread::ReadFault => Err(Stop::ReadFault(log)),
-        Unread::TooLong => Err(Stop::TooLong(log)),
-        Unread::Memory => Err(Stop::Memory),
-    }
-}
-
 /// What is known where a finding about the orders decides: the trade log is only read.
 fn after_finding<F: Shelf>(
     alloc: Global,
@@ -51,22 +38,22 @@ fn after_finding<F: Shelf>(
     scope: &Scope,
     trades: &Source<'_>,
     finding: Finding,
-) -> Result<BeforeRule, Stop>
+) -> Result<BeforeRule, NoRecords>
     requires limit { trades.now.limit ≤ longest_read }
     ensures logs { KeepsShelfLogs F.Shelf shelf.old shelf.new }
     ensures only { TouchesOnly (reading_by trades.now F.Shelf shelf.old shelf.new) Which.Trades }
     ensures decides { (entries : List OrderRecord)
         → ((paired : Result (List TradeRecord) Finding)
         → finding_before_rule_in_scope scope.now entries paired ≡ Some finding)
-        → GivesTradesOrStop (reading_by trades.now F.Shelf shelf.old shelf.new)
-        scope.now trades.now entries result }
+        → GivesOfTrades (IsBeforeRule scope.now entries)
+        (reading_by trades.now F.Shelf shelf.old shelf.new) trades.now result }
     ensures judgeable { IfOk result IsJudgeable }
-    ensures within { StaysWithinAt (reading_by trades.now F.Shelf shelf.old shelf.new)
+    ensures within { ReadsWithinAt (reading_by trades.now F.Shelf shelf.old shelf.new)
         Which.Trades result }
 {
     match collect_trades::<F, Counter<TradeRecord>>(alloc, shelf, trades, Counter::new()) {
         Ok(_) => Ok(BeforeRule::Found(finding)),
-        Err(unread) => answer_without(Which::Trades, unread),
+        Err(unread) => Err(NoRecords::at(Which::Trades, unread)),
     }
 }
 
@@ -77,24 +64,24 @@ fn after_history<M: AuditedHistory, F: Shelf>(
     scope: &Scope,
     trades: &Source<'_>,
     history: History,
-) -> Result<BeforeRule, Stop>
+) -> Result<BeforeRule, NoRecords>
     requires limit { trades.now.limit ≤ longest_read }
     requires symbol { scope.now.symbol ≡ M.symbol }
     requires orders { history ≡ M.orders }
     ensures logs { KeepsShelfLogs F.Shelf shelf.old shelf.new }
     ensures only { TouchesOnly (reading_by trades.now F.Shelf shelf.old shelf.new) Which.Trades }
     ensures decides { (entries : List OrderRecord) → IsAdmitted scope.now entries history
-        → GivesTradesOrStop (reading_by trades.now F.Shelf shelf.old shelf.new)
-        scope.now trades.now entries result }
+        → GivesOfTrades (IsBeforeRule scope.now entries)
+        (reading_by trades.now F.Shelf shelf.old shelf.new) trades.now result }
     ensures judgeable { IfOk result IsJudgeable }
     ensures within { (F.slot shelf.old Which.Trades).taken ≤ trades.now.limit
-        → StaysWithinAt (reading_by trades.now F.Shelf shelf.old shelf.new) Which.Trades result }
+        → ReadsWithinAt (reading_by trades.now F.Shelf shelf.old shelf.new) Which.Trades result }
 {
     let deals = DealsDraft::<M>::new(alloc, trades.seed, scope.symbol, history);
     match collect_trades::<F, DealsDraft<M>>(alloc, shelf, trades, deals) {
         Ok(Collected::Trades(deals)) => Ok(BeforeRule::of(deals.end())),
         Ok(Collected::Alone(finding)) => Ok(BeforeRule::Found(finding)),
-        Err(unread) => answer_without(Which::Trades, unread),
+        Err(unread) => Err(NoRecords::at(Which::Trades, unread)),
     }
 }
 
@@ -105,18 +92,18 @@ fn after_orders<S: AuditedSymbol, F: Shelf>(
     scope: &Scope,
     trades: &Source<'_>,
     orders: HistoryDraft<S>,
-) -> Result<BeforeRule, Stop>
+) -> Result<BeforeRule, NoRecords>
     requires limit { trades.now.limit ≤ longest_read }
     requires symbol { scope.now.symbol ≡ S.symbol }
     requires place { HasPlace (IsHistoryDraft S.symbol) orders }
     ensures logs { KeepsShelfLogs F.Shelf shelf.old shelf.new }
     ensures only { TouchesOnly (reading_by trades.now F.Shelf shelf.old shelf.new) Which.Trades }
     ensures decides { (entries : List OrderRecord) → IsHistoryDraft S.symbol orders entries
-        → GivesTradesOrStop (reading_by trades.now F.Shelf shelf.old shelf.new)
-        scope.now trades.now entries result }
+        → GivesOfTrades (IsBeforeRule scope.now entries)
+        (reading_by trades.now F.Shelf shelf.old shelf.new) trades.now result }
     ensures judgeable { IfOk result IsJudgeable }
     ensures within { (F.slot shelf.old Which.Trades).taken ≤ trades.now.limit
-        → StaysWithinAt (reading_by trades.now F.Shelf shelf.old shelf.new) Which.Trades result }
+        → ReadsWithinAt (reading_by trades.now F.Shelf shelf.old shelf.new) Which.Trades result }
 {
     match orders.end() {
         Ok(history) => {
@@ -137,20 +124,20 @@ fn read_about<S: AuditedSymbol, F: Shelf>(
     scope: &Scope,
     orders: &Source<'_>,
     trades: &Source<'_>,
-) -> Result<BeforeRule, Stop>
+) -> Result<BeforeRule, NoRecords>
     requires symbol { scope.now.symbol ≡ S.symbol }
     requires limit { HaveOneLimit orders.now trades.now }
     ensures logs { KeepsShelfLogs F.Shelf shelf.old shelf.new }
     ensures later { FaultsNeverFall (reading_by orders.now F.Shelf shelf.old shelf.new) }
-    ensures decides { GivesBeforeRuleOrStop (reading_by orders.now F.Shelf shelf.old shelf.new)
-        scope.now orders.now trades.now result }
+    ensures decides { GivesOfRecords (IsBeforeRule scope.now)
+        (reading_by orders.now F.Shelf shelf.old shelf.new) orders.now trades.now result }
     ensures judgeable { IfOk result IsJudgeable }
-    ensures within { StaysWithin (reading_by orders.now F.Shelf shelf.old shelf.new) result }
+    ensures within { ReadsWithin (reading_by orders.now F.Shelf shelf.old shelf.new) result }
 {
     let history = HistoryDraft::<S>::new(alloc, orders.seed, scope.symbol);
     match collect_orders::<F, HistoryDraft<S>>(alloc, shelf, orders, history) {
         Ok(history) => after_orders(alloc, shelf, scope, trades, history),
-        Err(unread) => answer_without(Which::Orders, unread),
+        Err(unread) => Err(NoRecords::at(Which::Orders, unread)),
     }
 }
 
@@ -162,14 +149,14 @@ pub fn read_both<F: Shelf>(
     scope: &Scope,
     orders: &Source<'_>,
     trades: &Source<'_>,
-) -> Result<BeforeRule, Stop>
+) -> Result<BeforeRule, NoRecords>
     requires limit { HaveOneLimit orders.now trades.now }
     ensures logs { KeepsShelfLogs F.Shelf shelf.old shelf.new }
     ensures later { FaultsNeverFall (reading_by orders.now F.Shelf shelf.old shelf.new) }
-    ensures decides { GivesBeforeRuleOrStop (reading_by orders.now F.Shelf shelf.old shelf.new)
-        scope.now orders.now trades.now result }
+    ensures decides { GivesOfRecords (IsBeforeRule scope.now)
+        (reading_by orders.now F.Shelf shelf.old shelf.new) orders.now trades.now result }
     ensures judgeable { IfOk result IsJudgeable }
-    ensures within { StaysWithin (reading_by orders.now F.Shelf shelf.old shelf.new) result }
+    ensures within { ReadsWithin (reading_by orders.now F.Shelf shelf.old shelf.new) result }
 {
     read_about::<Brand, F>(alloc, shelf, scope, orders, trades)
 }

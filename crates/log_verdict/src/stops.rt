@@ -1,5 +1,9 @@
-//! Why nothing is known of two logs.
-use audit_base::faults::NoMemory;
+//! Why nothing is known of two logs, and why they were not read into records.
+ghost use Rattle.std.specs.Prelude.{◌≡◌};
+ghost use Rattle.log_verdict.specs.BothLogs.{no_records};
+
+use crate::reading::Unread;
+use audit_base::faults::{BadPlace, NoMemory};
 use audit_base::terms::Which;
 
 /// Why nothing is known of two logs: no verdict, and no report.
@@ -20,5 +24,28 @@ impl From<NoMemory> for Stop {
 
     fn from(_fault: NoMemory) -> Stop {
         Stop::Memory
+    }
+}
+
+/// Why two logs were not read into records.
+#[derive(Clone, Copy, Debug, PartialEq, Eq)]
+pub enum NoRecords {
+    /// A log is not in its grammar, and this is its first bad place.
+    Malformed { log: Which, bad: BadPlace },
+    /// Nothing is known of the logs.
+    Stopped(Stop),
+}
+
+impl NoRecords {
+    /// Why two logs were not read into records, where this one was not.
+    pub fn at(log: Which, unread: Unread) -> NoRecords
+        ensures { result ≡ no_records log unread }
+    {
+        match unread {
+            Unread::Bad(bad) => NoRecords::Malformed { log, bad },
+            Unread::ReadFault => NoRecords::Stopped(Stop::ReadFault(log)),
+            Unread::TooLong => NoRecords::Stopped(Stop::TooLong(log)),
+            Unread::Memory => NoRecords::Stopped(Stop::Memory),
+        }
     }
 }

@@ -1,6 +1,6 @@
--- What two logs give before the rule is looked at: their first bad place, their first finding
--- there, or sound trades.
-use Rattle.std.specs.Prelude.{◌≡◌, ◌<◌, ◌≤◌, ◌-◌, ◌^◌, Bool, true, false, List, Option, None, Some, Result, length}
+-- What the records of two logs give before the rule is looked at: their first finding there, or
+-- sound trades.
+use Rattle.std.specs.Prelude.{◌≡◌, ◌<◌, ◌≤◌, ◌-◌, ◌^◌, List, Option, None, Some, Result, length}
 use Rattle.audit_base.specs.declared.findings.Finding.{Finding}
 use Rattle.audit_base.specs.declared.records.OrderRecord.{OrderRecord}
 use Rattle.audit_base.specs.declared.records.TradeRecord.{TradeRecord}
@@ -27,17 +27,10 @@ pub record IsResolvedWithoutFinding (scope : Scope) (entries : List OrderRecord)
 -- what records give before the rule is looked at: the first finding there, or sound trades
 abbrev pub IsBeforeRule : Scope → List OrderRecord → Result (List TradeRecord) Finding
     → BeforeRule → Type 0
-IsBeforeRule scope entries paired (before_rule.Malformed log bad) = ⊥
 IsBeforeRule scope entries paired (before_rule.Found finding) =
     finding_before_rule_in_scope scope entries paired ≡ Some finding
 IsBeforeRule scope entries paired (before_rule.Sound resolved) =
     IsResolvedWithoutFinding scope entries paired resolved
-
--- a log is not in its grammar
-abbrev pub is_malformed : BeforeRule → Bool
-is_malformed (before_rule.Malformed log bad) = true
-is_malformed (before_rule.Found finding) = false
-is_malformed (before_rule.Sound resolved) = false
 
 -- what trades give that have been gathered: their first finding, or that they are sound
 abbrev pub finding_or_sound : ResolvedTrades → Option Finding → BeforeRule
@@ -52,9 +45,8 @@ pub record AreResolvedTradesInRange (resolved : ResolvedTrades) : Type 0 where
   pub deal_list : IsDealList resolved.history resolved.deals.items
   pub numbers : DealsInRange resolved.deals.items
 
--- what can be judged by a rule: where the trades are sound, they are within their ranges; a fault
--- or a finding always can
+-- what can be judged by a rule: where the trades are sound, they are within their ranges; a
+-- finding always can
 abbrev pub IsJudgeable : BeforeRule → Type 0
-IsJudgeable (before_rule.Malformed log bad) = Unit {0}
 IsJudgeable (before_rule.Found finding) = Unit {0}
 IsJudgeable (before_rule.Sound resolved) = AreResolvedTradesInRange resolved

@@ -10,15 +10,15 @@ use Rattle.audit_base.specs.Histories.{order_list}
 use Rattle.audit_base.specs.Least.{first_answer}
 use Rattle.audit_base.specs.Trades.{deals_of_symbol, trades_finding}
 use Rattle.audit_base.specs.Verdicts.{IsRecordFinding, IsRuleFinding, instant_finding_of_rule, pairing_finding, paired_trades}
-use Rattle.audit_base.specs.declared.faults.BadPlace.{BadPlace}
-use Rattle.audit_base.specs.declared.terms.Which.{Which}
 use Rattle.audit_report.specs.declared.verdicts.Verdict.{Verdict}
-use Rattle.audit_report.specs.declared.verdicts.Verdict.TheVariants as verdict
 use Rattle.matching_core.specs.declared.deals_draft.ResolvedTrades.{ResolvedTrades}
 use Rattle.record_verdict.specs.declared.before_rule.BeforeRule.{BeforeRule}
 use Rattle.record_verdict.specs.declared.before_rule.BeforeRule.TheVariants as before_rule
 use Rattle.record_verdict.specs.declared.questions.Question.{Question}
 use Rattle.record_verdict.specs.BeforeRule.{IsBeforeRule}
+use Rattle.record_verdict.specs.declared.verdicts.Judged.{Judged}
+use Rattle.record_verdict.specs.declared.verdicts.Judged.TheVariants as judged
+use Rattle.record_verdict.specs.Judged.{as_verdict}
 use Rattle.record_verdict.specs.Scopes.{scope_of}
 use Rattle.record_verdict.specs.RecordVerdicts.{IsRecordVerdict, IsOutcomeByFinding}
 
@@ -67,16 +67,14 @@ pub record VerdictFollowsDeals (q : Question) (orders : List Order) (deals : Lis
   pub by_the_rule : IsRuleFinding q.rule orders deals count found
   pub outcome : IsOutcomeByFinding q orders deals found the_verdict
 
--- The verdict on what two logs give before the rule is looked at: their first bad place, the
--- finding, or that of the rule on sound trades; and so it is that on whatever records give this.
-pub record IsVerdictAfterStages (q : Question) (given : BeforeRule) (the_verdict : Verdict)
+-- The verdict on what records give before the rule is looked at: the finding, or that of the rule
+-- on sound trades; and so it is that on whatever records give this.
+pub record IsVerdictAfterStages (q : Question) (given : BeforeRule) (the_judged : Judged)
     : Type 0 where
-  pub of_place : (log : Which) (bad : BadPlace) → given ≡ before_rule.Malformed log bad
-      → the_verdict ≡ verdict.Malformed log bad
   pub of_finding : (finding : Finding) → given ≡ before_rule.Found finding
-      → the_verdict ≡ verdict.Rejected finding
+      → the_judged ≡ judged.Rejected finding
   pub of_deals : (sound : ResolvedTrades) → given ≡ before_rule.Sound sound
-      → VerdictFollowsDeals q sound.history sound.deals.items sound.count the_verdict
+      → VerdictFollowsDeals q sound.history sound.deals.items sound.count (as_verdict the_judged)
   pub of_records : (entries : List OrderRecord) (paired : Result (List TradeRecord) Finding)
       → IsBeforeRule (scope_of q) entries paired given
-      → IsRecordVerdict q entries paired the_verdict
+      → IsRecordVerdict q entries paired (as_verdict the_judged)

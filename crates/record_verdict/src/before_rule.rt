@@ -1,19 +1,15 @@
-//! What two logs give before the rule is looked at. Every command that judges two logs reads them
-//! to here, and goes its own way from here on.
+//! What the records of two logs give before the rule is looked at. Every command that judges two
+//! logs reads them to here, and goes its own way from here on.
 ghost use Rattle.std.specs.Prelude.{◌≡◌, ◌<◌, ◌≤◌, ◌-◌, ◌^◌, None, length};
 ghost use Rattle.audit_base.specs.Deals.{DealsInRange, IsDealList};
-ghost use Rattle.record_verdict.specs.BeforeRule.{finding_or_sound, is_malformed, IsJudgeable};
+ghost use Rattle.record_verdict.specs.BeforeRule.{finding_or_sound, IsJudgeable};
 
-use audit_base::faults::BadPlace;
 use audit_base::findings::Finding;
-use audit_base::terms::Which;
 use matching_core::deals_draft::ResolvedTrades;
 
-/// What two logs give before the rule is looked at.
+/// What the records of two logs give before the rule is looked at.
 #[derive(Drop)]
 pub enum BeforeRule {
-    /// A log is not in its grammar, and this is its first bad place.
-    Malformed { log: Which, bad: BadPlace },
     /// The history or its trades have a finding, and this is the first.
     Found(Finding),
     /// The trades are sound: the orders of the history, and the deals between them.
@@ -37,12 +33,5 @@ impl BeforeRule {
             Some(finding) => BeforeRule::Found(finding),
             None => BeforeRule::Sound(resolved),
         }
-    }
-
-    /// Whether a log is not in its grammar.
-    pub fn is_malformed(&self) -> bool
-        ensures { result ≡ is_malformed self.now }
-    {
-        matches!(self, BeforeRule::Malformed { .. })
     }
 }

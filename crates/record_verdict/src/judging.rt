@@ -6,12 +6,14 @@ ghost use Rattle.audit_base.specs.Verdicts as spec;
 ghost use Rattle.audit_base.specs.Verdicts.{paired_trades};
 ghost use Rattle.audit_report.specs.Texts.{IsVerdictInRange};
 ghost use Rattle.fix_messages.specs.Pairings.{result_of_paired};
+ghost use Rattle.record_verdict.specs.Judged.{as_verdict, IsJudgedInRange};
 ghost use Rattle.record_verdict.specs.RecordVerdicts.{question, IsRecordVerdict};
 ghost use Rattle.record_verdict.specs.Stages.{VerdictFollowsRecords, VerdictFollowsHistory, VerdictFollowsTrades};
 
 use crate::questions::Question;
 use crate::rules::judge_deals;
 use crate::scopes::Admission;
+use crate::verdicts::Judged;
 use audit_base::faults::NoMemory;
 use audit_base::findings::Finding;
 use audit_base::names::Name;
@@ -51,9 +53,10 @@ fn judge_trades(
     question: &Question,
     history: &History,
     trades: &[TradeRecord],
-) -> Result<Verdict, NoMemory>
+) -> Result<Judged, NoMemory>
     requires fits_places { length trades.now < 2 ^ 32 - 1 }
-    ensures { IfOk result (VerdictFollowsTrades question.now history.now trades.now) }
+    ensures { IfOk result (λ judged.
+        VerdictFollowsTrades question.now history.now trades.now (as_verdict judged)) }
 {
     match resolve(alloc, history, trades, &question.symbol) {
         Ok(deals) => judge_deals(
@@ -63,7 +66,7 @@ fn judge_trades(
             &deals,
             trades.len() as u32,
         ),
-        Err(CheckFault::Found(finding)) => Ok(Verdict::Rejected(finding)),
+        Err(CheckFault::Found(finding)) => Ok(Judged::Rejected(finding)),
         Err(CheckFault::Memory) => Err(NoMemory),
     }
 }
@@ -74,17 +77,17 @@ fn judge_history(
     question: &Question,
     history: &History,
     trades: &Paired,
-) -> Result<Verdict, NoMemory>
+) -> Result<Judged, NoMemory>
     requires fits_places { length (paired_trades (result_of_paired trades.now)) < 2 ^ 32 - 1 }
-    ensures { IfOk result
-        (VerdictFollowsHistory question.now history.now (result_of_paired trades.now)) }
+    ensures { let paired = result_of_paired trades.now in IfOk result (λ judged.
+        VerdictFollowsHistory question.now history.now paired (as_verdict judged)) }
 {
     if let Some(finding) = instant_finding_of_rule(question.rule, &history.orders()) {
-        return Ok(Verdict::Rejected(finding));
+        return Ok(Judged::Rejected(finding));
     }
     match trades {
         Paired::Trades(list) => judge_trades(alloc, question, history, list.as_slice()),
-        Paired::Alone(finding) => Ok(Verdict::Rejected(*finding)),
+        Paired::Alone(finding) => Ok(Judged::Rejected(*finding)),
     }
 }
 
@@ -94,16 +97,16 @@ fn judge_records(
     question: &Question,
     entries: &[OrderRecord],
     trades: &Paired,
-) -> Result<Verdict, NoMemory>
+) -> Result<Judged, NoMemory>
     requires entries_fit_places { length entries.now < 2 ^ 32 - 1 }
     requires trades_fit_places { length (paired_trades (result_of_paired trades.now)) < 2 ^ 32 - 1 }
-    ensures judged { IfOk result
-        (VerdictFollowsRecords question.now entries.now (result_of_paired trades.now)) }
-    ensures in_range { IfOk result IsVerdictInRange }
+    ensures judged { let paired = result_of_paired trades.now in IfOk result (λ judged.
+        VerdictFollowsRecords question.now entries.now paired (as_verdict judged)) }
+    ensures in_range { IfOk result IsJudgedInRange }
 {
     match History::build(alloc, entries, &question.symbol) {
         Ok(history) => judge_history(alloc, question, &history, trades),
-        Err(HistoryFault::Found(finding)) => Ok(Verdict::Rejected(finding)),
+        Err(HistoryFault::Found(finding)) => Ok(Judged::Rejected(finding)),
         Err(HistoryFault::Memory) => Err(NoMemory),
     }
 }
@@ -137,5 +140,6 @@ pub fn judge(
         symbol: *symbol,
         table,
     };
-    judge_records(alloc, &question, entries, trades)
+    let judged = judge_records(alloc, &question, entries, trades)?;
+    Ok(judged.into_verdict())
 }

@@ -7,15 +7,17 @@ ghost use Rattle.audit_base.specs.Histories.{Regular};
 ghost use Rattle.audit_base.specs.Orders.{IsOrderList};
 ghost use Rattle.audit_base.specs.Deals.{AreTotals, IsDealList};
 ghost use Rattle.call_audit.specs.Audits.{IsCallOutcome};
+ghost use Rattle.record_verdict.specs.Judged.{as_verdict};
 ghost use Rattle.record_verdict.specs.Stages.{VerdictFollowsDeals};
 ghost use Rattle.record_verdict.specs.Tables.{accepted_verdict, conforming_outcome, IsCallOutcomeForAnyCount, IsOutcomeOfFault, IsRuleOutcome};
 
 use crate::questions::Question;
 use crate::tables::table_of;
+use crate::verdicts::Judged;
 use audit_base::faults::NoMemory;
 use audit_base::orders::Deal;
 use audit_base::terms::{CallRule, Rule, VolumeRule};
-use audit_report::verdicts::{Accepted, Verdict};
+use audit_report::verdicts::Accepted;
 use call_audit::fair_matchings::fair_matching;
 use continuous_audit::auditing::audit_continuous;
 use matching_core::checking::check_matching;
@@ -139,15 +141,15 @@ fn accept(
     orders: &OrderList<'_>,
     deals: &[Deal],
     conforming: &Reached,
-) -> Result<Verdict, NoMemory>
+) -> Result<Judged, NoMemory>
     requires order_list { IsOrderList orders.now }
     requires deal_list { IsDealList orders.now deals.now }
     requires totals { AreTotals orders.now deals.now conforming.now.traded.0 }
-    ensures { IfOk result (λ verdict. verdict
+    ensures { IfOk result (λ judged. as_verdict judged
         ≡ accepted_verdict question.now orders.now deals.now conforming.now) }
 {
     let table = table_of(alloc, question, orders, deals, conforming.traded.as_slice())?;
-    Ok(Verdict::Accepted(Accepted {
+    Ok(Judged::Accepted(Accepted {
         rule: question.rule,
         symbol: question.symbol,
         orders: orders.len() as u32,
@@ -166,16 +168,17 @@ pub fn judge_deals(
     orders: &OrderList<'_>,
     deals: &[Deal],
     count: u32,
-) -> Result<Verdict, NoMemory>
+) -> Result<Judged, NoMemory>
     requires regular { Regular orders.now }
     requires order_list { IsOrderList orders.now }
     requires deal_list { IsDealList orders.now deals.now }
     requires fits_places { count < 2 ^ 32 - 1 }
-    ensures { IfOk result (VerdictFollowsDeals question.now orders.now deals.now count) }
+    ensures { IfOk result (λ judged.
+        VerdictFollowsDeals question.now orders.now deals.now count (as_verdict judged)) }
 {
     let outcome = audit(alloc, question.rule, orders, deals, count)?;
     match outcome {
         Outcome::Conforms(conforming) => accept(alloc, question, orders, deals, &conforming),
-        Outcome::Broken(finding) => Ok(Verdict::Rejected(finding)),
+        Outcome::Broken(finding) => Ok(Judged::Rejected(finding)),
     }
 }

@@ -3,7 +3,7 @@ ghost use Rattle.std.specs.Prelude.{◌≡◌, IfOk};
 ghost use Rattle.audit_base.specs.Deals.{DealsInRange};
 ghost use Rattle.audit_base.specs.Histories.{Regular};
 ghost use Rattle.audit_base.specs.Orders.{IsOrderList};
-ghost use Rattle.audit_report.specs.Texts.{IsVerdictInRange};
+ghost use Rattle.audit_report.specs.declared.verdicts.Verdict.TheVariants as verdict;
 ghost use Rattle.record_verdict.specs.BeforeRule.{AreResolvedTradesInRange, IsJudgeable};
 ghost use Rattle.session_audit.specs.Days.{ConformsDay};
 ghost use Rattle.session_audit.specs.Phases.{ArePhases};
@@ -16,6 +16,7 @@ use crate::laws::day_uniqueness;
 use crate::phases::Phase;
 use crate::texts::session_text;
 use audit_base::faults::NoMemory;
+use audit_base::findings::Finding;
 use audit_base::names::Name;
 use audit_base::orders::Deal;
 use audit_report::reports::report_text;
@@ -57,12 +58,11 @@ fn only_of_day(orders: &OrderList<'_>, phases: &[Phase], deals: &[Deal])
     day_uniqueness();
 }
 
-/// The session that does not conform, with the text of this verdict.
-fn rejected_session(alloc: Global, verdict: &Verdict) -> Result<Session, NoMemory>
-    requires { IsVerdictInRange verdict.now }
-    ensures { IfOk result (IsSessionOfKind (IsRejectedSession verdict.now)) }
+/// The session that does not conform, with the text of this finding.
+fn rejected_session(alloc: Global, finding: Finding) -> Result<Session, NoMemory>
+    ensures { IfOk result (IsSessionOfKind (IsRejectedSession (verdict.Rejected finding))) }
 {
-    let text = report_text(alloc, verdict)?;
+    let text = report_text(alloc, &Verdict::Rejected(finding))?;
     Ok(Session {
         conforms: false,
         text,
@@ -94,14 +94,13 @@ fn session_of_deals(
                 text,
             })
         }
-        Day::Broken(finding) => rejected_session(alloc, &Verdict::Rejected(finding)),
+        Day::Broken(finding) => rejected_session(alloc, finding),
     }
 }
 
 /// The session of a symbol whose records give this before the phases: their finding there, or
 /// else what the phases say of the sound trades. `table` asks for a line of each order in the
-/// text of a session that conforms. A log that is not in its grammar has no records, so its
-/// session says nothing: the caller answers it.
+/// text of a session that conforms.
 pub fn session_after(
     alloc: Global,
     symbol: &Name,
@@ -114,11 +113,7 @@ pub fn session_after(
     ensures { IfOk result (IsSessionAfter symbol.now phases.now table given.now) }
 {
     match given {
-        BeforeRule::Malformed { log, bad } => {
-            let (log, bad) = (*log, *bad);
-            rejected_session(alloc, &Verdict::Malformed { log, bad })
-        }
-        BeforeRule::Found(finding) => rejected_session(alloc, &Verdict::Rejected(*finding)),
+        BeforeRule::Found(finding) => rejected_session(alloc, *finding),
         BeforeRule::Sound(resolved) => session_of_deals(alloc, symbol, phases, table, resolved),
     }
 }

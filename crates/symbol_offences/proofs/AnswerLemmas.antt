@@ -6,7 +6,6 @@ use Rattle.std.proofs.lemmas.Option.{none-some, same_Some}
 use Rattle.std.proofs.lemmas.Result.{IfOk-weaker}
 use Rattle.audit_base.specs.Moments.{Moment}
 use Rattle.audit_base.specs.declared.faults.NoMemory.{NoMemory}
-use Rattle.audit_base.specs.declared.faults.BadPlace.{BadPlace}
 use Rattle.audit_base.specs.declared.findings.Finding.{Finding}
 use Rattle.audit_base.specs.declared.orders.Deal.{Deal}
 use Rattle.audit_base.specs.declared.orders.Order.{Order}
@@ -14,7 +13,6 @@ use Rattle.audit_base.specs.declared.records.OrderRecord.{OrderRecord}
 use Rattle.audit_base.specs.declared.records.TradeRecord.{TradeRecord}
 use Rattle.audit_base.specs.declared.terms.Rule.{Rule}
 use Rattle.audit_base.specs.declared.terms.Rule.TheVariants as rule
-use Rattle.audit_base.specs.declared.terms.Which.{Which}
 use Rattle.audit_base.specs.Histories.{history_finding, order_list}
 use Rattle.audit_base.specs.Least.{first_answer}
 use Rattle.audit_base.specs.Trades.{deals_of_symbol, trades_finding}
@@ -22,7 +20,6 @@ use Rattle.audit_base.specs.Verdicts.{finding_before_rule, instant_finding_of_ru
 use Rattle.audit_report.specs.declared.statuses.Status.{Status}
 use Rattle.audit_report.specs.declared.statuses.Status.TheVariants as status
 use Rattle.audit_report.specs.declared.verdicts.Accepted.{Accepted}
-use Rattle.audit_report.specs.declared.verdicts.Verdict.{Verdict}
 use Rattle.audit_report.specs.declared.verdicts.Verdict.TheVariants as verdict
 use Rattle.command_run.specs.declared.answers.Answer.{Answer}
 use Rattle.command_run.specs.Deciding.{IsAnswerOfKind}
@@ -34,8 +31,11 @@ use Rattle.further_checks.specs.FurtherTexts.{further_text}
 use Rattle.matching_core.specs.declared.deals_draft.ResolvedTrades.{ResolvedTrades}
 use Rattle.record_verdict.specs.declared.before_rule.BeforeRule.{BeforeRule}
 use Rattle.record_verdict.specs.declared.before_rule.BeforeRule.TheVariants as before_rule
+use Rattle.record_verdict.specs.declared.verdicts.Judged.{Judged}
+use Rattle.record_verdict.specs.declared.verdicts.Judged.TheVariants as judged
+use Rattle.record_verdict.specs.Judged.{as_verdict}
 use Rattle.record_verdict.specs.BeforeRule.{IsBeforeRule, IsResolvedWithoutFinding}
-use Rattle.record_verdict.specs.RecordVerdicts.{IsOutcomeByFinding, IsRecordVerdict}
+use Rattle.record_verdict.specs.RecordVerdicts.{IsRecordVerdict}
 use Rattle.record_verdict.specs.Scopes.{admission_of, finding_before_rule_in_scope, scope_of, unadmitted_order_finding}
 use Rattle.record_verdict.specs.Stages.{IsVerdictAfterStages}
 use Rattle.symbol_offences.specs.declared.questions.OffenceQuestion.{OffenceQuestion}
@@ -116,14 +116,14 @@ by-presence : (absent b : Bool) → absent ≡ b → (q : OffenceQuestion) (entr
 by-presence absent b same q entries paired the_status text is = subst (λ (x : Bool). IsAnswerByPresence x q entries paired the_status text) (sym same) is
 
 -- a finding before the rule
-pub found-answer : (q : OffenceQuestion) (entries : List OrderRecord) (paired : Result (List TradeRecord) Finding) (logs : SymbolLogs) (finding : Finding) (v : Verdict) (the_status : Status) (text : List ℕ)
-    → IsSymbolLogs (scope_of (audit_question q)) (keeping_for q) entries paired logs → logs.given ≡ before_rule.Found finding → v ≡ verdict.Rejected finding → IsRecordVerdict (audit_question q) entries paired v
+pub found-answer : (q : OffenceQuestion) (entries : List OrderRecord) (paired : Result (List TradeRecord) Finding) (logs : SymbolLogs) (finding : Finding) (v : Judged) (the_status : Status) (text : List ℕ)
+    → IsSymbolLogs (scope_of (audit_question q)) (keeping_for q) entries paired logs → logs.given ≡ before_rule.Found finding → v ≡ judged.Rejected finding → IsRecordVerdict (audit_question q) entries paired (as_verdict v)
     → IsAnswerToRejected logs.quoted [] finding (finding ∷ []) the_status text → IsOffencesOfRecords q entries paired the_status text
 found-answer q entries paired logs finding v the_status text is given rejected has told =
     by-presence (is_absent q.symbol entries paired) false (found-present (scope_of (audit_question q)) entries paired finding in_scope) q entries paired the_status text
     (record {
       the_verdict = verdict.Rejected finding;
-      is = subst (λ (w : Verdict). IsRecordVerdict (audit_question q) entries paired w) rejected has;
+      is = subst (λ (w : Judged). IsRecordVerdict (audit_question q) entries paired (as_verdict w)) rejected has;
       answer = rw found (subst (λ (r : QuotedRecords). IsAnswerToRejected r [] finding (finding ∷ []) the_status text) is.quoted told);
     })
   where
@@ -132,14 +132,6 @@ found-answer q entries paired logs finding v the_status text is given rejected h
 
     found : finding_before_rule q.rule q.symbol entries paired ≡ Some finding
     found = sym (same-before q entries paired) ∙ in_scope
-
--- the records of two logs have no verdict that a log is malformed
-malformed-apart : (q : OffenceQuestion) (entries : List OrderRecord) (paired : Result (List TradeRecord) Finding) (log : Which) (bad : BadPlace) → IsRecordVerdict (audit_question q) entries paired (verdict.Malformed log bad) → ⊥
-malformed-apart q entries paired log bad is = by-found is.found is.outcome
-  where
-    by-found : (found : Option Finding) → IsOutcomeByFinding (audit_question q) (order_list q.symbol entries) (deals_of_symbol (order_list q.symbol entries) q.symbol (paired_trades paired)) found (verdict.Malformed log bad) → ⊥
-    by-found None outcome = outcome
-    by-found (Some finding) outcome = cc
 
 -- sound trades
 module _ (q : OffenceQuestion) (entries : List OrderRecord) (paired : Result (List TradeRecord) Finding) (the_status : Status) (text : List ℕ) (clean : finding_before_rule q.rule q.symbol entries paired ≡ None) where
@@ -152,25 +144,24 @@ module _ (q : OffenceQuestion) (entries : List OrderRecord) (paired : Result (Li
   quoted : QuotedRecords
   quoted = quoted_records q.records q.symbol entries paired
 
-  by-deals : (v : Verdict) → IsRecordVerdict (audit_question q) entries paired v
+  by-deals : (v : Judged) → IsRecordVerdict (audit_question q) entries paired (as_verdict v)
       → IsAnswerByDeals q (order_list q.symbol entries) (deals_of_symbol (order_list q.symbol entries) q.symbol (paired_trades paired))
       (kept_if (asks_further q.checks) (times_of_symbol q.symbol (paired_trades paired))) (quoted_records q.records q.symbol entries paired) v the_status text
-      → IsAnswerByVerdict q entries paired v the_status text
-  by-deals (verdict.Accepted accepted) has told =
+      → IsAnswerByVerdict q entries paired (as_verdict v) the_status text
+  by-deals (judged.Accepted accepted) has told =
       subst (λ (found : List FurtherFinding). IsAnswerToAccepted (quoted_records q.records q.symbol entries paired) accepted found the_status text)
       (kept-times q.checks (order_list q.symbol entries) (deals_of_symbol (order_list q.symbol entries) q.symbol (paired_trades paired)) (times_of_symbol q.symbol (paired_trades paired))) told
-  by-deals (verdict.Rejected first) has told = rw clean told
-  by-deals (verdict.Malformed log bad) has told = absurd (malformed-apart q entries paired log bad has)
+  by-deals (judged.Rejected first) has told = rw clean told
 
-  by-some : (b : Bool) (v : Verdict) → IsRecordVerdict (audit_question q) entries paired v
+  by-some : (b : Bool) (v : Judged) → IsRecordVerdict (audit_question q) entries paired (as_verdict v)
       → IsAnswerBySome b q (order_list q.symbol entries) (deals_of_symbol (order_list q.symbol entries) q.symbol (paired_trades paired))
       (kept_if (asks_further q.checks) (times_of_symbol q.symbol (paired_trades paired))) (quoted_records q.records q.symbol entries paired) v the_status text
       → IsAnswerByPresence b q entries paired the_status text
   by-some true v has told = told
-  by-some false v has told = record { the_verdict = v; is = has; answer = by-deals v has told }
+  by-some false v has told = record { the_verdict = as_verdict v; is = has; answer = by-deals v has told }
 
-pub sound-answer : (q : OffenceQuestion) (entries : List OrderRecord) (paired : Result (List TradeRecord) Finding) (logs : SymbolLogs) (sound : ResolvedTrades) (v : Verdict) (the_status : Status) (text : List ℕ)
-    → IsSymbolLogs (scope_of (audit_question q)) (keeping_for q) entries paired logs → logs.given ≡ before_rule.Sound sound → IsRecordVerdict (audit_question q) entries paired v
+pub sound-answer : (q : OffenceQuestion) (entries : List OrderRecord) (paired : Result (List TradeRecord) Finding) (logs : SymbolLogs) (sound : ResolvedTrades) (v : Judged) (the_status : Status) (text : List ℕ)
+    → IsSymbolLogs (scope_of (audit_question q)) (keeping_for q) entries paired logs → logs.given ≡ before_rule.Sound sound → IsRecordVerdict (audit_question q) entries paired (as_verdict v)
     → IsAnswerBySome (are_none sound.history sound.deals.items) q sound.history sound.deals.items logs.times.items logs.quoted v the_status text
     → IsOffencesOfRecords q entries paired the_status text
 sound-answer q entries paired logs sound v the_status text is given has told =
@@ -196,35 +187,15 @@ sound-answer q entries paired logs sound v the_status text is given has told =
         (subst (λ (ds : List Deal). IsAnswerBySome (are_none orders ds) q orders ds logs.times.items logs.quoted v the_status text) resolved.deals
         (subst (λ (os : List Order). IsAnswerBySome (are_none os sound.deals.items) q os sound.deals.items logs.times.items logs.quoted v the_status text) resolved.orders told)))
 
--- The answer to what two logs give.
-
-found-apart : (finding : Finding) (log : Which) (bad : BadPlace) (given : BeforeRule) → given ≡ before_rule.Found finding → given ≡ before_rule.Malformed log bad → ⊥
-found-apart finding log bad given is other = cc (is, other)
-
-sound-apart : (sound : ResolvedTrades) (log : Which) (bad : BadPlace) (given : BeforeRule) → given ≡ before_rule.Sound sound → given ≡ before_rule.Malformed log bad → ⊥
-sound-apart sound log bad given is other = cc (is, other)
-
-module _ (q : OffenceQuestion) (logs : SymbolLogs) (v : Verdict) (answer : Answer) (stages : IsVerdictAfterStages (audit_question q) logs.given v) where
-  -- a bad place
-  pub malformed-told : (log : Which) (bad : BadPlace) → logs.given ≡ before_rule.Malformed log bad → IsAnswerOfKind (IsVerdictAnswer v) answer → IsAnswerToLogs q logs answer
-  malformed-told log bad given told = record {
-    of_place = λ l b e. subst (λ (w : Verdict). IsAnswerOfKind (IsVerdictAnswer w) answer) (stages.of_place l b e) told;
-    of_records = λ entries paired is. absurd (subst (λ (b : BeforeRule). IsBeforeRule (scope_of (audit_question q)) entries paired b) given is.before);
-  }
-
+-- The answer to what the records of two logs give.
+module _ (q : OffenceQuestion) (logs : SymbolLogs) (v : Judged) (answer : Answer) (stages : IsVerdictAfterStages (audit_question q) logs.given v) where
   -- a finding before the rule
   pub found-told : (finding : Finding) → logs.given ≡ before_rule.Found finding → IsAnswerOfKind (IsAnswerToRejected logs.quoted [] finding (finding ∷ [])) answer → IsAnswerToLogs q logs answer
-  found-told finding given told = record {
-    of_place = λ l b e. absurd (found-apart finding l b logs.given given e);
-    of_records = λ entries paired is.
-        found-answer q entries paired logs finding v answer.status answer.text.items is given (stages.of_finding finding given) (stages.of_records entries paired is.before) told;
-  }
+  found-told finding given told entries paired is =
+      found-answer q entries paired logs finding v answer.status answer.text.items is given (stages.of_finding finding given) (stages.of_records entries paired is.before) told
 
   -- sound trades
   pub sound-told : (sound : ResolvedTrades) → logs.given ≡ before_rule.Sound sound
       → IsAnswerOfKind (IsAnswerBySome (are_none sound.history sound.deals.items) q sound.history sound.deals.items logs.times.items logs.quoted v) answer → IsAnswerToLogs q logs answer
-  sound-told sound given told = record {
-    of_place = λ l b e. absurd (sound-apart sound l b logs.given given e);
-    of_records = λ entries paired is.
-        sound-answer q entries paired logs sound v answer.status answer.text.items is given (stages.of_records entries paired is.before) told;
-  }
+  sound-told sound given told entries paired is =
+      sound-answer q entries paired logs sound v answer.status answer.text.items is given (stages.of_records entries paired is.before) told

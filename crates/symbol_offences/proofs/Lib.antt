@@ -1,4 +1,3 @@
-mod JoinLemmas
 mod KeptLemmas
 mod TakenLemmas
 mod ReadLemmas

@@ -1,12 +1,12 @@
 -- The two logs of a symbol that were read, and what they give.
-use Rattle.std.proofs.Common.{◌≡◌, ◌∙◌, refl, sym, ap, subst, arith, ℕ, Bool, true, List, [], Some, None, Result, Ok, Err, length}
+use Rattle.std.proofs.Common.{◌≡◌, ◌∙◌, refl, sym, ap, subst, ℕ, Bool, true, List, [], Some, None, Result, Ok, Err, length}
 use Rattle.std.specs.Prelude.{unwrap_or}
 use Rattle.std.proofs.lemmas.List.{length-map}
 use Rattle.audit_base.specs.declared.findings.Finding.{Finding}
 use Rattle.audit_base.specs.declared.orders.Order.{Order}
 use Rattle.audit_base.specs.declared.records.OrderRecord.{OrderRecord}
 use Rattle.audit_base.specs.declared.records.TradeRecord.{TradeRecord}
-use Rattle.audit_base.specs.declared.terms.Which.TheVariants.{Orders, Trades}
+use Rattle.audit_base.specs.declared.terms.Which.TheVariants.{Trades}
 use Rattle.audit_base.specs.Histories.{order_list}
 use Rattle.audit_base.specs.Trades.{deal_of_trade, deals_of_symbol, trades_of_symbol}
 use Rattle.audit_base.specs.Verdicts.{paired_trades}
@@ -16,13 +16,11 @@ use Rattle.day_records.specs.SymbolTrades.{IsSymbolTrades}
 use Rattle.further_checks.specs.FurtherRules.{times_of_symbol}
 use Rattle.day_records.specs.KeptOrders.{KeptEntries}
 use Rattle.day_records.specs.KeptTrades.{KeptDeals}
-use Rattle.log_verdict.specs.declared.reading.Unread.{Unread}
-use Rattle.log_verdict.specs.declared.reading.Unread.TheVariants as unread
 use Rattle.log_verdict.specs.declared.sources.Source.{Source}
-use Rattle.log_verdict.specs.declared.stops.Stop.{Stop}
-use Rattle.log_verdict.specs.Collecting.{HasLogTrades, IsUnread}
-use Rattle.log_verdict.specs.LogVerdicts.{records_of_order_log, trades_of_trade_log}
-use Rattle.log_verdict.specs.Steps.{Reading, IsReadAs, IsUntouched}
+use Rattle.log_verdict.specs.BothLogs.{GivesOfTrades}
+use Rattle.log_verdict.specs.Collecting.{HasLogTrades}
+use Rattle.log_verdict.specs.LogVerdicts.{trades_of_trade_log}
+use Rattle.log_verdict.specs.Steps.{Reading, IsReadAs}
 use Rattle.matching_core.specs.declared.deals_draft.ResolvedTrades.{ResolvedTrades}
 use Rattle.record_verdict.specs.declared.before_rule.BeforeRule.{BeforeRule}
 use Rattle.record_verdict.specs.declared.before_rule.BeforeRule.TheVariants as before_rule
@@ -35,7 +33,6 @@ use Rattle.symbol_offences.specs.declared.symbol_logs.QuotedRecords.{QuotedRecor
 use Rattle.symbol_offences.specs.declared.symbol_logs.SymbolLogs.{SymbolLogs}
 use Rattle.symbol_offences.specs.OrderLog.{IsOrdersOfSymbol}
 use Rattle.symbol_offences.specs.Questions.{kept_if}
-use Rattle.symbol_offences.specs.ReadingLogs.{AnswersUnread, GivesAfterOrdersOrStop, GivesSymbolLogsOrStop}
 use Rattle.symbol_offences.specs.SymbolLogs.{ArePlacesRising, IsReadyToTell, IsSymbolLogs, kept_history, kept_trades, places_of_records}
 use Rattle.symbol_offences.specs.TradeLog.{IsBegunWith, finding_of_orders}
 use Rattle.symbol_offences.proofs.KeptLemmas.{history-rises, trades-rise, no-trades_kept, no-times_kept}
@@ -44,32 +41,14 @@ module _ (r : Reading) (scope : Scope) (keeping : Keeping) (trades : Source) (en
   -- the trades that were handed on
   pub trades-ended : (has_taken : List TradeRecord → Type 0) (logs : SymbolLogs)
       → IsReadAs r Trades trades.name.now (λ bytes. HasLogTrades has_taken (trades_of_trade_log trades.form bytes)) → ((ts : List TradeRecord) → has_taken ts → IsSymbolLogs scope keeping entries (Ok ts) logs)
-      → GivesAfterOrdersOrStop r scope keeping trades entries (Ok logs)
+      → GivesOfTrades (IsSymbolLogs scope keeping entries) r trades (Ok logs)
   trades-ended has_taken logs read ends =
       record { bytes = read.bytes; read = read.read; holds = rw read.holds.says (ends read.holds.trades read.holds.has) }
 
   -- a report without its partner
   pub trades-alone : (finding : Finding) (logs : SymbolLogs) → IsReadAs r Trades trades.name.now (λ bytes. trades_of_trade_log trades.form bytes ≡ Ok (Err finding))
-      → IsSymbolLogs scope keeping entries (Err finding) logs → GivesAfterOrdersOrStop r scope keeping trades entries (Ok logs)
+      → IsSymbolLogs scope keeping entries (Err finding) logs → GivesOfTrades (IsSymbolLogs scope keeping entries) r trades (Ok logs)
   trades-alone finding logs read is = record { bytes = read.bytes; read = read.read; holds = rw read.holds is }
-
-  -- where the trade log was not read into trades, what is answered says why
-  pub trades-unread : (why : Unread) (result : Result SymbolLogs Stop) → AnswersUnread Trades why result → IsUnread (trades_of_trade_log trades.form) r Trades trades.name.now why
-      → GivesAfterOrdersOrStop r scope keeping trades entries result
-  trades-unread (unread.Bad bad) (Ok logs) answers is = record { bytes = is.bytes; read = is.read; holds = rw is.holds answers }
-  trades-unread (unread.Bad bad) (Err why) answers is = absurd answers
-  trades-unread unread.ReadFault result answers is = rw answers (refl, is)
-  trades-unread unread.TooLong result answers is = rw answers (refl, is)
-  trades-unread unread.Memory result answers is = rw answers tt
-
--- the same of the order log, after which the trade log is left alone
-pub orders-unread : (r : Reading) (scope : Scope) (keeping : Keeping) (orders trades : Source) (why : Unread) (result : Result SymbolLogs Stop) → AnswersUnread Orders why result
-    → IsUnread (records_of_order_log orders.form) r Orders orders.name.now why → IsUntouched r Trades → GivesSymbolLogsOrStop r scope keeping orders trades result
-orders-unread r scope keeping orders trades (unread.Bad bad) (Ok logs) answers is same = record { bytes = is.bytes; read = is.read; holds = rw is.holds (answers, same) }
-orders-unread r scope keeping orders trades (unread.Bad bad) (Err why) answers is same = absurd answers
-orders-unread r scope keeping orders trades unread.ReadFault result answers is same = rw answers (record { in_turn = same; fault = is })
-orders-unread r scope keeping orders trades unread.TooLong result answers is same = rw answers (record { in_turn = same; long = is })
-orders-unread r scope keeping orders trades unread.Memory result answers is same = rw answers tt
 
 -- What is found where a report has no partner: the finding about the orders, or else that.
 alone-found : (scope : Scope) (entries : List OrderRecord) (begun : SymbolTrades) (finding : Finding) → IsSymbolTrades scope.admission entries [] scope.symbol begun
@@ -126,18 +105,6 @@ ready-of scope keeping entries paired logs is judgeable = record {
         ap length (is.times ∙ ap (λ (b : Bool). kept_if b (times_of_symbol scope.symbol (paired_trades paired))) keeps)
         ∙ same-count (order_list scope.symbol entries) scope.symbol (paired_trades paired)
         ∙ ap length (sym before.deals)
-
--- where nothing is kept and no trades are sound
-pub ready-without : (keeping : Keeping) (logs : SymbolLogs) → IsJudgeable logs.given → ((sound : ResolvedTrades) → logs.given ≡ before_rule.Sound sound → ⊥) → logs.quoted.orders.entries ≡ [] → logs.quoted.trades.trades ≡ []
-    → IsReadyToTell keeping logs
-ready-without keeping logs judgeable unsound orders trades = record {
-  judgeable = judgeable;
-  in_order = record {
-    orders_rise = subst (λ (l : List (ℕ × OrderRecord)). ArePlacesRising (places_of_records l)) (sym orders) (λ i j d lt below. absurd (omega arith));
-    trades_rise = subst (λ (l : List (ℕ × TradeRecord)). ArePlacesRising (places_of_records l)) (sym trades) (λ i j d lt below. absurd (omega arith));
-  };
-  timed = λ sound given keeps. absurd (unsound sound given);
-}
 
 -- what is known of a symbol after its order log
 pub begun-with : {S : Type 0} (symbol : List ℕ) (keeps : Bool) (scope : Scope) (keeping : Keeping) (orders : OrdersOfSymbol S) (begun : SymbolTrades) (entries : List OrderRecord) → scope.symbol ≡ symbol → keeping.records ≡ keeps

@@ -5,7 +5,6 @@ pub mod Laws
 pub mod OffenceLines
 pub mod Quotes
 pub mod SymbolLogs
-pub mod ReadingLogs
 -- What functions pass on to one another.
 pub mod OrderLog
 pub mod TradeLog

@@ -2,28 +2,25 @@
 use Rattle.std.specs.Prelude.{◌≡◌, ℕ, Bool, true, false, ◌&&◌, List, Result}
 use Rattle.std.specs.List.{flat_map}
 use Rattle.audit_base.specs.Moments.{Moment}
-use Rattle.audit_base.specs.declared.faults.BadPlace.{BadPlace}
 use Rattle.audit_base.specs.declared.findings.Finding.{Finding}
 use Rattle.audit_base.specs.declared.orders.Deal.{Deal}
 use Rattle.audit_base.specs.declared.orders.Order.{Order}
 use Rattle.audit_base.specs.declared.records.OrderRecord.{OrderRecord}
 use Rattle.audit_base.specs.declared.records.TradeRecord.{TradeRecord}
 use Rattle.audit_base.specs.declared.terms.Rule.{Rule}
-use Rattle.audit_base.specs.declared.terms.Which.{Which}
 use Rattle.audit_report.specs.declared.statuses.Status.{Status}
 use Rattle.audit_report.specs.declared.statuses.Status.TheVariants as status
-use Rattle.audit_report.specs.declared.verdicts.Verdict.{Verdict}
-use Rattle.audit_report.specs.declared.verdicts.Verdict.TheVariants as verdict
 use Rattle.call_offences.specs.declared.listing.Listing.{Listing}
 use Rattle.call_offences.specs.Listings.{findings_of_listing}
 use Rattle.command_run.specs.declared.answers.Answer.{Answer}
 use Rattle.command_run.specs.Deciding.{IsAnswerOfKind}
-use Rattle.command_run.specs.VerdictAnswers.{IsAnswerWith, IsVerdictAnswer}
+use Rattle.command_run.specs.VerdictAnswers.{IsAnswerWith}
 use Rattle.further_checks.specs.FurtherRules.{further_findings}
 use Rattle.offence_list.specs.declared.offences.ListedOffence.{ListedOffence}
 use Rattle.offence_list.specs.ListedOffences.{finding_of_offence}
 use Rattle.offence_list.specs.Offences.{offences_of}
-use Rattle.record_verdict.specs.declared.before_rule.BeforeRule.TheVariants as before_rule
+use Rattle.record_verdict.specs.declared.verdicts.Judged.{Judged}
+use Rattle.record_verdict.specs.declared.verdicts.Judged.TheVariants as judged
 use Rattle.record_verdict.specs.Scopes.{scope_of}
 use Rattle.symbol_offences.specs.declared.questions.OffenceQuestion.{OffenceQuestion}
 use Rattle.symbol_offences.specs.declared.symbol_logs.QuotedRecords.{QuotedRecords}
@@ -45,13 +42,11 @@ offences_quoted orders quoted found =
 
 -- the answer by the verdict on these orders and deals
 abbrev pub IsAnswerByDeals : OffenceQuestion → List Order → List Deal → List Moment → QuotedRecords
-    → Verdict → Status → List ℕ → Type 0
-IsAnswerByDeals q orders deals times quoted (verdict.Accepted accepted) =
+    → Judged → Status → List ℕ → Type 0
+IsAnswerByDeals q orders deals times quoted (judged.Accepted accepted) =
     IsAnswerToAccepted quoted accepted (further_findings q.checks orders deals times)
-IsAnswerByDeals q orders deals times quoted (verdict.Rejected first) =
+IsAnswerByDeals q orders deals times quoted (judged.Rejected first) =
     IsAnswerToRejected quoted orders first (offences_of q.rule orders deals first)
-IsAnswerByDeals q orders deals times quoted (verdict.Malformed log bad) =
-    IsVerdictAnswer (verdict.Malformed log bad)
 
 -- there is no order and no deal
 abbrev pub are_none : List Order → List Deal → Bool
@@ -59,18 +54,16 @@ are_none orders deals = has_none orders && has_none deals
 
 -- the answer by whether there is an order or a deal
 abbrev pub IsAnswerBySome : Bool → OffenceQuestion → List Order → List Deal → List Moment
-    → QuotedRecords → Verdict → Status → List ℕ → Type 0
-IsAnswerBySome true q orders deals times quoted the_verdict =
+    → QuotedRecords → Judged → Status → List ℕ → Type 0
+IsAnswerBySome true q orders deals times quoted the_judged =
     IsAnswerWith status.Rejected (absent_line q.symbol)
-IsAnswerBySome false q orders deals times quoted the_verdict =
-    IsAnswerByDeals q orders deals times quoted the_verdict
+IsAnswerBySome false q orders deals times quoted the_judged =
+    IsAnswerByDeals q orders deals times quoted the_judged
 
--- The answer to what two logs give: their first bad place; and of whatever records give this, the
--- answer to them.
-pub record IsAnswerToLogs (q : OffenceQuestion) (logs : SymbolLogs) (answer : Answer)
-    : Type 0 where
-  pub of_place : (log : Which) (bad : BadPlace) → logs.given ≡ before_rule.Malformed log bad
-      → IsAnswerOfKind (IsVerdictAnswer (verdict.Malformed log bad)) answer
-  pub of_records : (entries : List OrderRecord) (paired : Result (List TradeRecord) Finding)
-      → IsSymbolLogs (scope_of (audit_question q)) (keeping_for q) entries paired logs
-      → IsAnswerOfKind (IsOffencesOfRecords q entries paired) answer
+-- the answer to what the records of two logs give: of whatever records give this, the answer to
+-- them
+abbrev pub IsAnswerToLogs : OffenceQuestion → SymbolLogs → Answer → Type 0
+IsAnswerToLogs q logs answer =
+    (entries : List OrderRecord) (paired : Result (List TradeRecord) Finding)
+    → IsSymbolLogs (scope_of (audit_question q)) (keeping_for q) entries paired logs
+    → IsAnswerOfKind (IsOffencesOfRecords q entries paired) answer

@@ -2,8 +2,7 @@
 ghost use Rattle.std.specs.Prelude.{◌≡◌, true, IfOk, length};
 ghost use Rattle.audit_base.specs.Deals.{IsDealList};
 ghost use Rattle.audit_report.specs.declared.statuses.Status.TheVariants as status;
-ghost use Rattle.audit_report.specs.declared.verdicts.Verdict.TheVariants as verdict;
-ghost use Rattle.audit_report.specs.Texts.{IsVerdictInRange};
+ghost use Rattle.record_verdict.specs.Judged.{IsJudgedInRange};
 ghost use Rattle.command_run.specs.Deciding.{IsAnswerOfKind};
 ghost use Rattle.command_run.specs.VerdictAnswers.{IsAnswerWith};
 ghost use Rattle.further_checks.specs.FurtherRules.{asks_further};
@@ -23,14 +22,13 @@ use audit_base::faults::NoMemory;
 use audit_base::names::Name;
 use audit_base::stamps::Stamp;
 use audit_report::line_parts::{LinePart, append_line};
-use audit_report::verdicts::Verdict;
-use command_run::answers::{Answer, verdict_answer};
+use command_run::answers::{Answer, answer_without};
 use log_source::shelf::Shelf;
 use log_verdict::sources::Source;
 use log_verdict::stops::Stop;
 use matching_core::deals_draft::ResolvedTrades;
 use record_verdict::before_rule::BeforeRule;
-use record_verdict::verdicts::verdict_after;
+use record_verdict::verdicts::{Judged, verdict_after};
 use std::alloc::Global;
 
 /// The answer about a symbol that no record of two good logs has, whose reports pair: one line that
@@ -57,16 +55,16 @@ fn answer_sound(
     sound: &ResolvedTrades,
     times: &[Stamp],
     quoted: &QuotedRecords,
-    verdict: Verdict,
+    judged: Judged,
 ) -> Result<Answer, NoMemory>
     requires deal_list { IsDealList sound.now.history sound.now.deals.items }
     requires timed { asks_further question.now.checks ≡ true
         → length times.now ≡ length sound.now.deals.items }
     requires in_order { AreInLogOrder quoted.now }
-    requires in_range { IsVerdictInRange verdict }
+    requires in_range { IsJudgedInRange judged }
     ensures { let none = are_none sound.now.history sound.now.deals.items in
         let told = IsAnswerBySome none question.now sound.now.history sound.now.deals.items in
-        IfOk result (IsAnswerOfKind (told times.now quoted.now verdict)) }
+        IfOk result (IsAnswerOfKind (told times.now quoted.now judged)) }
 {
     let orders = sound.history.orders();
     if orders.len() == 0 && sound.deals.is_empty() {
@@ -79,7 +77,7 @@ fn answer_sound(
         &sound.deals,
         times,
         quoted,
-        verdict,
+        judged,
     )
 }
 
@@ -92,12 +90,11 @@ fn answer_after(
     requires { IsReadyToTell (keeping_for question.now) logs.now }
     ensures { IfOk result (IsAnswerToLogs question.now logs.now) }
 {
-    let verdict = verdict_after(alloc, &question.audit(), &logs.given)?;
+    let judged = verdict_after(alloc, &question.audit(), &logs.given)?;
     match &logs.given {
-        BeforeRule::Malformed { .. } => verdict_answer(alloc, &verdict),
         BeforeRule::Found(finding) => answer_before_rule(alloc, &logs.quoted, finding),
         BeforeRule::Sound(sound) => {
-            answer_sound(alloc, question, sound, &logs.times, &logs.quoted, verdict)
+            answer_sound(alloc, question, sound, &logs.times, &logs.quoted, judged)
         }
     }
 }
@@ -135,6 +132,6 @@ pub fn offences_on<F: Shelf>(
     let scope = question.audit().scope();
     match read_symbol(alloc, shelf, &scope, question.keeping(), orders, trades) {
         Ok(logs) => Ok(answer_after(alloc, question, &logs)?),
-        Err(stop) => Err(stop),
+        Err(why) => answer_without(alloc, why),
     }
 }

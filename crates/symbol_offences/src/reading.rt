@@ -5,29 +5,26 @@ ghost use Rattle.audit_base.specs.declared.terms.Which.{Which};
 ghost use Rattle.log_source.specs.Collectors.{HasPlace};
 ghost use Rattle.log_source.specs.Sources.{longest_read};
 ghost use Rattle.record_verdict.specs.declared.before_rule.BeforeRule.TheVariants as before_rule;
-ghost use Rattle.log_verdict.specs.BothLogs.{HaveOneLimit, StaysWithin, StaysWithinAt};
+ghost use Rattle.log_verdict.specs.BothLogs.{GivesOfRecords, GivesOfTrades, HaveOneLimit, ReadsWithin, ReadsWithinAt};
 ghost use Rattle.log_verdict.specs.Collecting.{TouchesOnly};
 ghost use Rattle.log_verdict.specs.Steps.{reading_by, KeepsShelfLogs, FaultsNeverFall};
 ghost use Rattle.symbol_offences.specs.OrderLog.{IsOrdersOfSymbol};
-ghost use Rattle.symbol_offences.specs.ReadingLogs.{AnswersUnread, GivesAfterOrdersOrStop, GivesSymbolLogsOrStop, IsBadLog};
-ghost use Rattle.symbol_offences.specs.SymbolLogs.{IsReadyToTell};
+ghost use Rattle.symbol_offences.specs.SymbolLogs.{IsReadyToTell, IsSymbolLogs};
 ghost use Rattle.symbol_offences.specs.TradeLog.{IsBegunWith, finding_of_orders};
 
 use crate::order_log::{AskedOrders, OrdersOfSymbol};
 use crate::questions::Keeping;
 use crate::symbol_logs::{QuotedRecords, SymbolLogs};
 use crate::trade_log::{AskedTrades, TradesOfSymbol};
-use audit_base::faults::BadPlace;
 use audit_base::findings::Finding;
-use audit_base::names::Name;
 use audit_base::terms::Which;
 use day_records::kept_orders::KeptOrders;
 use day_records::kept_trades::KeptTrades;
 use day_records::symbol_trades::SymbolTrades;
 use log_source::shelf::Shelf;
-use log_verdict::reading::{Collected, Unread, collect_orders, collect_trades};
+use log_verdict::reading::{Collected, collect_orders, collect_trades};
 use log_verdict::sources::Source;
-use log_verdict::stops::Stop;
+use log_verdict::stops::NoRecords;
 use record_verdict::before_rule::BeforeRule;
 use record_verdict::scopes::Scope;
 use std::alloc::Global;
@@ -46,41 +43,6 @@ fn logs_of_finding(alloc: Global, finding: Finding, orders: KeptOrders) -> Symbo
         given: BeforeRule::Found(finding),
         times: Vec::new(alloc),
         quoted: QuotedRecords { orders, trades },
-    }
-}
-
-/// What is given of a symbol by a log that is not in its grammar: its first bad place.
-fn logs_of_place(alloc: Global, symbol: Name, log: Which, bad: BadPlace) -> SymbolLogs
-    ensures given { IsBadLog log bad result }
-    ensures orders { result.quoted.orders.entries ≡ [] }
-    ensures trades { result.quoted.trades.trades ≡ [] }
-{
-    SymbolLogs {
-        given: BeforeRule::Malformed { log, bad },
-        times: Vec::new(alloc),
-        quoted: QuotedRecords {
-            orders: KeptOrders::new(alloc, symbol),
-            trades: KeptTrades::new(alloc, symbol),
-        },
-    }
-}
-
-/// What is answered where a log was not read into records.
-fn answer_unread(
-    alloc: Global,
-    symbol: Name,
-    keeping: Keeping,
-    log: Which,
-    unread: Unread,
-) -> Result<SymbolLogs, Stop>
-    ensures answers { AnswersUnread log unread result }
-    ensures ready { IfOk result (IsReadyToTell keeping) }
-{
-    match unread {
-        Unread::Bad(bad) => Ok(logs_of_place(alloc, symbol, log, bad)),
-        Unread::ReadFault => Err(Stop::ReadFault(log)),
-        Unread::TooLong => Err(Stop::TooLong(log)),
-        Unread::Memory => Err(Stop::Memory),
     }
 }
 
@@ -123,7 +85,7 @@ fn read_trades<M: AskedTrades, F: Shelf>(
     trades: &Source<'_>,
     begun: SymbolTrades,
     records: KeptOrders,
-) -> Result<SymbolLogs, Stop>
+) -> Result<SymbolLogs, NoRecords>
     requires limit { trades.now.limit ≤ longest_read }
     requires scope { scope.now ≡ M.scope }
     requires keeping { keeping ≡ M.keeping }
@@ -133,10 +95,10 @@ fn read_trades<M: AskedTrades, F: Shelf>(
     ensures logs { KeepsShelfLogs F.Shelf shelf.old shelf.new }
     ensures only { TouchesOnly (reading_by trades.now F.Shelf shelf.old shelf.new) Which.Trades }
     ensures decides { (entries : List AnEntry) → M.may_have entries
-        → GivesAfterOrdersOrStop (reading_by trades.now F.Shelf shelf.old shelf.new)
-        M.scope M.keeping trades.now entries result }
+        → GivesOfTrades (IsSymbolLogs M.scope M.keeping entries)
+        (reading_by trades.now F.Shelf shelf.old shelf.new) trades.now result }
     ensures ready { IfOk result (IsReadyToTell M.keeping) }
-    ensures within { StaysWithinAt (reading_by trades.now F.Shelf shelf.old shelf.new)
+    ensures within { ReadsWithinAt (reading_by trades.now F.Shelf shelf.old shelf.new)
         Which.Trades result }
 {
     let of_orders = finding_of(&begun);
@@ -144,7 +106,7 @@ fn read_trades<M: AskedTrades, F: Shelf>(
     match collect_trades::<F, TradesOfSymbol<M>>(alloc, shelf, trades, kept) {
         Ok(Collected::Trades(kept)) => Ok(kept.end(records)),
         Ok(Collected::Alone(finding)) => Ok(logs_alone(alloc, &of_orders, finding, records)),
-        Err(unread) => answer_unread(alloc, scope.symbol, keeping, Which::Trades, unread),
+        Err(unread) => Err(NoRecords::at(Which::Trades, unread)),
     }
 }
 
@@ -156,7 +118,7 @@ fn after_orders<S: AskedOrders, F: Shelf>(
     keeping: Keeping,
     trades: &Source<'_>,
     orders: OrdersOfSymbol<S>,
-) -> Result<SymbolLogs, Stop>
+) -> Result<SymbolLogs, NoRecords>
     requires limit { trades.now.limit ≤ longest_read }
     requires symbol { scope.now.symbol ≡ S.symbol }
     requires keeps { keeping.records ≡ S.keeps }
@@ -164,10 +126,10 @@ fn after_orders<S: AskedOrders, F: Shelf>(
     ensures logs { KeepsShelfLogs F.Shelf shelf.old shelf.new }
     ensures only { TouchesOnly (reading_by trades.now F.Shelf shelf.old shelf.new) Which.Trades }
     ensures decides { (entries : List AnEntry) → IsOrdersOfSymbol S.symbol S.keeps orders entries
-        → GivesAfterOrdersOrStop (reading_by trades.now F.Shelf shelf.old shelf.new)
-        scope.now keeping trades.now entries result }
+        → GivesOfTrades (IsSymbolLogs scope.now keeping entries)
+        (reading_by trades.now F.Shelf shelf.old shelf.new) trades.now result }
     ensures ready { IfOk result (IsReadyToTell keeping) }
-    ensures within { StaysWithinAt (reading_by trades.now F.Shelf shelf.old shelf.new)
+    ensures within { ReadsWithinAt (reading_by trades.now F.Shelf shelf.old shelf.new)
         Which.Trades result }
 {
     let OrdersOfSymbol {
@@ -187,21 +149,21 @@ fn read_orders<S: AskedOrders, F: Shelf>(
     keeping: Keeping,
     orders: &Source<'_>,
     trades: &Source<'_>,
-) -> Result<SymbolLogs, Stop>
+) -> Result<SymbolLogs, NoRecords>
     requires symbol { scope.now.symbol ≡ S.symbol }
     requires keeps { keeping.records ≡ S.keeps }
     requires limit { HaveOneLimit orders.now trades.now }
     ensures logs { KeepsShelfLogs F.Shelf shelf.old shelf.new }
     ensures later { FaultsNeverFall (reading_by orders.now F.Shelf shelf.old shelf.new) }
-    ensures decides { GivesSymbolLogsOrStop (reading_by orders.now F.Shelf shelf.old shelf.new)
-        scope.now keeping orders.now trades.now result }
+    ensures decides { GivesOfRecords (IsSymbolLogs scope.now keeping)
+        (reading_by orders.now F.Shelf shelf.old shelf.new) orders.now trades.now result }
     ensures ready { IfOk result (IsReadyToTell keeping) }
-    ensures within { StaysWithin (reading_by orders.now F.Shelf shelf.old shelf.new) result }
+    ensures within { ReadsWithin (reading_by orders.now F.Shelf shelf.old shelf.new) result }
 {
     let kept = OrdersOfSymbol::<S>::new(alloc, orders.seed, scope.symbol, keeping.records);
     match collect_orders::<F, OrdersOfSymbol<S>>(alloc, shelf, orders, kept) {
         Ok(kept) => after_orders(alloc, shelf, scope, keeping, trades, kept),
-        Err(unread) => answer_unread(alloc, scope.symbol, keeping, Which::Orders, unread),
+        Err(unread) => Err(NoRecords::at(Which::Orders, unread)),
     }
 }
 
@@ -214,14 +176,14 @@ pub fn read_symbol<F: Shelf>(
     keeping: Keeping,
     orders: &Source<'_>,
     trades: &Source<'_>,
-) -> Result<SymbolLogs, Stop>
+) -> Result<SymbolLogs, NoRecords>
     requires limit { HaveOneLimit orders.now trades.now }
     ensures logs { KeepsShelfLogs F.Shelf shelf.old shelf.new }
     ensures later { FaultsNeverFall (reading_by orders.now F.Shelf shelf.old shelf.new) }
-    ensures decides { GivesSymbolLogsOrStop (reading_by orders.now F.Shelf shelf.old shelf.new)
-        scope.now keeping orders.now trades.now result }
+    ensures decides { GivesOfRecords (IsSymbolLogs scope.now keeping)
+        (reading_by orders.now F.Shelf shelf.old shelf.new) orders.now trades.now result }
     ensures ready { IfOk result (IsReadyToTell keeping) }
-    ensures within { StaysWithin (reading_by orders.now F.Shelf shelf.old shelf.new) result }
+    ensures within { ReadsWithin (reading_by orders.now F.Shelf shelf.old shelf.new) result }
 {
     read_orders::<Brand, F>(alloc, shelf, scope, keeping, orders, trades)
 }

@@ -1,4 +1,4 @@
-//! What two logs give of one symbol.
+//! What the records of two logs give of one symbol.
 use audit_base::stamps::Stamp;
 use day_records::kept_orders::KeptOrders;
 use day_records::kept_trades::KeptTrades;
@@ -11,7 +11,7 @@ pub struct QuotedRecords {
     pub trades: KeptTrades,
 }
 
-/// What two logs give of one symbol: what its verdict is judged by, the times of its trades where
+/// What the records of two logs give of one symbol: what its verdict is judged by, the times of its trades where
 /// they are asked for, and its records where they are quoted.
 #[derive(Drop)]
 pub struct SymbolLogs {

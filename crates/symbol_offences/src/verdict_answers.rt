@@ -9,6 +9,7 @@ ghost use Rattle.command_run.specs.Deciding.{IsAnswerOfKind};
 ghost use Rattle.command_run.specs.VerdictAnswers.{IsAnswerWith};
 ghost use Rattle.further_checks.specs.FurtherRules.{asks_further, further_findings};
 ghost use Rattle.offence_list.specs.Offences.{offences_of};
+ghost use Rattle.record_verdict.specs.Judged.{IsJudgedInRange};
 ghost use Rattle.symbol_offences.specs.OffenceAnswers.{IsAnswerToAccepted, IsAnswerToRejected};
 ghost use Rattle.symbol_offences.specs.SymbolLogs.{AreInLogOrder};
 ghost use Rattle.symbol_offences.specs.Telling.{IsAnswerByDeals};
@@ -26,11 +27,12 @@ use audit_report::reports::report_text;
 use audit_report::statuses::Status;
 use audit_report::verdicts::{Accepted, Verdict};
 use call_offences::totals::totals_of;
-use command_run::answers::{Answer, malformed_answer, verdict_answer};
+use command_run::answers::{Answer, verdict_answer};
 use further_checks::checking::further_findings;
 use further_checks::findings::{FurtherChecks, FurtherFinding};
 use further_checks::texts::append_further_text;
 use order_list::lists::OrderList;
+use record_verdict::verdicts::Judged;
 use std::alloc::Global;
 
 /// The answer that rejects with this text.
@@ -134,19 +136,19 @@ pub(crate) fn answer_by_verdict(
     deals: &[Deal],
     times: &[Stamp],
     quoted: &QuotedRecords,
-    verdict: Verdict,
+    judged: Judged,
 ) -> Result<Answer, NoMemory>
     requires order_list { IsOrderList orders.now }
     requires deal_list { IsDealList orders.now deals.now }
     requires timed { asks_further question.now.checks ≡ true
         → length times.now ≡ length deals.now }
     requires in_order { AreInLogOrder quoted.now }
-    requires in_range { IsVerdictInRange verdict }
+    requires in_range { IsJudgedInRange judged }
     ensures { let told = IsAnswerByDeals question.now orders.now deals.now times.now quoted.now in
-        IfOk result (IsAnswerOfKind (told verdict)) }
+        IfOk result (IsAnswerOfKind (told judged)) }
 {
-    match verdict {
-        Verdict::Accepted(accepted) => answer_accepted(
+    match judged {
+        Judged::Accepted(accepted) => answer_accepted(
             alloc,
             question.checks,
             orders,
@@ -155,9 +157,8 @@ pub(crate) fn answer_by_verdict(
             quoted,
             accepted,
         ),
-        Verdict::Rejected(first) => {
+        Judged::Rejected(first) => {
             answer_rejected(alloc, question.rule, orders, deals, quoted, &first)
         }
-        Verdict::Malformed { log, bad } => malformed_answer(alloc, log, &bad),
     }
 }

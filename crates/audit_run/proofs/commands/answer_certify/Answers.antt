@@ -3,7 +3,9 @@ use Rattle.log_verdict.specs.Steps.{reading_by}
 use Rattle.record_verdict.specs.RecordVerdicts.{question}
 use Rattle.record_verdict.specs.Scopes.{scope_of}
 use Rattle.audit_run.specs.Deciding.{request_to_certify}
+use Rattle.command_run.proofs.UnreadLemmas.{stays_unread}
 use Rattle.audit_run.proofs.AnswerLemmas.{certify-status}
+use Rattle.audit_run.proofs.JudgedAnswerLemmas.{bad_certifies}
 use Rattle.audit_run.proofs.commands.answer_certify.Goals as goal
 
 pub returns-in_ok-certify_answer-in-Ok-clause-decides : goal.returns-in_ok-certify_answer-in-Ok-clause-decides
@@ -19,5 +21,15 @@ returns-in_ok-certify_answer-in-Ok-clause-decides g c =
 
 pub returns-in-Err-clause-decides : goal.returns-in-Err-clause-decides
 returns-in-Err-clause-decides g c =
-    c.both_logs_decide.ensures.stops (request_to_certify c.args.rule c.args.symbol.now c.args.orders.now c.args.trades.now) (reading_by c.args.orders.now g.F.Shelf c.args.shelf.now c.read_both.new.shelf) c.args.orders.now c.args.trades.now c.in-Err.stop
-    c.in-Err.ensures.later (record { first = refl; second = λ bytes. refl }) c.in-Err.ensures.decides
+    c.both_logs_decide.ensures.unread (request_to_certify c.args.rule c.args.symbol.now c.args.orders.now c.args.trades.now) (reading_by c.args.orders.now g.F.Shelf c.args.shelf.now c.read_both.new.shelf) c.args.orders.now c.args.trades.now c.in-Err.why c.answer_without.result
+    c.in-Err.ensures.later
+    (record {
+      starts = record { first = refl; second = λ bytes. refl };
+      answer = λ log bad the_status text made logs short come. bad_certifies _ _ _ log bad the_status text made come;
+      ends = λ bad first second entries e said. refl;
+    })
+    c.in-Err.ensures.decides c.answer_without.ensures
+
+pub returns-in-Err-clause-within : goal.returns-in-Err-clause-within
+returns-in-Err-clause-within g c =
+    stays_unread (reading_by c.args.orders.now g.F.Shelf c.args.shelf.now c.read_both.new.shelf) c.in-Err.why c.read_both.result c.answer_without.result c.in-Err.is c.read_both.ensures.within c.answer_without.ensures

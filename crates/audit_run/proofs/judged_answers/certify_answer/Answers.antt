@@ -1,16 +1,17 @@
 use Rattle.audit_run.proofs.ResultLemmas.{ok-then}
-use Rattle.audit_run.proofs.JudgedAnswerLemmas.{answer_certifies, sound_certifies}
+use Rattle.audit_run.proofs.JudgedAnswerLemmas.{found_certifies, sound_certifies}
 use Rattle.audit_run.proofs.judged_answers.certify_answer.Goals as goal
+
+pub returns-in-Found : goal.returns-in-Found
+returns-in-Found c =
+    let is = rw c.in-Found.is at c.in_ok-judged.ensures.verdict in
+    ok-then c.finding_answer.result _ _
+    (λ answer made. rw c.in-Found.is (found_certifies c.args.question.now c.in-Found.finding c.in_ok-judged.judged answer is made))
+    c.finding_answer.ensures
 
 pub returns-in-Sound : goal.returns-in-Sound
 returns-in-Sound c =
-    let is = rw c.in-Sound.is at c.in_ok-verdict.ensures.verdict in
+    let is = rw c.in-Sound.is at c.in_ok-judged.ensures.verdict in
     ok-then c.certified_answer.result _ _
-    (λ answer made. rw c.in-Sound.is (sound_certifies c.args.question.now c.in-Sound.resolved c.in_ok-verdict.verdict answer is made))
+    (λ answer made. rw c.in-Sound.is (sound_certifies c.args.question.now c.in-Sound.resolved c.in_ok-judged.judged answer is made))
     c.certified_answer.ensures
-
-pub returns : goal.returns
-returns c =
-    ok-then c.verdict_answer.result _ _
-    (λ answer made. answer_certifies c.args.question.now c.args.given.now c.in_ok-verdict.verdict answer (λ sound e. c.in_default.not-Sound sound e) c.in_ok-verdict.ensures.verdict made)
-    c.verdict_answer.ensures

@@ -1,12 +1,6 @@
 use Rattle.audit_run.proofs.ResultLemmas.{ok-then}
-use Rattle.audit_run.proofs.VerifyAnswerLemmas.{found_verifies, malformed_verifies, sound_verifies}
+use Rattle.audit_run.proofs.VerifyAnswerLemmas.{found_verifies, sound_verifies}
 use Rattle.audit_run.proofs.verifying.verify_answer.Goals as goal
-
-pub returns-in-Malformed : goal.returns-in-Malformed
-returns-in-Malformed c =
-    ok-then c.malformed_answer.result _ _
-    (λ answer made. rw c.in-Malformed.is (malformed_verifies c.args.symbol.now c.args.certificate.now answer c.in-Malformed.log c.in-Malformed.bad made))
-    c.malformed_answer.ensures
 
 pub returns-in-Found : goal.returns-in-Found
 returns-in-Found c =

@@ -1,11 +1,10 @@
-use Rattle.std.proofs.Common.{◌≡◌, sym, subst}
+use Rattle.std.proofs.Common.{ap, sym, subst, Err}
 use Rattle.day_records.specs.DayOrders.{HasOrders}
 use Rattle.day_symbols.specs.Shares.{DayShare}
+use Rattle.day_logs.specs.declared.before_rule.DayBeforeRule.{DayBeforeRule}
 use Rattle.log_verdict.specs.Steps.{reading_by}
-use Rattle.day_logs.specs.declared.before_rule.DayBeforeRule.TheVariants as before_rule
 use Rattle.day_logs.specs.DayBeforeRule.{IsDayBeforeRule}
-use Rattle.day_logs.proofs.JoinLemmas.{gives-after, keeps-both, later-after, stays-within, unread-within}
-use Rattle.day_logs.proofs.TradeLogLemmas.{orders-unread}
+use Rattle.log_verdict.proofs.JoinLemmas.{gives-after, keeps-both, later-after, orders-unread, orders-within, stays-within}
 use Rattle.day_logs.proofs.reading.read_share.Goals as goal
 
 pub after_orders-requires-clause-some : goal.after_orders-requires-clause-some
@@ -22,8 +21,7 @@ returns-in-Ok-clause-decides g c =
     let is = c.in-Ok.ensures.read in
     gives-after (reading_by c.args.orders.now g.F.Shelf c.args.shelf.now c.collect_orders.new.shelf) (reading_by c.args.trades.now g.F.Shelf c.collect_orders.new.shelf c.after_orders.new.shelf)
     (record { limit = sym c.requires.limit.same; tells = c.in-Ok.ensures.logs.tells; logs = c.in-Ok.ensures.logs.logs; trades = c.in-Ok.ensures.only.other; orders = c.after_orders.ensures.only.other })
-    (λ entries paired given. IsDayBeforeRule c.args.share c.args.admission entries paired given) (λ log bad given. given ≡ before_rule.Malformed log bad)
-    c.args.orders.now c.args.trades.now is.holds.entries c.after_orders.result
+    (IsDayBeforeRule c.args.share c.args.admission) c.args.orders.now c.args.trades.now is.holds.entries c.after_orders.result
     (record { bytes = is.bytes; read = is.read; holds = is.holds.reads })
     (c.after_orders.ensures.decides is.holds.entries (subst (λ (share : DayShare). HasOrders share c.end.result is.holds.entries) (sym c.requires.share) (c.end.ensures is.holds.entries is.holds.has)))
 
@@ -41,11 +39,10 @@ returns-in-Ok-clause-within g c =
 
 pub returns-in-Err-clause-decides : goal.returns-in-Err-clause-decides
 returns-in-Err-clause-decides g c =
-    rw c.day_without.ensures
-    (orders-unread (reading_by c.args.orders.now g.F.Shelf c.args.shelf.now c.collect_orders.new.shelf) c.args.share c.args.admission c.args.orders.now c.args.trades.now c.in-Err.unread c.in-Err.ensures.read c.in-Err.ensures.only.other)
+    rw c.at.ensures
+    (orders-unread (reading_by c.args.orders.now g.F.Shelf c.args.shelf.now c.collect_orders.new.shelf) c.args.orders.now c.args.trades.now c.in-Err.unread c.in-Err.ensures.read c.in-Err.ensures.only.other)
 
 pub returns-in-Err-clause-within : goal.returns-in-Err-clause-within
 returns-in-Err-clause-within g c =
-    rw c.day_without.ensures
-    (unread-within (reading_by c.args.orders.now g.F.Shelf c.args.shelf.now c.collect_orders.new.shelf) c.in-Err.unread
-    (λ other. c.in-Err.ensures.within (λ e. other (cc))) c.in-Err.ensures.only.other)
+    orders-within {T = DayBeforeRule} (reading_by c.args.orders.now g.F.Shelf c.args.shelf.now c.collect_orders.new.shelf) c.in-Err.unread (Err c.at.result) (ap Err c.at.ensures)
+    (λ other. c.in-Err.ensures.within (λ e. other (cc))) c.in-Err.ensures.only.other

@@ -1,6 +1,9 @@
+use Rattle.std.proofs.Common.{ap, Err}
 use Rattle.day_records.specs.DayTrades.{IsDayTrades}
+use Rattle.day_logs.specs.declared.before_rule.DayBeforeRule.{DayBeforeRule}
 use Rattle.log_verdict.specs.Steps.{reading_by}
-use Rattle.day_logs.proofs.TradeLogLemmas.{day-ended, day-unpaired, trades-unread}
+use Rattle.log_verdict.proofs.JoinLemmas.{trades-unread, trades-within}
+use Rattle.day_logs.proofs.TradeLogLemmas.{day-ended, day-unpaired}
 use Rattle.day_logs.proofs.reading.read_trades.Goals as goal
 
 pub returns-in-Ok-Trades-clause-decides : goal.returns-in-Ok-Trades-clause-decides
@@ -21,5 +24,9 @@ returns-in-Ok-Alone-clause-decides g c = λ entries may.
 
 pub returns-in-Err-clause-decides : goal.returns-in-Err-clause-decides
 returns-in-Err-clause-decides g c = λ entries may.
-    rw c.day_without.ensures
-    (trades-unread (reading_by c.args.trades.now g.F.Shelf c.args.shelf.now c.collect_trades.new.shelf) g.M.AuditedDay.share g.M.AuditedDay.admission c.args.trades.now entries c.in-Err.unread c.in-Err.ensures.read)
+    rw c.at.ensures (trades-unread (reading_by c.args.trades.now g.F.Shelf c.args.shelf.now c.collect_trades.new.shelf) c.args.trades.now c.in-Err.unread c.in-Err.ensures.read)
+
+pub returns-in-Err-clause-within : goal.returns-in-Err-clause-within
+returns-in-Err-clause-within g c =
+    trades-within {T = DayBeforeRule} (reading_by c.args.trades.now g.F.Shelf c.args.shelf.now c.collect_trades.new.shelf) c.in-Err.unread (Err c.at.result) (ap Err c.at.ensures)
+    (λ other. c.in-Err.ensures.within (λ e. other (cc)))

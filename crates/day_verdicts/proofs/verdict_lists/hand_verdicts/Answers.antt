@@ -2,6 +2,7 @@ use Rattle.std.proofs.Common.{◌≡◌, ◌++◌, ◌∷◌, List, Some, length
 use Rattle.std.specs.Prelude.{option_map, slice_get}
 use Rattle.day_symbols.specs.Shares.{symbols_in}
 use Rattle.day_records.specs.declared.symbol_records.SymbolRecords.{SymbolRecords}
+use Rattle.record_verdict.specs.Judged.{as_verdict}
 use Rattle.day_verdicts.proofs.ListSteps.{taken-all, taken-on}
 use Rattle.day_verdicts.proofs.VerdictSteps.{next-at, next-few, next-few-records}
 use Rattle.day_verdicts.proofs.verdict_lists.hand_verdicts.Goals as goal
@@ -31,8 +32,8 @@ loop-symbol_records-preserved g c =
     let got : slice_get (symbols_in c.args.share c.args.ended.symbols) c.loop-symbol_records.share_index ≡ Some c.in-Some-symbol_at.symbol.now =
     sym c.symbol_at.ensures ∙ ap (option_map (λ name. name.now)) c.in-Some-symbol_at.is in
     let next = next-at c.args.share c.args.ended c.loop-symbol_records.share_index c.in-Some.symbol_records c.in-Some-symbol_at.symbol.now c.loop-symbol_records.yielded c.next.new.self.rest.items all c.loop-symbol_records.invariant.1 got in
-    taken-on (g.L.VerdictList.has_taken c.args.list) c.args.rule c.args.share c.args.ended c.loop-symbol_records.share_index c.in-Some.symbol_records c.in-Some-symbol_at.symbol.now c.in_ok-symbol_trades.symbol_trades c.in_ok-verdict.verdict c.loop-symbol_records.handed
-    c.take.new.self c.loop-symbol_records.yielded c.next.new.self.rest.items next all c.loop-symbol_records.invariant.1 c.in_ok-symbol_trades.ensures c.in_ok-verdict.ensures.judged (c.in_ok-take.ensures c.args.list) c.loop-symbol_records.invariant.2
+    taken-on (g.L.VerdictList.has_taken c.args.list) c.args.rule c.args.share c.args.ended c.loop-symbol_records.share_index c.in-Some.symbol_records c.in-Some-symbol_at.symbol.now c.in_ok-symbol_trades.symbol_trades (as_verdict c.in_ok-judged.judged) c.loop-symbol_records.handed
+    c.take.new.self c.loop-symbol_records.yielded c.next.new.self.rest.items next all c.loop-symbol_records.invariant.1 c.in_ok-symbol_trades.ensures c.in_ok-judged.ensures.judged (c.in_ok-take.ensures c.args.list) c.loop-symbol_records.invariant.2
 
 pub loop-symbol_records-preserved-in_ok-take : goal.loop-symbol_records-preserved-in_ok-take
 loop-symbol_records-preserved-in_ok-take g c =
@@ -41,8 +42,8 @@ loop-symbol_records-preserved-in_ok-take g c =
     let got : slice_get (symbols_in c.args.share c.args.ended.symbols) c.loop-symbol_records.share_index ≡ Some c.in-Some-symbol_at.symbol.now =
     sym c.symbol_at.ensures ∙ ap (option_map (λ name. name.now)) c.in-Some-symbol_at.is in
     let next = next-at c.args.share c.args.ended c.loop-symbol_records.share_index c.in-Some.symbol_records c.in-Some-symbol_at.symbol.now c.loop-symbol_records.yielded c.next.new.self.rest.items all c.loop-symbol_records.invariant.1 got in
-    taken-on (g.L.VerdictList.has_taken c.args.list) c.args.rule c.args.share c.args.ended c.loop-symbol_records.share_index c.in-Some.symbol_records c.in-Some-symbol_at.symbol.now c.in_ok-symbol_trades.symbol_trades c.in_ok-verdict.verdict c.loop-symbol_records.handed
-    c.take.new.self c.loop-symbol_records.yielded c.next.new.self.rest.items next all c.loop-symbol_records.invariant.1 c.in_ok-symbol_trades.ensures c.in_ok-verdict.ensures.judged (c.in_ok-take.ensures c.args.list) c.loop-symbol_records.invariant.2
+    taken-on (g.L.VerdictList.has_taken c.args.list) c.args.rule c.args.share c.args.ended c.loop-symbol_records.share_index c.in-Some.symbol_records c.in-Some-symbol_at.symbol.now c.in_ok-symbol_trades.symbol_trades (as_verdict c.in_ok-judged.judged) c.loop-symbol_records.handed
+    c.take.new.self c.loop-symbol_records.yielded c.next.new.self.rest.items next all c.loop-symbol_records.invariant.1 c.in_ok-symbol_trades.ensures c.in_ok-judged.ensures.judged (c.in_ok-take.ensures c.args.list) c.loop-symbol_records.invariant.2
 
 pub returns : goal.returns
 returns g c =

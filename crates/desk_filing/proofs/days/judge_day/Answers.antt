@@ -1,9 +1,4 @@
-use Rattle.std.proofs.Common.{refl}
-use Rattle.day_logs.specs.declared.before_rule.DayBeforeRule.{DayBeforeRule}
-use Rattle.desk_filing.specs.declared.answers.Judged.{Judged}
-use Rattle.desk_filing.proofs.DayLemmas.{judges_given, takes_digests}
-use Rattle.desk_filing.proofs.LogLemmas.{stops_reading}
-use Rattle.desk_filing.proofs.WritingLemmas.{ends_stopped}
+use Rattle.desk_filing.proofs.DayLemmas.{ends_without, judges_given, judges_without, takes_digests}
 use Rattle.desk_filing.proofs.days.judge_day.Goals as goal
 
 pub returns-in_ok-judged_logs-in-Ok-clause-judges : goal.returns-in_ok-judged_logs-in-Ok-clause-judges
@@ -14,10 +9,10 @@ returns-in_ok-judged_logs-in-Ok-clause-judges g c =
 
 pub returns-in-Err-clause-judges : goal.returns-in-Err-clause-judges
 returns-in-Err-clause-judges g c =
-    rw c.from.ensures (stops_reading _ c.args.request.now.logs c.args.orders.now c.args.trades.now c.requires.names c.args.request.now refl c.in-Err.stop c.in-Err.ensures.decides)
+    judges_without _ c.args.request.now c.args.orders.now c.args.trades.now c.requires.names c.args.rule c.requires.asked c.in-Err.why c.judged_without.result c.judged_without.ensures c.in-Err.ensures.decides
 
 pub returns-in_ok-judged_logs-in-Ok-clause-within : goal.returns-in_ok-judged_logs-in-Ok-clause-within
 returns-in_ok-judged_logs-in-Ok-clause-within g c = c.in-Ok.ensures.within
 
 pub returns-in-Err-clause-within : goal.returns-in-Err-clause-within
-returns-in-Err-clause-within g c = rw c.from.ensures (ends_stopped DayBeforeRule Judged c.in-Err.stop c.in-Err.ensures.within)
+returns-in-Err-clause-within g c = ends_without _ c.in-Err.why c.read_day.result c.judged_without.result c.in-Err.is c.read_day.ensures.within c.judged_without.ensures

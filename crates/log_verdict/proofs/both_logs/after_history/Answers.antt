@@ -1,9 +1,11 @@
-use Rattle.std.proofs.Common.{sym, subst, ◌∙◌, List}
+use Rattle.std.proofs.Common.{sym, subst, ◌∙◌, List, ap, Err}
 use Rattle.audit_base.specs.declared.orders.Order.{Order}
 use Rattle.matching_core.specs.DealsDraft.{IsDealsDraft}
 use Rattle.log_verdict.specs.BothLogs.{IsAdmitted}
+use Rattle.record_verdict.specs.declared.before_rule.BeforeRule.{BeforeRule}
 use Rattle.log_verdict.specs.Steps.{reading_by}
-use Rattle.log_verdict.proofs.AuditLemmas.{after_alone, after_ended, after_unread, deals_counted, ends_as}
+use Rattle.log_verdict.proofs.AuditLemmas.{after_alone, after_ended, deals_counted, ends_as}
+use Rattle.log_verdict.proofs.JoinLemmas.{trades-unread, trades-within}
 use Rattle.log_verdict.proofs.both_logs.after_history.Goals as goal
 
 pub returns-in-Ok-Trades-clause-decides : goal.returns-in-Ok-Trades-clause-decides
@@ -35,6 +37,9 @@ of-requires-clause-fits_places g c =
 
 pub returns-in-Err-clause-decides : goal.returns-in-Err-clause-decides
 returns-in-Err-clause-decides g c = λ entries is.
-    rw c.answer_without.ensures.answer
-    (after_unread (reading_by c.args.trades.now g.F.Shelf c.args.shelf.now c.collect_trades.new.shelf) c.args.scope.now c.args.trades.now entries
-    c.in-Err.unread c.in-Err.ensures.read)
+    rw c.at.ensures (trades-unread (reading_by c.args.trades.now g.F.Shelf c.args.shelf.now c.collect_trades.new.shelf) c.args.trades.now c.in-Err.unread c.in-Err.ensures.read)
+
+pub returns-in-Err-clause-within : goal.returns-in-Err-clause-within
+returns-in-Err-clause-within g c =
+    λ begins. trades-within {T = BeforeRule} (reading_by c.args.trades.now g.F.Shelf c.args.shelf.now c.collect_trades.new.shelf) c.in-Err.unread (Err c.at.result) (ap Err c.at.ensures)
+    (λ other. c.in-Err.ensures.within (λ e. other (cc)))

@@ -1,11 +1,12 @@
 use Rattle.std.proofs.Common.{◌∙◌, ap, Err}
+use Rattle.record_verdict.specs.Judged.{as_verdict}
 use Rattle.record_verdict.proofs.JudgeLemmas.{ok-then, trades_unsound, trades_sound}
 use Rattle.record_verdict.proofs.judging.judge_trades.Goals as goal
 
 pub returns-in-Ok : goal.returns-in-Ok
 returns-in-Ok c =
     ok-then c.judge_deals.result _ _
-    (λ verdict is. trades_sound c.args.question.now c.args.history.now c.args.trades.now _ verdict c.in-Ok.ensures.sound c.in-Ok.ensures.deals is)
+    (λ judged is. trades_sound c.args.question.now c.args.history.now c.args.trades.now _ (as_verdict judged) c.in-Ok.ensures.sound c.in-Ok.ensures.deals is)
     (rw (c.orders.ensures.same, c.deref.ensures.value) at c.judge_deals.ensures)
 
 pub returns-in-Err-Found : goal.returns-in-Err-Found

@@ -1,9 +1,6 @@
 use Rattle.record_verdict.proofs.JudgeLemmas.{ok-then}
-use Rattle.record_verdict.proofs.VerdictLemmas.{found_is, malformed_is, sound_is}
+use Rattle.record_verdict.proofs.VerdictLemmas.{found_is, sound_is}
 use Rattle.record_verdict.proofs.verdicts.verdict_after.Goals as goal
-
-pub returns-in-Malformed-clause-verdict : goal.returns-in-Malformed-clause-verdict
-returns-in-Malformed-clause-verdict c = rw c.in-Malformed.is (malformed_is c.args.question.now c.in-Malformed.log c.in-Malformed.bad)
 
 pub returns-in-Found-clause-verdict : goal.returns-in-Found-clause-verdict
 returns-in-Found-clause-verdict c = rw c.in-Found.is (found_is c.args.question.now c.in-Found.finding)
@@ -12,5 +9,5 @@ pub returns-in-Sound-clause-verdict : goal.returns-in-Sound-clause-verdict
 returns-in-Sound-clause-verdict c =
     let judgeable = rw c.in-Sound.is at c.requires in
     ok-then c.judge_deals.result _ _
-    (λ verdict is. rw c.in-Sound.is (sound_is c.args.question.now c.in-Sound.resolved verdict judgeable is))
+    (λ judged is. rw c.in-Sound.is (sound_is c.args.question.now c.in-Sound.resolved judged judgeable is))
     (rw (c.orders-orders.ensures.same, c.deref.ensures.value) at c.judge_deals.ensures)

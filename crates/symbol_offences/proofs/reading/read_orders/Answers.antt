@@ -1,9 +1,8 @@
-use Rattle.std.proofs.Common.{sym}
+use Rattle.std.proofs.Common.{ap, sym, Err}
+use Rattle.symbol_offences.specs.declared.symbol_logs.SymbolLogs.{SymbolLogs}
 use Rattle.log_verdict.specs.Steps.{reading_by}
-use Rattle.symbol_offences.specs.ReadingLogs.{IsBadLog}
 use Rattle.symbol_offences.specs.SymbolLogs.{IsSymbolLogs}
-use Rattle.symbol_offences.proofs.JoinLemmas.{gives-after, keeps-both, later-after, stays-within, unread-within}
-use Rattle.symbol_offences.proofs.ReadLemmas.{orders-unread}
+use Rattle.log_verdict.proofs.JoinLemmas.{gives-after, keeps-both, later-after, orders-unread, orders-within, stays-within}
 use Rattle.symbol_offences.proofs.reading.read_orders.Goals as goal
 
 pub returns-in-Ok-clause-logs : goal.returns-in-Ok-clause-logs
@@ -15,8 +14,7 @@ returns-in-Ok-clause-decides g c =
     let is = c.in-Ok.ensures.read in
     gives-after (reading_by c.args.orders.now g.F.Shelf c.args.shelf.now c.collect_orders.new.shelf) (reading_by c.args.trades.now g.F.Shelf c.collect_orders.new.shelf c.after_orders.new.shelf)
     (record { limit = sym c.requires.limit.same; tells = c.in-Ok.ensures.logs.tells; logs = c.in-Ok.ensures.logs.logs; trades = c.in-Ok.ensures.only.other; orders = c.after_orders.ensures.only.other })
-    (λ entries paired logs. IsSymbolLogs c.args.scope.now c.args.keeping entries paired logs) (λ log bad logs. IsBadLog log bad logs)
-    c.args.orders.now c.args.trades.now is.holds.entries c.after_orders.result
+    (IsSymbolLogs c.args.scope.now c.args.keeping) c.args.orders.now c.args.trades.now is.holds.entries c.after_orders.result
     (record { bytes = is.bytes; read = is.read; holds = is.holds.reads })
     (c.after_orders.ensures.decides is.holds.entries is.holds.has)
 
@@ -34,10 +32,10 @@ returns-in-Ok-clause-within g c =
 
 pub returns-in-Err-clause-decides : goal.returns-in-Err-clause-decides
 returns-in-Err-clause-decides g c =
-    orders-unread (reading_by c.args.orders.now g.F.Shelf c.args.shelf.now c.collect_orders.new.shelf) c.args.scope.now c.args.keeping c.args.orders.now c.args.trades.now c.in-Err.unread
-    c.answer_unread.result c.answer_unread.ensures.answers c.in-Err.ensures.read c.in-Err.ensures.only.other
+    rw c.at.ensures
+    (orders-unread (reading_by c.args.orders.now g.F.Shelf c.args.shelf.now c.collect_orders.new.shelf) c.args.orders.now c.args.trades.now c.in-Err.unread c.in-Err.ensures.read c.in-Err.ensures.only.other)
 
 pub returns-in-Err-clause-within : goal.returns-in-Err-clause-within
 returns-in-Err-clause-within g c =
-    unread-within (reading_by c.args.orders.now g.F.Shelf c.args.shelf.now c.collect_orders.new.shelf) c.in-Err.unread c.answer_unread.result c.answer_unread.ensures.answers
+    orders-within {T = SymbolLogs} (reading_by c.args.orders.now g.F.Shelf c.args.shelf.now c.collect_orders.new.shelf) c.in-Err.unread (Err c.at.result) (ap Err c.at.ensures)
     (λ other. c.in-Err.ensures.within (λ e. other (cc))) c.in-Err.ensures.only.other

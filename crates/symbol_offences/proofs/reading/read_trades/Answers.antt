@@ -1,12 +1,14 @@
 use Rattle.std.proofs.Common.{sym, ap, subst, ◌∙◌, Err, Option}
 use Rattle.std.specs.Prelude.{unwrap_or}
 use Rattle.audit_base.specs.declared.findings.Finding.{Finding}
+use Rattle.symbol_offences.specs.declared.symbol_logs.SymbolLogs.{SymbolLogs}
 use Rattle.log_verdict.specs.Steps.{reading_by}
 use Rattle.record_verdict.specs.declared.before_rule.BeforeRule.{BeforeRule}
 use Rattle.record_verdict.specs.declared.before_rule.BeforeRule.TheVariants as before_rule
 use Rattle.record_verdict.specs.BeforeRule.{IsJudgeable}
 use Rattle.symbol_offences.specs.TradeLog.{IsTradesOfSymbol}
-use Rattle.symbol_offences.proofs.ReadLemmas.{alone-logs, ready-of, trades-alone, trades-ended, trades-unread}
+use Rattle.log_verdict.proofs.JoinLemmas.{trades-unread, trades-within}
+use Rattle.symbol_offences.proofs.ReadLemmas.{alone-logs, ready-of, trades-alone, trades-ended}
 use Rattle.symbol_offences.proofs.reading.read_trades.Goals as goal
 
 pub new-kept-requires-clause-symbol : goal.new-kept-requires-clause-symbol
@@ -47,5 +49,9 @@ returns-in-Ok-Alone-clause-ready g c =
 
 pub returns-in-Err-clause-decides : goal.returns-in-Err-clause-decides
 returns-in-Err-clause-decides g c = λ entries may.
-    trades-unread (reading_by c.args.trades.now g.F.Shelf c.args.shelf.now c.collect_trades.new.shelf) g.M.AskedTrades.scope g.M.AskedTrades.keeping c.args.trades.now entries
-    c.in-Err.unread c.answer_unread.result c.answer_unread.ensures.answers c.in-Err.ensures.read
+    rw c.at.ensures (trades-unread (reading_by c.args.trades.now g.F.Shelf c.args.shelf.now c.collect_trades.new.shelf) c.args.trades.now c.in-Err.unread c.in-Err.ensures.read)
+
+pub returns-in-Err-clause-within : goal.returns-in-Err-clause-within
+returns-in-Err-clause-within g c =
+    trades-within {T = SymbolLogs} (reading_by c.args.trades.now g.F.Shelf c.args.shelf.now c.collect_trades.new.shelf) c.in-Err.unread (Err c.at.result) (ap Err c.at.ensures)
+    (λ other. c.in-Err.ensures.within (λ e. other (cc)))

@@ -1,6 +1,7 @@
 use Rattle.std.proofs.Common.{◌∙◌, Ok}
 use Rattle.std.proofs.lemmas.Result.{on_ok_weaker}
 use Rattle.day_records.specs.SymbolTrades.{scope_by}
+use Rattle.record_verdict.specs.Judged.{as_verdict}
 use Rattle.record_verdict.specs.Scopes.{admission_of}
 use Rattle.day_verdicts.specs.DayVerdicts.{told_by_verdict}
 use Rattle.day_verdicts.proofs.CheckLemmas.{has-times, told-after, verdict-rejects}
@@ -17,11 +18,11 @@ returns c = on_ok_weaker c.add.result
     let q = c.args.question.now in
     let report = c.in_ok-report.ensures in
     record {
-      one = report.one;
+      one = as_verdict report.one;
       is = λ entries trades known counted. report.is.of_records entries (Ok trades) (c.end-given.ensures.gives (admission_of q.rule) entries trades q.symbol known counted);
       told = _;
       told_is = λ entries trades known counted times_are. report.told_is
-          ∙ told-after c.nothing_is_found_unasked.ensures c.args.checks (scope_by (admission_of q.rule) q.symbol) entries trades c.end-given.result c.args.times.now (told_by_verdict report.one)
+          ∙ told-after c.nothing_is_found_unasked.ensures c.args.checks (scope_by (admission_of q.rule) q.symbol) entries trades c.end-given.result c.args.times.now (told_by_verdict (as_verdict report.one))
           (c.end-given.ensures.gives (admission_of q.rule) entries trades q.symbol known counted) times_are (verdict-rejects q c.end-given.result report.one report.is);
       adds = adds;
     })

@@ -1,4 +1,5 @@
--- Two logs read one after the other: how what is known of one log goes over to both.
+-- Two logs read one after the other: how what is known of one log goes over to both, whatever is
+-- kept of their records.
 use Rattle.std.proofs.Common.{◌<◌, ◌≡◌, ◌≤◌, ◌⊎◌, ◌∙◌, sym, subst, refl, inl, inr, ⊎_elim, true, ℕ, List, length, Option, None, Result, Ok, Err, IsOk}
 use Rattle.std.specs.Prelude.{IsSomeAnd, MatchResult}
 use Rattle.audit_base.specs.declared.faults.BadPlace.{BadPlace}
@@ -13,13 +14,14 @@ use Rattle.log_source.specs.Sources.{Slot, RoseOrIsFull}
 use Rattle.log_verdict.specs.declared.reading.Unread.{Unread}
 use Rattle.log_verdict.specs.declared.reading.Unread.TheVariants as unread
 use Rattle.log_verdict.specs.declared.sources.Source.{Source}
-use Rattle.log_verdict.specs.declared.stops.Stop.{Stop}
+use Rattle.log_verdict.specs.declared.stops.NoRecords.{NoRecords}
+use Rattle.log_verdict.specs.declared.stops.NoRecords.TheVariants as norecords
 use Rattle.log_verdict.specs.declared.stops.Stop.TheVariants as stop
-use Rattle.log_verdict.specs.BothLogs.{IsLogStop, IsStopOfTwoLogs, ReadsAfterOrders, ReadsLogs, ReadsTrades, StaysWithin, StaysWithinAt}
+use Rattle.log_verdict.specs.BothLogs.{GivesOfRecords, GivesOfTrades, IsUnreadOfTwoLogs, IsUnreadTrades, no_records}
+use Rattle.log_verdict.specs.BothLogs.{ReadsAfterOrders, ReadsBadPlace, ReadsLogs, ReadsTrades, ReadsWithin, ReadsWithinAt}
+use Rattle.log_verdict.specs.Collecting.{IsUnread}
 use Rattle.log_verdict.specs.LogVerdicts.{records_of_order_log, trades_of_trade_log}
-use Rattle.log_verdict.specs.Steps.{Reading, IsReadFault, IsTooLong, KeepsShelfLogs, EndsWithin, FaultsNeverFall, step_of, IsReadAs}
-use Rattle.symbol_offences.specs.declared.symbol_logs.SymbolLogs.{SymbolLogs}
-use Rattle.symbol_offences.specs.ReadingLogs.{AnswersUnread}
+use Rattle.log_verdict.specs.Steps.{Reading, IsReadFault, IsTooLong, KeepsShelfLogs, EndsWithin, FaultsNeverFall, step_of, IsReadAs, IsUntouched}
 
 -- a reading of the whole, from the reading of a part before and one after
 abbrev pub joined : Reading → Reading → Reading
@@ -91,46 +93,77 @@ module _ (first second : Reading) (after : Follows first second) where
         (subst (λ (o : Option (List ℕ)). IsSomeAnd o (λ bytes. second.limit < length bytes)) (after.logs Trades name) (is.longer (after.tells ∙ t)));
   }
 
-  -- what is known after the order log is known of both
-  pub gives-after : {T : Type 0} (P : List OrderRecord → Result (List TradeRecord) Finding → T → Type 0) (B : Which → BadPlace → T → Type 0) (orders trades : Source) (entries : List OrderRecord) (result : Result T Stop)
+  -- the order log, of these records, stays so while the trade log is read
+  stays-good : (orders : Source) (entries : List OrderRecord) → IsReadAs first Orders orders.name.now (λ bytes. records_of_order_log orders.form bytes ≡ Ok entries)
+      → IsReadAs (joined first second) Orders orders.name.now (λ bytes. IsOk (records_of_order_log orders.form bytes))
+  stays-good orders entries read =
+      stays-read orders.name.now (λ bytes. records_of_order_log orders.form bytes ≡ Ok entries) (λ bytes. IsOk (records_of_order_log orders.form bytes)) (λ bytes e. rw e refl) read
+
+  -- what holds of the trade log after these records of the order log holds of both
+  reads-after : (orders trades : Source) (entries : List OrderRecord) (P : List OrderRecord → Result (List TradeRecord) Finding → Type 0) (B : Which → BadPlace → Type 0)
       → IsReadAs first Orders orders.name.now (λ bytes. records_of_order_log orders.form bytes ≡ Ok entries)
-      → MatchResult result (λ t. ReadsTrades second trades (λ paired. P entries paired t) (λ bad. B Trades bad t)) (IsLogStop second Trades trades.name.now)
-      → MatchResult result (λ t. ReadsLogs (joined first second) orders trades (λ es paired. P es paired t) (λ log bad. B log bad t)) (IsStopOfTwoLogs (joined first second) orders trades)
-  gives-after P B orders trades entries (Ok t) read is =
-      stays-read orders.name.now (λ bytes. records_of_order_log orders.form bytes ≡ Ok entries) (λ bytes. ReadsAfterOrders (joined first second) trades (λ es paired. P es paired t) (λ log bad. B log bad t) (records_of_order_log orders.form bytes))
+      → ReadsTrades second trades (P entries) (B Trades) → ReadsLogs (joined first second) orders trades P B
+  reads-after orders trades entries P B read is =
+      stays-read orders.name.now (λ bytes. records_of_order_log orders.form bytes ≡ Ok entries) (λ bytes. ReadsAfterOrders (joined first second) trades P B (records_of_order_log orders.form bytes))
       (λ bytes e. rw e (read-after trades.name.now _ is)) read
-  gives-after P B orders trades entries (Err (stop.ReadFault log)) read (is, fault) =
-      rw is (record {
-        in_turn = stays-read orders.name.now (λ bytes. records_of_order_log orders.form bytes ≡ Ok entries) (λ bytes. IsOk (records_of_order_log orders.form bytes)) (λ bytes e. rw e refl) read;
-        fault = fault-after trades.name.now fault;
-      })
-  gives-after P B orders trades entries (Err (stop.TooLong log)) read (is, long) =
-      rw is (record {
-        in_turn = stays-read orders.name.now (λ bytes. records_of_order_log orders.form bytes ≡ Ok entries) (λ bytes. IsOk (records_of_order_log orders.form bytes)) (λ bytes e. rw e refl) read;
-        long = long-after trades.name.now long;
-      })
-  gives-after P B orders trades entries (Err stop.Memory) read is = tt
+
+  -- what is known after the order log is known of both
+  pub gives-after : {T : Type 0} (P : List OrderRecord → Result (List TradeRecord) Finding → T → Type 0) (orders trades : Source) (entries : List OrderRecord) (result : Result T NoRecords)
+      → IsReadAs first Orders orders.name.now (λ bytes. records_of_order_log orders.form bytes ≡ Ok entries)
+      → GivesOfTrades (P entries) second trades result → GivesOfRecords P (joined first second) orders trades result
+  gives-after P orders trades entries (Ok t) read is =
+      reads-after orders trades entries (λ es paired. P es paired t) (λ log bad. ⊥) read is
+  gives-after P orders trades entries (Err (norecords.Malformed log bad)) read (is, said) =
+      reads-after orders trades entries (λ es paired. ⊥) (λ which place. (which ≡ log) × (place ≡ bad)) read
+      (record { bytes = said.bytes; read = said.read; holds = rw said.holds (sym is, refl) })
+  gives-after P orders trades entries (Err (norecords.Stopped (stop.ReadFault log))) read (is, fault) =
+      rw is (record { in_turn = stays-good orders entries read; fault = fault-after trades.name.now fault })
+  gives-after P orders trades entries (Err (norecords.Stopped (stop.TooLong log))) read (is, long) =
+      rw is (record { in_turn = stays-good orders entries read; long = long-after trades.name.now long })
+  gives-after P orders trades entries (Err (norecords.Stopped stop.Memory)) read is = tt
 
   pub later-after : (first.before Orders).faults ≤ (first.after Orders).faults → (second.before Trades).faults ≤ (second.after Trades).faults → FaultsNeverFall (joined first second)
   later-after orders trades Orders = rw after.orders orders
   later-after orders trades Trades = rw (← after.trades) trades
 
   -- where the order log is within the limit, and the trade log stays so
-  pub stays-within : {T : Type 0} (result : Result T Stop) → (first.after Orders).taken ≤ first.limit
-      → ((second.before Trades).taken ≤ second.limit → StaysWithinAt second Trades result) → StaysWithin (joined first second) result
+  pub stays-within : {T : Type 0} (result : Result T NoRecords) → (first.after Orders).taken ≤ first.limit
+      → ((second.before Trades).taken ≤ second.limit → ReadsWithinAt second Trades result) → ReadsWithin (joined first second) result
   stays-within result orders stays begins =
       ⊎_elim (λ stop. inl stop)
       (λ trades. inr (ends-within (joined first second) (subst (λ (s : Slot). s.taken ≤ first.limit) (sym after.orders) orders)
       (subst (λ (n : ℕ). (second.after Trades).taken ≤ n) after.limit trades)))
       (stays (subst (λ (n : ℕ). (second.before Trades).taken ≤ n) (sym after.limit) (subst (λ (s : Slot). s.taken ≤ first.limit) (sym after.trades) (begins Trades))))
 
--- where the order log was not read into records
-pub unread-within : (r : Reading) (why : Unread) (result : Result SymbolLogs Stop) → AnswersUnread Orders why result → ((why ≡ unread.TooLong → ⊥) → (r.after Orders).taken ≤ r.limit)
-    → r.after Trades ≡ r.before Trades → StaysWithin r result
-unread-within r (unread.Bad bad) result is within same begins = inr (ends-within r (within (λ e. cc)) (subst (λ (s : Slot). s.taken ≤ r.limit) (sym same) (begins Trades)))
-unread-within r unread.ReadFault result is within same begins = inr (ends-within r (within (λ e. cc)) (subst (λ (s : Slot). s.taken ≤ r.limit) (sym same) (begins Trades)))
-unread-within r unread.TooLong result is within same begins = inl (rw is tt)
-unread-within r unread.Memory result is within same begins = inr (ends-within r (within (λ e. cc)) (subst (λ (s : Slot). s.taken ≤ r.limit) (sym same) (begins Trades)))
+-- where the order log was not read into records, after which the trade log is left alone
+pub orders-unread : (r : Reading) (orders trades : Source) (why : Unread) → IsUnread (records_of_order_log orders.form) r Orders orders.name.now why → IsUntouched r Trades
+    → IsUnreadOfTwoLogs r orders trades (no_records Orders why)
+orders-unread r orders trades (unread.Bad bad) is same = record { bytes = is.bytes; read = is.read; holds = rw is.holds ((refl, refl), same) }
+orders-unread r orders trades unread.ReadFault is same = record { in_turn = same; fault = is }
+orders-unread r orders trades unread.TooLong is same = record { in_turn = same; long = is }
+orders-unread r orders trades unread.Memory is same = tt
+
+-- where the trade log was not
+pub trades-unread : (r : Reading) (trades : Source) (why : Unread) → IsUnread (trades_of_trade_log trades.form) r Trades trades.name.now why → IsUnreadTrades r trades (no_records Trades why)
+trades-unread r trades (unread.Bad bad) is = (refl, is)
+trades-unread r trades unread.ReadFault is = (refl, is)
+trades-unread r trades unread.TooLong is = (refl, is)
+trades-unread r trades unread.Memory is = tt
+
+-- then the slots stay within the limit, unless a log is too long
+pub orders-within : {T : Type 0} (r : Reading) (why : Unread) (result : Result T NoRecords) → result ≡ Err (no_records Orders why) → ((why ≡ unread.TooLong → ⊥) → (r.after Orders).taken ≤ r.limit)
+    → IsUntouched r Trades → ReadsWithin r result
+orders-within r (unread.Bad bad) result is within same begins = rw is (inr (ends-within r (within (λ e. cc)) (subst (λ (s : Slot). s.taken ≤ r.limit) (sym same) (begins Trades))))
+orders-within r unread.ReadFault result is within same begins = rw is (inr (ends-within r (within (λ e. cc)) (subst (λ (s : Slot). s.taken ≤ r.limit) (sym same) (begins Trades))))
+orders-within r unread.TooLong result is within same begins = rw is (inl tt)
+orders-within r unread.Memory result is within same begins = rw is (inr (ends-within r (within (λ e. cc)) (subst (λ (s : Slot). s.taken ≤ r.limit) (sym same) (begins Trades))))
+
+pub trades-within : {T : Type 0} (r : Reading) (why : Unread) (result : Result T NoRecords) → result ≡ Err (no_records Trades why) → ((why ≡ unread.TooLong → ⊥) → (r.after Trades).taken ≤ r.limit)
+    → ReadsWithinAt r Trades result
+trades-within r (unread.Bad bad) result is within = rw is (inr (within (λ e. cc)))
+trades-within r unread.ReadFault result is within = rw is (inr (within (λ e. cc)))
+trades-within r unread.TooLong result is within = rw is (inl tt)
+trades-within r unread.Memory result is within = rw is (inr (within (λ e. cc)))
 
 -- what follows of records and of a bad place follows of logs that were read
 pub reads-on : (r : Reading) (orders trades : Source) (P P' : List OrderRecord → Result (List TradeRecord) Finding → Type 0) (B B' : Which → BadPlace → Type 0)
@@ -145,3 +178,15 @@ reads-on r orders trades P P' B B' records bads is = record { bytes = is.bytes; 
     of-orders : (said : Result (List OrderRecord) BadPlace) → ReadsAfterOrders r trades P B said → ReadsAfterOrders r trades P' B' said
     of-orders (Ok entries) holds = record { bytes = holds.bytes; read = holds.read; holds = of-trades entries (trades_of_trade_log trades.form holds.bytes) holds.holds }
     of-orders (Err bad) holds = (bads Orders bad holds.0, holds.1)
+
+-- what follows of records follows of two logs that were read into records
+pub reads-good : (r : Reading) (orders trades : Source) (P P' : List OrderRecord → Result (List TradeRecord) Finding → Type 0) (B : Which → BadPlace → Type 0)
+    → ((entries : List OrderRecord) (paired : Result (List TradeRecord) Finding) → P entries paired → P' entries paired)
+    → ReadsLogs r orders trades P (λ log bad. ⊥) → ReadsLogs r orders trades P' B
+reads-good r orders trades P P' B so is = reads-on r orders trades P P' (λ log bad. ⊥) B so (λ log bad never. absurd never) is
+
+-- what holds of a first bad place holds of two logs that have it
+pub reads-bad : (r : Reading) (orders trades : Source) (P : List OrderRecord → Result (List TradeRecord) Finding → Type 0) (B : Which → BadPlace → Type 0) (log : Which) (bad : BadPlace) → B log bad
+    → ReadsBadPlace r orders trades log bad → ReadsLogs r orders trades P B
+reads-bad r orders trades P B log bad holds is =
+    reads-on r orders trades (λ entries paired. ⊥) P (λ which place. (which ≡ log) × (place ≡ bad)) B (λ entries paired never. absurd never) (λ which place same. rw (same.0, same.1) holds) is
