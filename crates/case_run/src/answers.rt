@@ -32,9 +32,9 @@ use std::alloc::Global;
 
 /// What a command answers and writes.
 #[derive(Drop)]
-pub(crate) struct CaseAnswer {
-    pub(crate) status: CaseStatus,
-    pub(crate) text: Vec<u8>,
+pub struct CaseAnswer {
+    pub status: CaseStatus,
+    pub text: Vec<u8>,
 }
 
 impl Filing {
@@ -52,7 +52,7 @@ impl Filing {
 }
 
 /// The offence of a finding.
-fn offence_of(finding: &Finding) -> Offence
+pub fn offence_of(finding: &Finding) -> Offence
     ensures { result ≡ spec.offence_of finding.now }
 {
     Offence {
@@ -72,7 +72,7 @@ fn case_text(alloc: Global, case: &Case) -> Result<Vec<u8>, NoMemory>
 }
 
 /// That a label is known, and the line of the case that has it.
-fn known_text(alloc: Global, known: &Case) -> Result<Vec<u8>, NoMemory>
+pub fn known_text(alloc: Global, known: &Case) -> Result<Vec<u8>, NoMemory>
     ensures { IfOk result (λ text. text.items ≡ known_line ++ case_line known.now) }
 {
     let mut text = Vec::new(alloc);
@@ -162,7 +162,7 @@ fn file_verdict<B: Keeper>(
 }
 
 /// The line of a bad place.
-fn malformed_text(alloc: Global, log: Which, bad: &BadPlace) -> Result<Vec<u8>, NoMemory>
+pub fn malformed_text(alloc: Global, log: Which, bad: &BadPlace) -> Result<Vec<u8>, NoMemory>
     ensures { IfOk result (λ text. text.items ≡ malformed_line log bad.now) }
 {
     report_text(alloc, &Verdict::Malformed { log, bad: *bad })

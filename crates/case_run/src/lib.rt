@@ -9,7 +9,7 @@
 //! of all three.
 #![tactic(auto)]
 
-mod answers;
+pub mod answers;
 pub mod books;
 mod commands;
 pub mod halts;

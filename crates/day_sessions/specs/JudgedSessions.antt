@@ -4,6 +4,7 @@ use Rattle.audit_base.specs.declared.records.OrderRecord.{OrderRecord}
 use Rattle.audit_base.specs.declared.records.TradeRecord.{TradeRecord}
 use Rattle.day_logs.specs.DayAnswers.{DayMeaning}
 use Rattle.session_audit.specs.declared.verdicts.Session.{Session}
+use Rattle.day_sessions.specs.declared.questions.SessionQuestion.{SessionQuestion}
 use Rattle.day_sessions.specs.SymbolSessions.{IsSymbolSession, session_told}
 use Rattle.day_symbols.specs.Kept.{AreForEach}
 use Rattle.day_symbols.specs.Shares.{DayShare, symbols_in}
@@ -63,3 +64,7 @@ abbrev pub AreSessionsOfDay : List Phase → Bool → FurtherChecks → DayShare
 AreSessionsOfDay phases table checks share entries judged trades =
     AreJudgedSessions phases table checks entries trades
     (symbols_in share (symbols_of_day entries trades)) judged
+
+-- what they mean where this is asked of the day
+abbrev pub AreSessionsAsked : SessionQuestion → DayMeaning
+AreSessionsAsked q = AreSessionsOfDay q.phases.now q.table q.checks q.share

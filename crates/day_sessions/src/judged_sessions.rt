@@ -5,31 +5,27 @@ ghost use Rattle.day_sessions.specs.JudgedSessions.{AreJudgedSessionsOfShare};
 ghost use Rattle.record_verdict.specs.declared.scopes.Admission.TheVariants.{All as AdmitsAll};
 ghost use Rattle.session_audit.specs.Phases.{ArePhases};
 
+use crate::questions::SessionQuestion;
 use crate::symbol_sessions::judge_symbol;
 use audit_base::faults::NoMemory;
 use day_records::day_trades::EndedTrades;
-use day_symbols::shares::DayShare;
 use day_verdicts::day_verdicts::JudgedSymbols;
-use further_checks::findings::FurtherChecks;
-use session_audit::phases::Phase;
 use std::alloc::Global;
 
 /// The sessions of the symbols of a share, in their order: how many there are, and their lines,
-/// each with its symbol before it. `table` asks for the tables of symbols that conform. A symbol
-/// that conforms is rejected by the first finding of the checks that are asked for. The orders
-/// and deals of a symbol are made when it is judged, and its memory is freed before the next is
-/// judged; the times of its trades only where a check is asked for.
+/// each with its symbol before it. A symbol that conforms is rejected by the first finding of the
+/// checks that are asked for. The orders and deals of a symbol are made when it is judged, and its
+/// memory is freed before the next is judged; the times of its trades only where a check is asked
+/// for.
 pub fn judge_sessions(
     alloc: Global,
-    phases: &[Phase],
-    table: bool,
-    checks: FurtherChecks,
-    share: DayShare,
+    question: &SessionQuestion<'_>,
     ended: EndedTrades,
 ) -> Result<JudgedSymbols, NoMemory>
-    requires phases { ArePhases phases.now }
-    requires fits_places { DayTradesFitPlaces share AdmitsAll ended }
-    ensures { IfOk result (AreJudgedSessionsOfShare phases.now table checks share ended) }
+    requires phases { ArePhases question.now.phases.now }
+    requires fits_places { DayTradesFitPlaces question.now.share AdmitsAll ended }
+    ensures { let q = question.now in
+        IfOk result (AreJudgedSessionsOfShare q.phases.now q.table q.checks q.share ended) }
 {
     let EndedTrades {
         symbols,
@@ -41,18 +37,16 @@ pub fn judge_sessions(
     let mut judged = JudgedSymbols::none(alloc);
     let mut place: usize = 0;
     for symbol_records in kept {
-        let Some(symbol) = share.symbol_at(&symbols, place) else {
+        let Some(symbol) = question.share.symbol_at(&symbols, place) else {
             unreachable!();
         };
-        let times = symbol_records.trade_times(alloc, checks.any())?;
+        let times = symbol_records.trade_times(alloc, question.checks.any())?;
         let symbol_trades = symbol_records.resolve(alloc, seed, admission)?;
         judge_symbol(
             alloc,
             &mut judged,
             symbol,
-            phases,
-            table,
-            checks,
+            question,
             &times,
             symbol_trades,
             count,

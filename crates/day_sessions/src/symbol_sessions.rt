@@ -6,16 +6,15 @@ ghost use Rattle.day_verdicts.specs.DayVerdicts.{HasRoomForOne};
 ghost use Rattle.record_verdict.specs.BeforeRule.{IsJudgeable};
 ghost use Rattle.session_audit.specs.Phases.{ArePhases};
 
+use crate::questions::SessionQuestion;
 use audit_base::faults::NoMemory;
 use audit_base::names::Name;
 use audit_base::stamps::Stamp;
 use day_records::symbol_trades::SymbolTrades;
 use day_verdicts::day_verdicts::JudgedSymbols;
 use day_verdicts::symbol_reports::{SymbolReport, report_after};
-use further_checks::findings::FurtherChecks;
 use further_checks::laws::nothing_is_found_unasked;
 use record_verdict::before_rule::BeforeRule;
-use session_audit::phases::Phase;
 use session_audit::verdicts::session_after;
 use std::alloc::Global;
 
@@ -23,24 +22,22 @@ use std::alloc::Global;
 fn session_report(
     alloc: Global,
     symbol: &Name,
-    phases: &[Phase],
-    table: bool,
-    checks: FurtherChecks,
+    question: &SessionQuestion<'_>,
     given: &BeforeRule,
     times: &[Stamp],
 ) -> Result<SymbolReport, NoMemory>
-    requires phases { ArePhases phases.now }
+    requires phases { ArePhases question.now.phases.now }
     requires judgeable { IsJudgeable given.now }
-    requires timed { HasTimes checks given.now times.now }
-    ensures { IfOk result
-        (TellsSession symbol.now phases.now table checks given.now times.now) }
+    requires timed { HasTimes question.now.checks given.now times.now }
+    ensures { let q = question.now in IfOk result
+        (TellsSession symbol.now q.phases.now q.table q.checks given.now times.now) }
 {
-    let session = session_after(alloc, symbol, phases, table, given)?;
+    let session = session_after(alloc, symbol, question.phases, question.table, given)?;
     let report = SymbolReport {
         accepted: session.conforms,
         text: session.text,
     };
-    report_after(alloc, checks, given, times, report)
+    report_after(alloc, question.checks, given, times, report)
 }
 
 /// Judges one symbol more, whose trades have these times.
@@ -48,21 +45,20 @@ pub(crate) fn judge_symbol(
     alloc: Global,
     judged: &mut JudgedSymbols,
     symbol: &Name,
-    phases: &[Phase],
-    table: bool,
-    checks: FurtherChecks,
+    question: &SessionQuestion<'_>,
     times: &[Stamp],
     symbol_trades: SymbolTrades,
     count: u32,
 ) -> Result<(), NoMemory>
-    requires phases { ArePhases phases.now }
-    requires few { HasFewTimed checks count symbol_trades times.now }
+    requires phases { ArePhases question.now.phases.now }
+    requires few { HasFewTimed question.now.checks count symbol_trades times.now }
     requires room { HasRoomForOne judged.old.counts }
-    ensures { OnOk result (AddsSessionOfSymbol symbol.now phases.now table checks count
+    ensures { let q = question.now in
+        OnOk result (AddsSessionOfSymbol symbol.now q.phases.now q.table q.checks count
         symbol_trades times.now judged.old judged.new) }
 {
     nothing_is_found_unasked();
     let given = symbol_trades.end(count);
-    let report = session_report(alloc, symbol, phases, table, checks, &given, times)?;
+    let report = session_report(alloc, symbol, question, &given, times)?;
     judged.add(symbol, &report)
 }

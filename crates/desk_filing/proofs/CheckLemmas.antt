@@ -14,13 +14,13 @@ use Rattle.case_run.specs.declared.statuses.CaseStatus.{CaseStatus}
 use Rattle.case_run.specs.declared.statuses.CaseStatus.TheVariants as status
 use Rattle.desk_words.specs.declared.requests.DayLogs.{DayLogs}
 use Rattle.digest_keeper.specs.DigestKeepers.{DigestKeeperState, FindsKept}
-use Rattle.digest_keeper.specs.declared.digested.CaseDigests.{CaseDigests}
+use Rattle.log_digests.specs.declared.digests.LogDigests.{LogDigests}
 use Rattle.digest_keeper.specs.declared.digested.KeptCase.{KeptCase}
 use Rattle.desk_filing.specs.Causes.{IsLogInTurn, ReadsGoodLogs, ReadsLogAs, ReadsLogsFor, ReadsLogsUpTo}
 use Rattle.desk_filing.specs.Lines.{no_digest_line}
 use Rattle.desk_filing.specs.Steps.{AnyRecords, ChecksKept, ChecksOrStops, GoesOn, ReadsRecords, StopsReading, TellsOfKept, both_readings}
 use Rattle.desk_filing.specs.Turns.{ChecksCase, ChecksDigests, FilingTurn, IsTurnOfRecords, unfiled_turn}
-use Rattle.desk_filing.specs.declared.answers.FilingAnswer.{FilingAnswer}
+use Rattle.case_run.specs.declared.answers.CaseAnswer.{CaseAnswer}
 use Rattle.desk_filing.specs.declared.requests.FilingCommand.{FilingCommand}
 use Rattle.desk_filing.specs.declared.requests.FilingCommand.TheVariants as command
 use Rattle.desk_filing.specs.declared.requests.FilingRequest.{FilingRequest}
@@ -80,7 +80,7 @@ module _ (first second : Reading) (on : GoesOn first second) (request : FilingRe
   later : (log : Which) → (first.before log).faults ≤ (second.before log).faults
   later log = subst (λ (s : Which → Slot). (first.before log).faults ≤ (s log).faults) (sym on.begins) (on.later log)
 
-  tells_both : (found : Option KeptCase) (answer : FilingAnswer) → TellsOfKept second request found answer → TellsOfKept whole request found answer
+  tells_both : (found : Option KeptCase) (answer : CaseAnswer) → TellsOfKept second request found answer → TellsOfKept whole request found answer
   tells_both found answer is =
       subst (λ (r : Reading). TellsOfKept r request found answer) (sym (same_of first second on)) (record { read = again_for second first.before request.logs answer.status is.read; turn = is.turn })
 
@@ -89,7 +89,7 @@ module _ (first second : Reading) (on : GoesOn first second) (request : FilingRe
       subst (λ (r : Reading). StopsReading r request why) (sym (same_of first second on)) (record { read = again_up_to second first.before later request.logs why is.read; no_keeper = is.no_keeper })
 
   -- a case with digests, which were compared
-  pub checks_compared : (found : Option KeptCase) (result : Result FilingAnswer Halt) → MatchResult result (TellsOfKept second request found) (StopsReading second request) → ChecksKept whole request found result
+  pub checks_compared : (found : Option KeptCase) (result : Result CaseAnswer Halt) → MatchResult result (TellsOfKept second request found) (StopsReading second request) → ChecksKept whole request found result
   checks_compared found (Ok answer) is = tells_both found answer is
   checks_compared found (Err why) is = stops_both why is
 
@@ -102,8 +102,8 @@ module _ (first second : Reading) (on : GoesOn first second) (request : FilingRe
     good_both = subst (λ (r : Reading). ReadsGoodLogs r request.logs) whole_is reads.good
 
     -- an answer of one line about what is on file, or not
-    pub tells_unread : request.command ≡ command.Check → (found : Option KeptCase) (line : List ℕ) (answer : FilingAnswer) → answer.status ≡ status.Refused → answer.text.items ≡ line
-        → ((digests : CaseDigests) (kept : List KeptCase) (turn : FilingTurn) → turn ≡ unfiled_turn kept status.Refused line → ChecksCase digests kept request.label reads.entries reads.paired turn found)
+    pub tells_unread : request.command ≡ command.Check → (found : Option KeptCase) (line : List ℕ) (answer : CaseAnswer) → answer.status ≡ status.Refused → answer.text.items ≡ line
+        → ((digests : LogDigests) (kept : List KeptCase) (turn : FilingTurn) → turn ≡ unfiled_turn kept status.Refused line → ChecksCase digests kept request.label reads.entries reads.paired turn found)
         → TellsOfKept whole request found answer
     tells_unread asked found line answer status_is text_is checks =
         subst (λ (r : Reading). TellsOfKept r request found answer) whole_is (record {
@@ -115,13 +115,13 @@ module _ (first second : Reading) (on : GoesOn first second) (request : FilingRe
               (checks (record { orders = digest_of reads.orders; trades = digest_of reads.trades }) kept (unfiled_turn kept answer.status answer.text.items) (ap₂ (unfiled_turn kept) status_is text_is))));
         })
 
-    pub tells_no_case : request.command ≡ command.Check → (answer : FilingAnswer) → answer.status ≡ status.Refused → answer.text.items ≡ no_case_line request.label → TellsOfKept whole request None answer
+    pub tells_no_case : request.command ≡ command.Check → (answer : CaseAnswer) → answer.status ≡ status.Refused → answer.text.items ≡ no_case_line request.label → TellsOfKept whole request None answer
     tells_no_case asked answer status_is text_is = tells_unread asked None (no_case_line request.label) answer status_is text_is (λ digests kept turn e. e)
 
-    pub tells_no_digest : request.command ≡ command.Check → (kept : KeptCase) → kept.digests ≡ None → (answer : FilingAnswer) → answer.status ≡ status.Refused → answer.text.items ≡ no_digest_line request.label → TellsOfKept whole request (Some kept) answer
+    pub tells_no_digest : request.command ≡ command.Check → (kept : KeptCase) → kept.digests ≡ None → (answer : CaseAnswer) → answer.status ≡ status.Refused → answer.text.items ≡ no_digest_line request.label → TellsOfKept whole request (Some kept) answer
     tells_no_digest asked kept none answer status_is text_is =
         tells_unread asked (Some kept) (no_digest_line request.label) answer status_is text_is
-        (λ digests on_file turn e. subst (λ (d : Option CaseDigests). ChecksDigests digests on_file request.label reads.entries reads.paired turn kept.case d) (sym none) e)
+        (λ digests on_file turn e. subst (λ (d : Option LogDigests). ChecksDigests digests on_file request.label reads.entries reads.paired turn kept.case d) (sym none) e)
 
     -- the keeper did not find
     pub keeper_stops : (old new : DigestKeeperState) (found : KeepFault) → FindsKept old new (Err found) request.label → ChecksOrStops whole old new request (Err (halt_of_keeper found))
@@ -129,11 +129,11 @@ module _ (first second : Reading) (on : GoesOn first second) (request : FilingRe
     keeper_stops old new fault.Memory finds = record { read = tt; stays = finds.stays; fault = λ e. cc }
 
 -- what was found under the label is what is on file, and so it is answered
-pub checks_found : (r : Reading) (request : FilingRequest) (old new : DigestKeeperState) (found : Option KeptCase) (result : Result FilingAnswer Halt) → FindsKept old new (Ok found) request.label → ChecksKept r request found result → ChecksOrStops r old new request result
+pub checks_found : (r : Reading) (request : FilingRequest) (old new : DigestKeeperState) (found : Option KeptCase) (result : Result CaseAnswer Halt) → FindsKept old new (Ok found) request.label → ChecksKept r request found result → ChecksOrStops r old new request result
 checks_found r request old new found (Ok answer) finds is =
     record { read = is.read; stays = finds.stays; turn = λ tells kept has. is.turn tells kept (sym (known_at old.kept kept found request.label finds.known has)) }
 checks_found r request old new found (Err why) finds is = record { read = is.read; stays = finds.stays; fault = λ e. absurd (is.no_keeper e) }
 
 -- no case is on file
-pub checks_none : (r : Reading) (request : FilingRequest) (old new : DigestKeeperState) (answer : FilingAnswer) → FindsKept old new (Ok None) request.label → TellsOfKept r request None answer → ChecksOrStops r old new request (Ok answer)
+pub checks_none : (r : Reading) (request : FilingRequest) (old new : DigestKeeperState) (answer : CaseAnswer) → FindsKept old new (Ok None) request.label → TellsOfKept r request None answer → ChecksOrStops r old new request (Ok answer)
 checks_none r request old new answer finds is = checks_found r request old new None (Ok answer) finds is

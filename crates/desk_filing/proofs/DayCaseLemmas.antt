@@ -13,7 +13,7 @@ use Rattle.day_symbols.specs.Shares.{symbols_in, whole_day}
 use Rattle.day_symbols.specs.Symbols.{symbols_of_day}
 use Rattle.day_records.specs.declared.day_trades.EndedTrades.{EndedTrades}
 use Rattle.day_verdicts.specs.VerdictLists.{HasTakenShare, TakesVerdict}
-use Rattle.digest_keeper.specs.declared.digested.CaseDigests.{CaseDigests}
+use Rattle.log_digests.specs.declared.digests.LogDigests.{LogDigests}
 use Rattle.digest_keeper.specs.declared.digested.DigestedCase.{DigestedCase}
 use Rattle.desk_filing.specs.Days.{HasDayTaken, IsDayOf, IsJudgedAs, JudgesDay, KeepsCase, StaysOfDay, label_if_short}
 use Rattle.desk_filing.specs.Turns.{cases_of_day, digested_case, first_long, label_of_symbol}
@@ -44,7 +44,7 @@ short_label label symbol text named signed is =
     ∙ name_held (nat_le 1 (length symbol)) (nat_le (length symbol) 64) (list_all is_name_byte symbol) signed)
 
 -- one symbol more comes last
-cases_more : (label : List ℕ) (the_rule : Rule) (digests : CaseDigests) (symbols : List (List ℕ)) (verdicts : List Verdict) (symbol : List ℕ) (v : Verdict) → length verdicts ≡ length symbols
+cases_more : (label : List ℕ) (the_rule : Rule) (digests : LogDigests) (symbols : List (List ℕ)) (verdicts : List Verdict) (symbol : List ℕ) (v : Verdict) → length verdicts ≡ length symbols
     → cases_of_day label the_rule digests (symbols ++ symbol ∷ []) (verdicts ++ v ∷ []) ≡ cases_of_day label the_rule digests symbols verdicts ++ digested_case (label_of_symbol label symbol) the_rule digests symbol v ∷ []
 cases_more label the_rule digests [] [] symbol v same = refl
 cases_more label the_rule digests [] (w ∷ ws) symbol v same = absurd (omega (arith, same))
@@ -68,7 +68,7 @@ long_is_so false text e = absurd (cc)
 no_symbol : (long : Option (List ℕ)) (symbol : List ℕ) → long ≡ Some symbol → long ≡ None → ⊥
 no_symbol long symbol some none = cc
 
-module _ (label : List ℕ) (the_rule : Rule) (digests : CaseDigests) (old : DayCases) (symbols : List (List ℕ)) (verdicts : List Verdict) (symbol : List ℕ) (v : Verdict) (so : IsDayOf label the_rule digests old symbols verdicts) where
+module _ (label : List ℕ) (the_rule : Rule) (digests : LogDigests) (old : DayCases) (symbols : List (List ℕ)) (verdicts : List Verdict) (symbol : List ℕ) (v : Verdict) (so : IsDayOf label the_rule digests old symbols verdicts) where
   abbrev is_long : List ℕ → Bool
   is_long s = nat_lt 64 (length (label_of_symbol label s))
 
@@ -124,7 +124,7 @@ kept_so : (first old new : DayCases) (made : Option (List ℕ)) (symbol : List �
 kept_so first old new (Some made) symbol v none short keeps symbols verdicts so =
     gets_case first.label first.rule first.digests old symbols verdicts symbol v so new keeps.0 none made (subst (λ (l : List ℕ). Some made ≡ label_if_short l symbol) so.label_is short) keeps.1
     (keeps.2
-    ∙ ap (λ (d : CaseDigests). old.cases.items ++ digested_case made old.rule d symbol v ∷ []) so.digests_are
+    ∙ ap (λ (d : LogDigests). old.cases.items ++ digested_case made old.rule d symbol v ∷ []) so.digests_are
     ∙ ap (λ (r : Rule). old.cases.items ++ digested_case made r first.digests symbol v ∷ []) so.rule_is)
 kept_so first old new None symbol v none long keeps symbols verdicts so =
     gets_long first.label first.rule first.digests old symbols verdicts symbol v so new keeps.0 none keeps.1 (subst (λ (l : List ℕ). None ≡ label_if_short l symbol) so.label_is long)
@@ -146,7 +146,7 @@ pub day_passes : (old : DayCases) → is_some old.long ≡ true → (symbol : Li
 day_passes old some symbol v first = passed_so old.long old refl some symbol v first
 
 -- a day of no symbols was handed nothing
-pub day_begins : (label : List ℕ) (the_rule : Rule) (digests : CaseDigests) (day : DayCases) → IsDayOf label the_rule digests day [] [] → HasDayTaken day day [] []
+pub day_begins : (label : List ℕ) (the_rule : Rule) (digests : LogDigests) (day : DayCases) → IsDayOf label the_rule digests day [] [] → HasDayTaken day day [] []
 day_begins label the_rule digests day is = record {
   label_is = refl;
   rule_is = refl;
@@ -157,7 +157,7 @@ day_begins label the_rule digests day is = record {
 }
 
 -- what the cases of all symbols come to is what the day comes to
-pub day_judges : (label : List ℕ) (the_rule : Rule) (digests : CaseDigests) (ended : EndedTrades) (first day : DayCases) → IsDayOf label the_rule digests first [] [] → HasTakenShare (HasDayTaken first) the_rule whole_day ended day
+pub day_judges : (label : List ℕ) (the_rule : Rule) (digests : LogDigests) (ended : EndedTrades) (first day : DayCases) → IsDayOf label the_rule digests first [] [] → HasTakenShare (HasDayTaken first) the_rule whole_day ended day
     → (made : Judged) → IsJudgedAs day made → JudgesDay label the_rule digests ended made
 day_judges label the_rule digests ended first day begun taken made is = λ entries trades has.
     let after = taken entries trades has in
@@ -167,5 +167,5 @@ day_judges label the_rule digests ended first day begun taken made is = λ entri
       is = is label the_rule digests (symbols_in whole_day (symbols_of_day entries trades)) after.verdicts
           (subst (λ (l : List ℕ). IsDayOf l the_rule digests day (symbols_in whole_day (symbols_of_day entries trades)) after.verdicts) begun.label_is
           (subst (λ (r : Rule). IsDayOf first.label r digests day (symbols_in whole_day (symbols_of_day entries trades)) after.verdicts) begun.rule_is
-          (subst (λ (d : CaseDigests). IsDayOf first.label first.rule d day (symbols_in whole_day (symbols_of_day entries trades)) after.verdicts) begun.digests_are after.has)));
+          (subst (λ (d : LogDigests). IsDayOf first.label first.rule d day (symbols_in whole_day (symbols_of_day entries trades)) after.verdicts) begun.digests_are after.has)));
     }

@@ -21,14 +21,14 @@ use Rattle.day_symbols.specs.Shares.{whole_day}
 use Rattle.day_records.specs.DayTrades.{HasTradesOf}
 use Rattle.day_records.specs.declared.day_trades.EndedTrades.{EndedTrades}
 use Rattle.desk_words.specs.declared.requests.DayLogs.{DayLogs}
-use Rattle.digest_keeper.specs.declared.digested.CaseDigests.{CaseDigests}
+use Rattle.log_digests.specs.declared.digests.LogDigests.{LogDigests}
 use Rattle.digest_keeper.specs.declared.digested.KeptCase.{KeptCase}
 use Rattle.desk_filing.specs.Causes.{ReadsLogsFor}
 use Rattle.desk_filing.specs.Days.{JudgesDay, JudgesGiven, JudgesWithout, TellsUnpaired}
 use Rattle.desk_filing.specs.Judging.{TellsBadPlace}
 use Rattle.desk_filing.specs.Steps.{JudgesLogs, NamesLogs, ReadsJudged, ReadsBadPlace, ReadsRecords, ReadsRefusal}
 use Rattle.desk_filing.specs.Turns.{FilesDayOrNone, FilingTurn, IsFilingTurn, IsTurnOfRecords, cases_of_day, day_turn, filed_turn, symbols_of_whole_day, unfiled_turn}
-use Rattle.desk_filing.specs.declared.answers.FilingAnswer.{FilingAnswer}
+use Rattle.case_run.specs.declared.answers.CaseAnswer.{CaseAnswer}
 use Rattle.desk_filing.specs.declared.answers.Judged.{Judged}
 use Rattle.desk_filing.specs.declared.answers.Judged.TheVariants as judged
 use Rattle.desk_filing.specs.declared.requests.FilingCommand.{FilingCommand}
@@ -48,12 +48,12 @@ use Rattle.log_verdict.specs.BothLogs.{IsUnreadOfTwoLogs, ReadsLogs, ReadsWithin
 use Rattle.record_verdict.specs.Scopes.{admission_of}
 
 -- The digests are those that the shelf took of both logs.
-pub record TakesDigests (r : Reading) (logs : DayLogs) (digests : CaseDigests) : Type 0 where
+pub record TakesDigests (r : Reading) (logs : DayLogs) (digests : LogDigests) : Type 0 where
   pub of_orders : IsDigestAtEnd r.tells (r.log_of Orders logs.orders) (r.after Orders) digests.orders
   pub of_trades : IsDigestAtEnd r.tells (r.log_of Trades logs.trades) (r.after Trades) digests.trades
 
 -- they were taken after the reading, of a shelf that tells as before and has the same logs
-pub takes_digests : (r : Reading) (logs : DayLogs) (digests : CaseDigests) (told : Bool) (log_of : Which → List ℕ → Option (List ℕ)) → told ≡ r.tells → ((w : Which) (n : List ℕ) → log_of w n ≡ r.log_of w n)
+pub takes_digests : (r : Reading) (logs : DayLogs) (digests : LogDigests) (told : Bool) (log_of : Which → List ℕ → Option (List ℕ)) → told ≡ r.tells → ((w : Which) (n : List ℕ) → log_of w n ≡ r.log_of w n)
     → IsDigestAtEnd told (log_of Orders logs.orders) (r.after Orders) digests.orders → IsDigestAtEnd told (log_of Trades logs.trades) (r.after Trades) digests.trades → TakesDigests r logs digests
 takes_digests r logs digests told log_of is_told same first second = record {
   of_orders = λ tells started at_end. ap (option_map digest_of) (sym (same Orders logs.orders)) ∙ first (is_told ∙ tells) started at_end;
@@ -84,12 +84,12 @@ module _ (r : Reading) (request : FilingRequest) (orders trades : Source) (names
       (subst (λ (c : FilingCommand). IsTurnOfRecords (record { orders = digest_of reads.orders; trades = digest_of reads.trades }) kept request.label c turn reads.entries reads.paired) (sym asked)
       (subst (λ (p : Result (List TradeRecord) Finding). FilesDayOrNone (record { orders = digest_of reads.orders; trades = digest_of reads.trades }) kept request.label the_rule reads.entries p turn) (sym same) is))
 
-  module _ (ended : EndedTrades) (reads : ReadsRecords r request.logs (On (before_rule.Read ended))) (digests : CaseDigests) (takes : TakesDigests r request.logs digests) where
+  module _ (ended : EndedTrades) (reads : ReadsRecords r request.logs (On (before_rule.Read ended))) (digests : LogDigests) (takes : TakesDigests r request.logs digests) where
     same_digests : r.tells ≡ true → digests ≡ record { orders = digest_of reads.orders; trades = digest_of reads.trades }
     same_digests tells =
         let first : digests.orders ≡ digest_of reads.orders = one_digest (r.log_of Orders request.logs.orders) reads.orders digests.orders (reads.orders_known tells) (takes.of_orders tells (reads.good Orders).started (reads.good Orders).at_end) in
         let second : digests.trades ≡ digest_of reads.trades = one_digest (r.log_of Trades request.logs.trades) reads.trades digests.trades (reads.trades_known tells) (takes.of_trades tells (reads.good Trades).started (reads.good Trades).at_end) in
-        ap₂ {C = CaseDigests} (λ a b. record { orders = a; trades = b }) first second
+        ap₂ {C = LogDigests} (λ a b. record { orders = a; trades = b }) first second
 
     -- the cases of the records that the day has
     by_records : (given : Judged) → JudgesDay request.label the_rule digests ended given → (records : List TradeRecord) → reads.paired ≡ Ok records → HasTradesOf whole_day (admission_of the_rule) reads.entries ended records → ReadsJudged r request given
@@ -102,7 +102,7 @@ module _ (r : Reading) (request : FilingRequest) (orders trades : Source) (names
                 verdicts = is.verdicts;
                 are = is.are;
                 is =
-                    ap (filed_turn kept) (is.is.1 ∙ ap (λ (d : CaseDigests). cases_of_day request.label the_rule d (symbols_of_whole_day reads.entries records) is.verdicts) (same_digests tells))
+                    ap (filed_turn kept) (is.is.1 ∙ ap (λ (d : LogDigests). cases_of_day request.label the_rule d (symbols_of_whole_day reads.entries records) is.verdicts) (same_digests tells))
                     ∙ ap (λ (long : Option (List ℕ)). day_turn kept long (cases_of_day request.label the_rule (record { orders = digest_of reads.orders; trades = digest_of reads.trades }) (symbols_of_whole_day reads.entries records) is.verdicts)) (sym is.is.0);
               });
         }
@@ -126,7 +126,7 @@ module _ (r : Reading) (request : FilingRequest) (orders trades : Source) (names
     by_paired given judges (Err finding) same has = absurd has
 
   -- the verdicts on its symbols
-  judges_read : (ended : EndedTrades) (digests : CaseDigests) → TakesDigests r request.logs digests → (given : Judged) → JudgesDay request.label the_rule digests ended given
+  judges_read : (ended : EndedTrades) (digests : LogDigests) → TakesDigests r request.logs digests → (given : Judged) → JudgesDay request.label the_rule digests ended given
       → AreRead (before_rule.Read ended) → ReadsJudged r request given
   judges_read ended digests takes given judges reads = ⊎_elim
       (λ records. by_paired ended records digests takes given judges records.paired refl records.holds)
@@ -134,7 +134,7 @@ module _ (r : Reading) (request : FilingRequest) (orders trades : Source) (names
       (either (before_rule.Read ended) reads)
 
   -- its reports do not pair
-  judges_unpaired : (finding : Finding) (answer : FilingAnswer) → TellsUnpaired finding answer → AreRead (before_rule.Unpaired finding) → ReadsRefusal r request answer
+  judges_unpaired : (finding : Finding) (answer : CaseAnswer) → TellsUnpaired finding answer → AreRead (before_rule.Unpaired finding) → ReadsRefusal r request answer
   judges_unpaired finding answer tells_finding reads = ⊎_elim
       (λ records. record {
         read = subst (ReadsLogsFor r request.logs) (sym tells_finding.status_is) records.good;
@@ -146,7 +146,7 @@ module _ (r : Reading) (request : FilingRequest) (orders trades : Source) (names
       (either (before_rule.Unpaired finding) reads)
 
   -- a log is not in its grammar
-  judges_bad : (log : Which) (bad : BadPlace) (answer : FilingAnswer) → TellsBadPlace (verdict.Malformed log bad) answer
+  judges_bad : (log : Which) (bad : BadPlace) (answer : CaseAnswer) → TellsBadPlace (verdict.Malformed log bad) answer
       → ReadsLogs r orders trades (λ entries paired. ⊥) (λ which place. (which ≡ log) × (place ≡ bad)) → ReadsRefusal r request answer
   judges_bad log bad answer tells_bad reads = ⊎_elim
       (λ records. absurd records.holds)
@@ -160,7 +160,7 @@ module _ (r : Reading) (request : FilingRequest) (orders trades : Source) (names
       (reads_either r request.logs orders trades names (λ entries paired. ⊥) (λ which place. (which ≡ log) × (place ≡ bad)) reads)
 
   -- what the logs come to
-  pub judges_given : (given : DayBeforeRule) (digests : CaseDigests) → TakesDigests r request.logs digests → (made : Judged) → JudgesGiven request.label the_rule digests given made → AreRead given
+  pub judges_given : (given : DayBeforeRule) (digests : LogDigests) → TakesDigests r request.logs digests → (made : Judged) → JudgesGiven request.label the_rule digests given made → AreRead given
       → ReadsJudged r request made
   judges_given (before_rule.Read ended) digests takes made judges reads = judges_read ended digests takes made judges reads
   judges_given (before_rule.Unpaired finding) digests takes (judged.Cases cases) judges reads = absurd judges

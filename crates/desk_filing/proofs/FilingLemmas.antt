@@ -16,7 +16,7 @@ use Rattle.desk_filing.specs.DigestOpeners.{DigestOpenerState, IsDatabaseOpened,
 use Rattle.desk_filing.specs.Runs.{NeedsDatabase, filing_call, missing_database}
 use Rattle.desk_filing.specs.Steps.{ChecksOrStops, DecidesRequest, FilesOrStops, ReadsCases, ReadsRefusal, StopsReading}
 use Rattle.desk_filing.specs.Turns.{IsFilingTurn, filed_turn, filed_turn_by, first_known}
-use Rattle.desk_filing.specs.declared.answers.FilingAnswer.{FilingAnswer}
+use Rattle.case_run.specs.declared.answers.CaseAnswer.{CaseAnswer}
 use Rattle.desk_filing.specs.declared.opener.Missing.{Missing}
 use Rattle.desk_filing.specs.declared.opener.Missing.TheVariants.{Make, Refuse}
 use Rattle.desk_filing.specs.declared.requests.FilingCommand.TheVariants as command
@@ -47,7 +47,7 @@ needs_to_file r request cases reads tells = inr (record {
 
 module _ (r : Reading) (old new : DigestOpenerState) (request : FilingRequest) where
   -- cases that were filed in a database, or not
-  pub decides_filed : missing_database request.command ≡ Make → (cases : List DigestedCase) → ReadsCases r request cases → (before after : DigestKeeperState) → IsDatabaseOpened old request.database Make before → (result : Result FilingAnswer Halt)
+  pub decides_filed : missing_database request.command ≡ Make → (cases : List DigestedCase) → ReadsCases r request cases → (before after : DigestKeeperState) → IsDatabaseOpened old request.database Make before → (result : Result CaseAnswer Halt)
       → FilesOrStops before after cases result → DecidesRequest (filing_call r old new (Some after)) request result
   decides_filed made cases reads before after is_opened (Ok answer) files = record {
     read = going r request.logs answer.status files.of_keeper reads.read;
@@ -82,7 +82,7 @@ module _ (r : Reading) (old new : DigestOpenerState) (request : FilingRequest) w
   }
 
   -- an answer with which nothing is filed
-  pub decides_refused : (answer : FilingAnswer) → ReadsRefusal r request answer → DecidesRequest (filing_call r old new None) request (Ok answer)
+  pub decides_refused : (answer : CaseAnswer) → ReadsRefusal r request answer → DecidesRequest (filing_call r old new None) request (Ok answer)
   decides_refused answer refusal = record { read = refusal.read; by = (refusal.not_done, refusal.turn) }
 
   -- there is none, since reading stopped
@@ -106,7 +106,7 @@ module _ (r : Reading) (old new : DigestOpenerState) (request : FilingRequest) w
   decides_unopened good needed missing is fault.Memory cause = decides_memory
 
   -- logs that were checked over a database that is open
-  pub decides_checked : request.command ≡ command.Check → missing_database request.command ≡ Refuse → (before after : DigestKeeperState) → IsDatabaseOpened old request.database Refuse before → (result : Result FilingAnswer Halt) → ChecksOrStops r before after request result
+  pub decides_checked : request.command ≡ command.Check → missing_database request.command ≡ Refuse → (before after : DigestKeeperState) → IsDatabaseOpened old request.database Refuse before → (result : Result CaseAnswer Halt) → ChecksOrStops r before after request result
       → DecidesRequest (filing_call r old new (Some after)) request result
   decides_checked asked is before after is_opened (Ok answer) checks = record {
     read = checks.read;

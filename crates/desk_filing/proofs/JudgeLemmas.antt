@@ -19,7 +19,7 @@ use Rattle.audit_report.specs.declared.verdicts.Verdict.TheVariants as verdict
 use Rattle.case_keeper.specs.declared.case.Case.{Case}
 use Rattle.case_run.specs.declared.statuses.CaseStatus.{CaseStatus}
 use Rattle.case_run.specs.declared.statuses.CaseStatus.TheVariants as status
-use Rattle.digest_keeper.specs.declared.digested.CaseDigests.{CaseDigests}
+use Rattle.log_digests.specs.declared.digests.LogDigests.{LogDigests}
 use Rattle.digest_keeper.specs.declared.digested.KeptCase.{KeptCase}
 use Rattle.desk_filing.specs.DigestedVerdicts.{HasDigestsOfLogs}
 use Rattle.desk_filing.specs.declared.digested_verdicts.DigestedVerdict.{DigestedVerdict}
@@ -28,7 +28,7 @@ use Rattle.desk_filing.specs.Lines.{comparison_line}
 use Rattle.desk_filing.specs.Judging.{IsComparedVerdict, IsJudgedVerdict, IsRefusalIn, TellsBadPlace}
 use Rattle.desk_filing.specs.Steps.{AnyRecords, LooksAtLogs, NamesLogs, ReadsBadPlace, ReadsJudged, ReadsRecords, ReadsRefusal, TellsOfKept}
 use Rattle.desk_filing.specs.Turns.{ChecksCase, FilingTurn, IsFilingTurn, IsFirstDifference, IsTurnOfRecords, comparison_status, digested_case, filed_turn, offence_in, unfiled_turn}
-use Rattle.desk_filing.specs.declared.answers.FilingAnswer.{FilingAnswer}
+use Rattle.case_run.specs.declared.answers.CaseAnswer.{CaseAnswer}
 use Rattle.desk_filing.specs.declared.answers.Judged.{Judged}
 use Rattle.desk_filing.specs.declared.answers.Judged.TheVariants as judged
 use Rattle.desk_filing.specs.declared.differences.CaseDifference.{CaseDifference}
@@ -56,7 +56,7 @@ one_digest : (log : Option (List ℕ)) (bytes digest : List ℕ) → log ≡ Som
 one_digest log bytes digest is has = sym (same_Some (digest_of bytes) digest (sym (ap (option_map digest_of) is) ∙ has))
 
 -- what was read of the logs, by the bad place that is answered
-pub refuses : (r : Reading) (request : FilingRequest) (v : Verdict) (answer : FilingAnswer) → TellsBadPlace v answer → ReadsBadPlace r request.logs (λ log bad. v ≡ verdict.Malformed log bad) → ReadsRefusal r request answer
+pub refuses : (r : Reading) (request : FilingRequest) (v : Verdict) (answer : CaseAnswer) → TellsBadPlace v answer → ReadsBadPlace r request.logs (λ log bad. v ≡ verdict.Malformed log bad) → ReadsRefusal r request answer
 refuses r request v answer bad_tells reads =
     let line : malformed_line reads.log reads.bad ≡ answer.text.items = same_line reads.log bad_tells.log reads.bad bad_tells.bad (sym reads.holds ∙ bad_tells.is) ∙ sym bad_tells.text_is in
     record {
@@ -93,7 +93,7 @@ module _ (r : Reading) (request : FilingRequest) (orders trades : Source) (names
       one_digest (r.log_of Orders orders.name.now) reads.orders made.digests.orders (ap (λ (n : List ℕ). r.log_of Orders n) names.orders_name ∙ reads.orders_known tells) (has.of_orders tells) in
       let second : made.digests.trades ≡ digest_of reads.trades =
       one_digest (r.log_of Trades trades.name.now) reads.trades made.digests.trades (ap (λ (n : List ℕ). r.log_of Trades n) names.trades_name ∙ reads.trades_known tells) (has.of_trades tells (no_bad made.verdict reads Orders)) in
-      ap₂ {C = CaseDigests} (λ a b. record { orders = a; trades = b }) first second
+      ap₂ {C = LogDigests} (λ a b. record { orders = a; trades = b }) first second
 
   module _ (table : q.table ≡ false) where
     -- the same question, without a table
@@ -112,7 +112,7 @@ module _ (r : Reading) (request : FilingRequest) (orders trades : Source) (names
               (record {
                 the_verdict = made.verdict;
                 on = plain records.entries records.paired made.verdict records.holds;
-                is = ap (filed_turn kept) (is.0 ∙ ap (λ (d : CaseDigests). digested_case request.label q.rule d q.symbol made.verdict ∷ []) (same_digests made records tells has));
+                is = ap (filed_turn kept) (is.0 ∙ ap (λ (d : LogDigests). digested_case request.label q.rule d q.symbol made.verdict ∷ []) (same_digests made records tells has));
               }));
         })
         (λ place. absurd (is.1 place.log place.bad place.holds))
@@ -127,7 +127,7 @@ module _ (r : Reading) (request : FilingRequest) (orders trades : Source) (names
     compared kept difference = unfiled_turn kept (comparison_status difference) (comparison_line request.label difference)
 
     -- `check`: a comparison, or a refusal
-    pub compares_logs : request.command ≡ command.Check → (case : Case) → case.rule ≡ q.rule → case.symbol ≡ q.symbol → (filed : CaseDigests) (made : DigestedVerdict) (answer : FilingAnswer) → ReadsVerdict r q orders trades made.verdict
+    pub compares_logs : request.command ≡ command.Check → (case : Case) → case.rule ≡ q.rule → case.symbol ≡ q.symbol → (filed : LogDigests) (made : DigestedVerdict) (answer : CaseAnswer) → ReadsVerdict r q orders trades made.verdict
         → HasDigestsOfLogs r.tells r.log_of orders trades made → IsComparedVerdict request.label case filed made.digests made.verdict answer → TellsOfKept r request (Some (record { case = case; digests = Some filed })) answer
     compares_logs asked case rule symbol filed made answer reads has (inl is) = ⊎_elim
         (λ records. record {
@@ -143,7 +143,7 @@ module _ (r : Reading) (request : FilingRequest) (orders trades : Source) (names
                 compares = record {
                   the_verdict = made.verdict;
                   is = rw (rule, symbol) (plain records.entries records.paired made.verdict records.holds);
-                  first = subst (λ (d : CaseDigests). IsFirstDifference (record { digests = filed; offence = case.offence }) (record { digests = d; offence = offence_in made.verdict }) is.tells.difference) (same_digests made records tells has) is.tells.first;
+                  first = subst (λ (d : LogDigests). IsFirstDifference (record { digests = filed; offence = case.offence }) (record { digests = d; offence = offence_in made.verdict }) is.tells.difference) (same_digests made records tells has) is.tells.first;
                 };
                 is = refl;
               })))));
@@ -176,6 +176,6 @@ module _ (r : Reading) (request : FilingRequest) (orders trades : Source) (names
   }
 
   -- both logs are good where their verdict is no bad place, and else refused
-  pub looks : (v : Verdict) (found : Option FilingAnswer) → IsRefusalIn v found → ReadsVerdict r q orders trades v → LooksAtLogs r request found
+  pub looks : (v : Verdict) (found : Option CaseAnswer) → IsRefusalIn v found → ReadsVerdict r q orders trades v → LooksAtLogs r request found
   looks v None sound reads = ⊎_elim (λ records. any v records) (λ place. absurd (sound place.log place.bad place.holds)) (either v reads)
   looks v (Some answer) is reads = ⊎_elim (λ records. absurd (no_bad v records is.log is.bad is.is)) (λ place. refuses r request v answer is place) (either v reads)

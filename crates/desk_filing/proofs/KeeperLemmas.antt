@@ -14,7 +14,7 @@ use Rattle.digest_keeper.specs.declared.digested.DigestedCase.{DigestedCase}
 use Rattle.digest_keeper.specs.declared.digested.KeptCase.{KeptCase}
 use Rattle.desk_filing.specs.Steps.{AnswersAsFiled, FilesCases, FindsFirst, FoundNoneSoFar, StopsKeeping, case_lines}
 use Rattle.desk_filing.specs.Turns.{filed_turn_by, first_known}
-use Rattle.desk_filing.specs.declared.answers.FilingAnswer.{FilingAnswer}
+use Rattle.case_run.specs.declared.answers.CaseAnswer.{CaseAnswer}
 use Rattle.log_source.specs.Sources.{RoseOrIsFull}
 
 pub rose_earlier : (a b c : ℕ) → a ≤ b → RoseOrIsFull b c → RoseOrIsFull a c
@@ -67,7 +67,7 @@ module _ (old now new : DigestKeeperState) (cases rest : List DigestedCase) (so 
   }
 
 -- a label was known
-pub files_known : (old new : DigestKeeperState) (cases : List DigestedCase) (known : KeptCase) (answer : FilingAnswer) → FindsFirst old new cases (Ok (Some known)) → answer.status ≡ status.Refused → answer.text.items ≡ known_line ++ case_line known.case
+pub files_known : (old new : DigestKeeperState) (cases : List DigestedCase) (known : KeptCase) (answer : CaseAnswer) → FindsFirst old new cases (Ok (Some known)) → answer.status ≡ status.Refused → answer.text.items ≡ known_line ++ case_line known.case
     → FilesCases old new cases answer
 files_known old new cases known answer finds status_is text_is = record {
   known = λ kept has.
@@ -78,7 +78,7 @@ files_known old new cases known answer finds status_is text_is = record {
 }
 
 -- the cases were filed
-pub files_new : (old mid new : DigestKeeperState) (cases : List DigestedCase) (answer : FilingAnswer) → FindsFirst old mid cases (Ok None) → FilesAll {T = Unit {0}} mid new (Ok tt) cases → answer.status ≡ status.Done → answer.text.items ≡ case_lines cases
+pub files_new : (old mid new : DigestKeeperState) (cases : List DigestedCase) (answer : CaseAnswer) → FindsFirst old mid cases (Ok None) → FilesAll {T = Unit {0}} mid new (Ok tt) cases → answer.status ≡ status.Done → answer.text.items ≡ case_lines cases
     → FilesCases old new cases answer
 files_new old mid new cases answer finds files status_is text_is = record {
   known = λ kept has.

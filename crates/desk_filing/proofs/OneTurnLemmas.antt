@@ -11,7 +11,7 @@ use Rattle.audit_report.specs.declared.verdicts.Verdict.{Verdict}
 use Rattle.case_keeper.specs.declared.case.Case.{Case}
 use Rattle.day_verdicts.specs.Laws.{VerdictsAreOne}
 use Rattle.digest_keeper.specs.KeptCases.{kept_under}
-use Rattle.digest_keeper.specs.declared.digested.CaseDigests.{CaseDigests}
+use Rattle.log_digests.specs.declared.digests.LogDigests.{LogDigests}
 use Rattle.digest_keeper.specs.declared.digested.KeptCase.{KeptCase}
 use Rattle.desk_filing.specs.Laws.{OneFilingTurn}
 use Rattle.desk_filing.specs.Lines.{comparison_line}
@@ -58,7 +58,7 @@ Leaves kept request turn orders trades said =
     (IsBadTurn kept turn Orders)
 
 module _ (one_verdict : RecordVerdictIsOne) (one_list : VerdictsAreOne) (kept : List KeptCase) where
-  module _ (digests : CaseDigests) (label : List ℕ) (entries : List OrderRecord) (a b : FilingTurn) where
+  module _ (digests : LogDigests) (label : List ℕ) (entries : List OrderRecord) (a b : FilingTurn) where
     one_filed : (the_rule : Rule) (symbol : List ℕ) (paired : Result (List TradeRecord) Finding) → FilesVerdict digests kept label the_rule symbol entries paired a → FilesVerdict digests kept label the_rule symbol entries paired b → a ≡ b
     one_filed the_rule symbol paired x y =
         x.is ∙ ap (λ (v : Verdict). filed_turn kept (digested_case label the_rule digests symbol v ∷ [])) (one_verdict (question the_rule symbol false) entries paired x.the_verdict y.the_verdict x.on y.on) ∙ sym y.is
@@ -71,14 +71,14 @@ module _ (one_verdict : RecordVerdictIsOne) (one_list : VerdictsAreOne) (kept : 
         ∙ sym y.is
     one_day the_rule (Err finding) x y = x ∙ sym y
 
-    same_difference : (case : Case) (filed : CaseDigests) (paired : Result (List TradeRecord) Finding) (d e : Option CaseDifference) → Compares case filed digests entries paired d → Compares case filed digests entries paired e → d ≡ e
+    same_difference : (case : Case) (filed : LogDigests) (paired : Result (List TradeRecord) Finding) (d e : Option CaseDifference) → Compares case filed digests entries paired d → Compares case filed digests entries paired e → d ≡ e
     same_difference case filed paired d e x y =
         let then_was : AuditedLogs = record { digests = filed; offence = case.offence } in
         let same : y.the_verdict ≡ x.the_verdict = one_verdict (question case.rule case.symbol false) entries paired y.the_verdict x.the_verdict y.is x.is in
         one_difference then_was (record { digests = digests; offence = offence_in x.the_verdict }) d e x.first
         (subst (λ (v : Verdict). IsFirstDifference then_was (record { digests = digests; offence = offence_in v }) e) same y.first)
 
-    one_comparison : (case : Case) (paired : Result (List TradeRecord) Finding) (filed : Option CaseDigests) → ChecksDigests digests kept label entries paired a case filed → ChecksDigests digests kept label entries paired b case filed → a ≡ b
+    one_comparison : (case : Case) (paired : Result (List TradeRecord) Finding) (filed : Option LogDigests) → ChecksDigests digests kept label entries paired a case filed → ChecksDigests digests kept label entries paired b case filed → a ≡ b
     one_comparison case paired None x y = x ∙ sym y
     one_comparison case paired (Some filed) x y =
         x.is ∙ ap (λ (d : Option CaseDifference). unfiled_turn kept (comparison_status d) (comparison_line label d)) (same_difference case filed paired x.difference y.difference x.compares y.compares) ∙ sym y.is

@@ -9,7 +9,7 @@ use Rattle.case_run.specs.declared.halts.Halt.TheVariants as halt
 use Rattle.case_run.specs.declared.statuses.CaseStatus.{CaseStatus}
 use Rattle.case_run.specs.declared.statuses.CaseStatus.TheVariants as status
 use Rattle.desk_filing.specs.Runs.{EndsWithinOrAnswers, FilingCall, HaltsRequest, RunsRequest}
-use Rattle.desk_filing.specs.declared.answers.FilingAnswer.{FilingAnswer}
+use Rattle.case_run.specs.declared.answers.CaseAnswer.{CaseAnswer}
 use Rattle.desk_filing.specs.declared.requests.FilingRequest.{FilingRequest}
 use Rattle.log_source.specs.Sinks.{SinkState}
 use Rattle.log_verdict.specs.BothLogs.{IsLengthStop}
@@ -31,11 +31,11 @@ module _ (call : FilingCall) (request : FilingRequest) (old new : SinkState) whe
   runs_halted halt.Memory result is nothing = halts halt.Memory result is (inl (record { answer_is = nothing.answer_is; wrote = rw nothing.same (Appends-nil old.wrote) }))
 
 -- an answer leaves both slots within the longest log
-pub length_of_answer : (r : Reading) (answer : FilingAnswer) (result : CaseStatus) → EndsWithinOrHalts r (Ok answer) → EndsWithinOrAnswers r result
+pub length_of_answer : (r : Reading) (answer : CaseAnswer) (result : CaseStatus) → EndsWithinOrHalts r (Ok answer) → EndsWithinOrAnswers r result
 length_of_answer r answer result stays begins = ⊎_elim (λ e. absurd e) (λ ends. inl ends) (stays begins)
 
 -- a halt that leaves a slot outside the longest log is answered as one
-pub length_of_halt : (r : Reading) (old new : SinkState) (why : Halt) (result : CaseStatus) → EndsWithinOrHalts {T = FilingAnswer} r (Err why) → WritesHaltLine old new why result → EndsWithinOrAnswers r result
+pub length_of_halt : (r : Reading) (old new : SinkState) (why : Halt) (result : CaseStatus) → EndsWithinOrHalts {T = CaseAnswer} r (Err why) → WritesHaltLine old new why result → EndsWithinOrAnswers r result
 length_of_halt r old new (halt.ReadFault log) result stays writes begins = ⊎_elim (λ e. absurd e) (λ ends. inl ends) (stays begins)
 length_of_halt r old new (halt.TooLong log) result stays (inl all) begins = inr (inl all.answer_is)
 length_of_halt r old new (halt.TooLong log) result stays (inr front) begins = inr (inr front.answer_is)
@@ -59,6 +59,6 @@ pub ends_any : {B E : Type 0} (result : CaseStatus) → (B → ⊥ ⊎ E) → B 
 ends_any result stays begins = ⊎_elim (λ e. absurd e) (λ ends. inl ends) (stays begins)
 
 -- what is so of any reading is so of what a shelf was read
-pub ends_at : {S : Type 0} (source : Source) (shelf : Shelf S) (old new : S) → KeepsShelfLogs shelf old new → (decided : Result FilingAnswer Halt) (result : CaseStatus) → ((r : Reading) → EndsWithinOrHalts r decided → EndsWithinOrAnswers r result)
+pub ends_at : {S : Type 0} (source : Source) (shelf : Shelf S) (old new : S) → KeepsShelfLogs shelf old new → (decided : Result CaseAnswer Halt) (result : CaseStatus) → ((r : Reading) → EndsWithinOrHalts r decided → EndsWithinOrAnswers r result)
     → EndsWithinOrHalts (reading_by source shelf old new) decided → EndsWithinOrAnswers (reading_by source shelf old new) result
 ends_at source shelf old new keeps decided result each within = each (reading_by source shelf old new) within

@@ -18,11 +18,11 @@ use Rattle.day_symbols.specs.Symbols.{symbols_of_day}
 use Rattle.day_records.specs.DayTrades.{HasTradesOf}
 use Rattle.day_records.specs.declared.day_trades.EndedTrades.{EndedTrades}
 use Rattle.day_verdicts.specs.DayVerdicts.{AreVerdicts}
-use Rattle.digest_keeper.specs.declared.digested.CaseDigests.{CaseDigests}
+use Rattle.log_digests.specs.declared.digests.LogDigests.{LogDigests}
 use Rattle.desk_filing.specs.Judging.{TellsBadPlace}
 use Rattle.desk_filing.specs.Lines.{long_label_line}
 use Rattle.desk_filing.specs.Turns.{cases_of_day, digested_case, first_long, label_of_symbol}
-use Rattle.desk_filing.specs.declared.answers.FilingAnswer.{FilingAnswer}
+use Rattle.case_run.specs.declared.answers.CaseAnswer.{CaseAnswer}
 use Rattle.desk_filing.specs.declared.answers.Judged.{Judged}
 use Rattle.desk_filing.specs.declared.answers.Judged.TheVariants as judged
 use Rattle.desk_filing.specs.declared.days.DayCases.{DayCases}
@@ -37,7 +37,7 @@ label_if_short label symbol =
     else Some (label_of_symbol label symbol)
 
 -- These are the cases of the symbols so far, or the first whose label is too long.
-pub record IsDayOf (label : List ℕ) (the_rule : Rule) (digests : CaseDigests) (day : DayCases)
+pub record IsDayOf (label : List ℕ) (the_rule : Rule) (digests : LogDigests) (day : DayCases)
     (symbols : List (List ℕ)) (verdicts : List Verdict) : Type 0 where
   pub label_is : day.label ≡ label
   pub rule_is : day.rule ≡ the_rule
@@ -67,14 +67,14 @@ KeepsCase old new (Some label) symbol the_verdict =
 KeepsCase old new None symbol the_verdict = StaysOfDay old new × (new.long ≡ Some symbol)
 
 -- A label is too long, and the answer tells of which symbol.
-pub record TellsLongLabel (long : Option (List ℕ)) (answer : FilingAnswer) : Type 0 where
+pub record TellsLongLabel (long : Option (List ℕ)) (answer : CaseAnswer) : Type 0 where
   pub symbol : List ℕ
   pub is : long ≡ Some symbol
   pub status_is : answer.status ≡ status.Refused
   pub text_is : answer.text.items ≡ long_label_line symbol
 
 -- what the symbols of a day with these verdicts come to: their cases, or that a label is too long
-abbrev pub IsJudgedDayOf : List ℕ → Rule → CaseDigests → List (List ℕ) → List Verdict → Judged
+abbrev pub IsJudgedDayOf : List ℕ → Rule → LogDigests → List (List ℕ) → List Verdict → Judged
     → Type 0
 IsJudgedDayOf label the_rule digests symbols verdicts (judged.Cases cases) =
     (first_long label symbols ≡ None)
@@ -84,13 +84,13 @@ IsJudgedDayOf label the_rule digests symbols verdicts (judged.Refused answer) =
 
 -- whatever symbols and verdicts a day was handed, this is what they come to
 abbrev pub IsJudgedAs : DayCases → Judged → Type 0
-IsJudgedAs day judged = (label : List ℕ) (the_rule : Rule) (digests : CaseDigests)
+IsJudgedAs day judged = (label : List ℕ) (the_rule : Rule) (digests : LogDigests)
     (symbols : List (List ℕ)) (verdicts : List Verdict)
     → IsDayOf label the_rule digests day symbols verdicts
     → IsJudgedDayOf label the_rule digests symbols verdicts judged
 
 -- This is what a day of these records comes to.
-pub record JudgesRecords (label : List ℕ) (the_rule : Rule) (digests : CaseDigests)
+pub record JudgesRecords (label : List ℕ) (the_rule : Rule) (digests : LogDigests)
     (entries : List OrderRecord) (trades : List TradeRecord) (judged : Judged) : Type 0 where
   pub verdicts : List Verdict
   pub are : AreVerdicts the_rule false entries trades
@@ -99,24 +99,24 @@ pub record JudgesRecords (label : List ℕ) (the_rule : Rule) (digests : CaseDig
       (symbols_in whole_day (symbols_of_day entries trades)) verdicts judged
 
 -- whatever records the day has, this is what it comes to
-abbrev pub JudgesDay : List ℕ → Rule → CaseDigests → EndedTrades → Judged → Type 0
+abbrev pub JudgesDay : List ℕ → Rule → LogDigests → EndedTrades → Judged → Type 0
 JudgesDay label the_rule digests ended judged =
     (entries : List OrderRecord) (trades : List TradeRecord)
     → HasTradesOf whole_day (admission_of the_rule) entries ended trades
     → JudgesRecords label the_rule digests entries trades judged
 
 -- The answer tells that the reports of the trade log do not pair.
-pub record TellsUnpaired (finding : Finding) (answer : FilingAnswer) : Type 0 where
+pub record TellsUnpaired (finding : Finding) (answer : CaseAnswer) : Type 0 where
   pub status_is : answer.status ≡ status.Refused
   pub text_is : answer.text.items ≡ verdict_text (Rejected finding)
 
 -- nothing is filed, and this holds of the answer
-abbrev pub IsRefusedBy : (FilingAnswer → Type 0) → Judged → Type 0
+abbrev pub IsRefusedBy : (CaseAnswer → Type 0) → Judged → Type 0
 IsRefusedBy tells (judged.Cases cases) = ⊥
 IsRefusedBy tells (judged.Refused answer) = tells answer
 
 -- what two logs come to, by what their records give before the rule is looked at
-abbrev pub JudgesGiven : List ℕ → Rule → CaseDigests → DayBeforeRule → Judged → Type 0
+abbrev pub JudgesGiven : List ℕ → Rule → LogDigests → DayBeforeRule → Judged → Type 0
 JudgesGiven label the_rule digests (before_rule.Read ended) judged =
     JudgesDay label the_rule digests ended judged
 JudgesGiven label the_rule digests (before_rule.Unpaired finding) judged =

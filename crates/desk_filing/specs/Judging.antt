@@ -10,10 +10,10 @@ use Rattle.case_keeper.specs.declared.case.Case.{Case}
 use Rattle.case_keeper.specs.declared.case.Offence.{Offence}
 use Rattle.digest_keeper.specs.declared.digested.DigestedCase.{DigestedCase}
 use Rattle.case_run.specs.declared.statuses.CaseStatus.TheVariants as status
-use Rattle.digest_keeper.specs.declared.digested.CaseDigests.{CaseDigests}
+use Rattle.log_digests.specs.declared.digests.LogDigests.{LogDigests}
 use Rattle.desk_filing.specs.Lines.{comparison_line}
 use Rattle.desk_filing.specs.Turns.{IsFirstDifference, comparison_status, digested_case, offence_in}
-use Rattle.desk_filing.specs.declared.answers.FilingAnswer.{FilingAnswer}
+use Rattle.case_run.specs.declared.answers.CaseAnswer.{CaseAnswer}
 use Rattle.desk_filing.specs.declared.answers.Judged.{Judged}
 use Rattle.desk_filing.specs.declared.answers.Judged.TheVariants as judged
 use Rattle.desk_filing.specs.declared.differences.AuditedLogs.{AuditedLogs}
@@ -25,7 +25,7 @@ abbrev pub IsNoBadPlace : Verdict → Type 0
 IsNoBadPlace v = (log : Which) (bad : BadPlace) → v ≢ Malformed log bad
 
 -- The verdict is a first bad place, and the answer tells it.
-pub record TellsBadPlace (v : Verdict) (answer : FilingAnswer) : Type 0 where
+pub record TellsBadPlace (v : Verdict) (answer : CaseAnswer) : Type 0 where
   pub log : Which
   pub bad : BadPlace
   pub is : v ≡ Malformed log bad
@@ -33,25 +33,25 @@ pub record TellsBadPlace (v : Verdict) (answer : FilingAnswer) : Type 0 where
   pub text_is : answer.text.items ≡ malformed_line log bad
 
 -- the answer that a verdict is a first bad place, if it is one
-abbrev pub IsRefusalIn : Verdict → Option FilingAnswer → Type 0
+abbrev pub IsRefusalIn : Verdict → Option CaseAnswer → Type 0
 IsRefusalIn v None = IsNoBadPlace v
 IsRefusalIn v (Some answer) = TellsBadPlace v answer
 
 -- the case of an audit that ended so, on logs of these digests
-abbrev pub case_that_ended : List ℕ → Rule → CaseDigests → List ℕ → Option Offence → DigestedCase
+abbrev pub case_that_ended : List ℕ → Rule → LogDigests → List ℕ → Option Offence → DigestedCase
 case_that_ended label the_rule digests symbol offence = record {
   case = record { label = label; rule = the_rule; symbol = symbol; offence = offence };
   digests = digests;
 }
 
 -- what a verdict comes to: its case, or the answer that a log is not in its grammar
-abbrev pub IsJudgedVerdict : CaseDigests → List ℕ → Question → Verdict → Judged → Type 0
+abbrev pub IsJudgedVerdict : LogDigests → List ℕ → Question → Verdict → Judged → Type 0
 IsJudgedVerdict digests label q v (judged.Cases cases) =
     (cases.items ≡ digested_case label q.rule digests q.symbol v ∷ []) × IsNoBadPlace v
 IsJudgedVerdict digests label q v (judged.Refused answer) = TellsBadPlace v answer
 
 -- The answer tells what differs first of two audits.
-pub record TellsFirst (label : List ℕ) (filed now : AuditedLogs) (answer : FilingAnswer) : Type 0 where
+pub record TellsFirst (label : List ℕ) (filed now : AuditedLogs) (answer : CaseAnswer) : Type 0 where
   pub difference : Option CaseDifference
   pub first : IsFirstDifference filed now difference
   pub status_is : answer.status ≡ comparison_status difference
@@ -59,13 +59,13 @@ pub record TellsFirst (label : List ℕ) (filed now : AuditedLogs) (answer : Fil
 
 -- The answer tells how the audit of a case, on logs of these digests, compares with a verdict on
 -- logs of those.
-pub record TellsDifference (label : List ℕ) (case : Case) (filed now : CaseDigests) (v : Verdict)
-    (answer : FilingAnswer) : Type 0 where
+pub record TellsDifference (label : List ℕ) (case : Case) (filed now : LogDigests) (v : Verdict)
+    (answer : CaseAnswer) : Type 0 where
   pub no_bad_place : IsNoBadPlace v
   pub tells : TellsFirst label (record { digests = filed; offence = case.offence })
       (record { digests = now; offence = offence_in v }) answer
 
 -- what a verdict comes to beside a case
-abbrev pub IsComparedVerdict : List ℕ → Case → CaseDigests → CaseDigests → Verdict → FilingAnswer → Type 0
+abbrev pub IsComparedVerdict : List ℕ → Case → LogDigests → LogDigests → Verdict → CaseAnswer → Type 0
 IsComparedVerdict label case filed now v answer =
     TellsDifference label case filed now v answer ⊎ TellsBadPlace v answer

@@ -24,13 +24,13 @@ use Rattle.desk_words.specs.Texts.{desk_usage_line}
 use Rattle.desk_words.specs.declared.requests.DayLogs.{DayLogs}
 use Rattle.digest_keeper.specs.DigestKeepers.{DigestKeeperState}
 use Rattle.digest_keeper.specs.KeptCases.{kept_under}
-use Rattle.digest_keeper.specs.declared.digested.CaseDigests.{CaseDigests}
+use Rattle.log_digests.specs.declared.digests.LogDigests.{LogDigests}
 use Rattle.digest_keeper.specs.declared.digested.DigestedCase.{DigestedCase}
 use Rattle.digest_keeper.specs.declared.digested.KeptCase.{KeptCase}
 use Rattle.desk_filing.specs.Causes.{ReadsBadLog, ReadsGoodLogs, ReadsLogsFor, ReadsLogsUpTo}
 use Rattle.desk_filing.specs.Runs.{AnswersRequest, FilingCall, HaltsRequest}
 use Rattle.desk_filing.specs.Turns.{FilingTurn, IsFilingTurn, filed_turn, first_known, unfiled_turn}
-use Rattle.desk_filing.specs.declared.answers.FilingAnswer.{FilingAnswer}
+use Rattle.case_run.specs.declared.answers.CaseAnswer.{CaseAnswer}
 use Rattle.desk_filing.specs.declared.answers.Judged.{Judged}
 use Rattle.desk_filing.specs.declared.answers.Judged.TheVariants as judged
 use Rattle.desk_filing.specs.declared.requests.FilingRequest.{FilingRequest}
@@ -92,7 +92,7 @@ pub record ReadsCases (r : Reading) (request : FilingRequest) (cases : List Dige
       → IsFilingTurn r.log_of kept request (filed_turn kept cases)
 
 -- This is the answer to two logs of which nothing is filed.
-pub record ReadsRefusal (r : Reading) (request : FilingRequest) (answer : FilingAnswer) : Type 0 where
+pub record ReadsRefusal (r : Reading) (request : FilingRequest) (answer : CaseAnswer) : Type 0 where
   pub read : ReadsLogsFor r request.logs answer.status
   pub not_done : answer.status ≢ status.Done
   pub turn : r.tells ≡ true → (kept : List KeptCase)
@@ -113,7 +113,7 @@ abbrev pub JudgesLogs : Reading → FilingRequest → Result Judged Halt → Typ
 JudgesLogs r request result = MatchResult result (ReadsJudged r request) (StopsReading r request)
 
 -- both logs are in their grammar, or this is the answer to them
-abbrev pub LooksAtLogs : Reading → FilingRequest → Option FilingAnswer → Type 0
+abbrev pub LooksAtLogs : Reading → FilingRequest → Option CaseAnswer → Type 0
 LooksAtLogs r request None = ReadsRecords r request.logs AnyRecords
 LooksAtLogs r request (Some answer) = ReadsRefusal r request answer
 
@@ -144,14 +144,14 @@ pub record StopsKeeping (old new : DigestKeeperState) (why : Halt) : Type 0 wher
   pub stays : new.kept ≡ old.kept
 
 -- The answer is that of this turn, and what is on file is what it leaves.
-pub record AnswersAsFiled (turn : FilingTurn) (new : DigestKeeperState) (answer : FilingAnswer)
+pub record AnswersAsFiled (turn : FilingTurn) (new : DigestKeeperState) (answer : CaseAnswer)
     : Type 0 where
   pub status_is : turn.status ≡ answer.status
   pub text_is : turn.text ≡ answer.text.items
   pub kept_is : new.kept ≡ Some turn.kept
 
 -- The answer is that of filing these cases.
-pub record FilesCases (old new : DigestKeeperState) (cases : List DigestedCase) (answer : FilingAnswer)
+pub record FilesCases (old new : DigestKeeperState) (cases : List DigestedCase) (answer : CaseAnswer)
     : Type 0 where
   pub known : (kept : List KeptCase) → old.kept ≡ Some kept
       → AnswersAsFiled (filed_turn kept cases) new answer
@@ -160,7 +160,7 @@ pub record FilesCases (old new : DigestKeeperState) (cases : List DigestedCase) 
 
 -- the cases were filed, or one was known, or the keeper did not do what it was asked
 abbrev pub FilesOrStops : DigestKeeperState → DigestKeeperState → List DigestedCase
-    → Result FilingAnswer Halt → Type 0
+    → Result CaseAnswer Halt → Type 0
 FilesOrStops old new cases result =
     MatchResult result (FilesCases old new cases) (StopsKeeping old new)
 
@@ -180,13 +180,13 @@ both_readings first second = record first { after = second.after }
 
 -- The answer is that about the case that is on file under the label, or about none.
 pub record TellsOfKept (r : Reading) (request : FilingRequest) (found : Option KeptCase)
-    (answer : FilingAnswer) : Type 0 where
+    (answer : CaseAnswer) : Type 0 where
   pub read : ReadsLogsFor r request.logs answer.status
   pub turn : r.tells ≡ true → (kept : List KeptCase) → kept_under kept request.label ≡ found
       → IsFilingTurn r.log_of kept request (unfiled_turn kept answer.status answer.text.items)
 
 -- the answer about a case and its digests, or why there is none
-abbrev pub ComparesOrStops : Reading → FilingRequest → Case → CaseDigests → Result FilingAnswer Halt
+abbrev pub ComparesOrStops : Reading → FilingRequest → Case → LogDigests → Result CaseAnswer Halt
     → Type 0
 ComparesOrStops r request case filed result =
     MatchResult result
@@ -194,13 +194,13 @@ ComparesOrStops r request case filed result =
     (StopsReading r request)
 
 -- the answer about the case that is on file, or why there is none
-abbrev pub ChecksKept : Reading → FilingRequest → Option KeptCase → Result FilingAnswer Halt → Type 0
+abbrev pub ChecksKept : Reading → FilingRequest → Option KeptCase → Result CaseAnswer Halt → Type 0
 ChecksKept r request found result =
     MatchResult result (TellsOfKept r request found) (StopsReading r request)
 
 -- The answer is that of checking, and what is on file stays.
 pub record ChecksLogs (r : Reading) (old new : DigestKeeperState) (request : FilingRequest)
-    (answer : FilingAnswer) : Type 0 where
+    (answer : CaseAnswer) : Type 0 where
   pub read : ReadsLogsFor r request.logs answer.status
   pub stays : new.kept ≡ old.kept
   pub turn : r.tells ≡ true → (kept : List KeptCase) → old.kept ≡ Some kept
@@ -215,14 +215,14 @@ pub record StopsChecking (r : Reading) (old new : DigestKeeperState) (request : 
 
 -- the answer of checking, or why there is none
 abbrev pub ChecksOrStops : Reading → DigestKeeperState → DigestKeeperState → FilingRequest
-    → Result FilingAnswer Halt → Type 0
+    → Result CaseAnswer Halt → Type 0
 ChecksOrStops r old new request result =
     MatchResult result (ChecksLogs r old new request) (StopsChecking r old new request)
 
 -- The whole call.
 
 -- what is written: the answer to a request, or the line of why there is none
-abbrev pub DecidesRequest : FilingCall → FilingRequest → Result FilingAnswer Halt → Type 0
+abbrev pub DecidesRequest : FilingCall → FilingRequest → Result CaseAnswer Halt → Type 0
 DecidesRequest call request result =
     MatchResult result (λ answer. AnswersRequest call request answer.status answer.text.items)
     (λ why. HaltsRequest call request (halt_status why) (halt_line why))

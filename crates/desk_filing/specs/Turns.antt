@@ -25,7 +25,7 @@ use Rattle.day_symbols.specs.Shares.{symbols_in, whole_day}
 use Rattle.day_symbols.specs.Symbols.{symbols_of_day}
 use Rattle.day_verdicts.specs.DayVerdicts.{AreVerdicts}
 use Rattle.digest_keeper.specs.KeptCases.{all_kept_of, kept_under}
-use Rattle.digest_keeper.specs.declared.digested.CaseDigests.{CaseDigests}
+use Rattle.log_digests.specs.declared.digests.LogDigests.{LogDigests}
 use Rattle.digest_keeper.specs.declared.digested.DigestedCase.{DigestedCase}
 use Rattle.digest_keeper.specs.declared.digested.KeptCase.{KeptCase}
 use Rattle.desk_filing.specs.Lines.{comparison_line, long_label_line, no_digest_line}
@@ -77,7 +77,7 @@ offence_in (verdict.Rejected finding) = Some (offence_of finding)
 offence_in (verdict.Malformed log bad) = None
 
 -- the case of a verdict on logs of these digests
-abbrev pub digested_case : List ℕ → Rule → CaseDigests → List ℕ → Verdict → DigestedCase
+abbrev pub digested_case : List ℕ → Rule → LogDigests → List ℕ → Verdict → DigestedCase
 digested_case label the_rule digests symbol the_verdict = record {
   case = record {
     label = label;
@@ -100,7 +100,7 @@ first_long label symbols =
     find (λ symbol. nat_lt 64 (length (label_of_symbol label symbol))) symbols
 
 -- the case of each symbol with its verdict
-abbrev pub cases_of_day : List ℕ → Rule → CaseDigests → List (List ℕ) → List Verdict
+abbrev pub cases_of_day : List ℕ → Rule → LogDigests → List (List ℕ) → List Verdict
     → List DigestedCase
 cases_of_day label the_rule digests [] verdicts = []
 cases_of_day label the_rule digests (symbol ∷ symbols) [] = []
@@ -119,7 +119,7 @@ abbrev pub symbols_of_whole_day : List OrderRecord → List TradeRecord → List
 symbols_of_whole_day entries trades = symbols_in whole_day (symbols_of_day entries trades)
 
 -- The turn files the verdict of a rule on each symbol of these records.
-pub record FilesDay (digests : CaseDigests) (kept : List KeptCase) (label : List ℕ)
+pub record FilesDay (digests : LogDigests) (kept : List KeptCase) (label : List ℕ)
     (the_rule : Rule) (entries : List OrderRecord) (turn : FilingTurn) (trades : List TradeRecord)
     : Type 0 where
   pub verdicts : List Verdict
@@ -141,7 +141,7 @@ IsFirstDifference filed now None = (filed.digests.orders ≡ now.digests.orders)
     × (filed.digests.trades ≡ now.digests.trades) × (filed.offence ≡ now.offence)
 
 -- The audit of these records by the rule of a case, on its symbol, compares so with the case.
-pub record Compares (case : Case) (filed now : CaseDigests) (entries : List OrderRecord)
+pub record Compares (case : Case) (filed now : LogDigests) (entries : List OrderRecord)
     (paired : Result (List TradeRecord) Finding) (difference : Option CaseDifference) : Type 0 where
   pub the_verdict : Verdict
   pub is : IsRecordVerdict (question case.rule case.symbol false) entries paired the_verdict
@@ -154,24 +154,24 @@ comparison_status None = status.Done
 comparison_status (Some what) = status.Refused
 
 -- The turn tells how the records compare with a case.
-pub record TellsComparison (now : CaseDigests) (kept : List KeptCase) (label : List ℕ)
+pub record TellsComparison (now : LogDigests) (kept : List KeptCase) (label : List ℕ)
     (entries : List OrderRecord) (paired : Result (List TradeRecord) Finding) (turn : FilingTurn)
-    (case : Case) (filed : CaseDigests) : Type 0 where
+    (case : Case) (filed : LogDigests) : Type 0 where
   pub difference : Option CaseDifference
   pub compares : Compares case filed now entries paired difference
   pub is : turn ≡ unfiled_turn kept (comparison_status difference)
       (comparison_line label difference)
 
 -- of a case that was filed without digests there is nothing to compare
-abbrev pub ChecksDigests : CaseDigests → List KeptCase → List ℕ → List OrderRecord
-    → Result (List TradeRecord) Finding → FilingTurn → Case → Option CaseDigests → Type 0
+abbrev pub ChecksDigests : LogDigests → List KeptCase → List ℕ → List OrderRecord
+    → Result (List TradeRecord) Finding → FilingTurn → Case → Option LogDigests → Type 0
 ChecksDigests now kept label entries paired turn case None =
     turn ≡ unfiled_turn kept status.Refused (no_digest_line label)
 ChecksDigests now kept label entries paired turn case (Some filed) =
     TellsComparison now kept label entries paired turn case filed
 
 -- the records are compared with the case that is on file under the label, if there is one
-abbrev pub ChecksCase : CaseDigests → List KeptCase → List ℕ → List OrderRecord
+abbrev pub ChecksCase : LogDigests → List KeptCase → List ℕ → List OrderRecord
     → Result (List TradeRecord) Finding → FilingTurn → Option KeptCase → Type 0
 ChecksCase now kept label entries paired turn None =
     turn ≡ unfiled_turn kept status.Refused (no_case_line label)
@@ -181,7 +181,7 @@ ChecksCase now kept label entries paired turn (Some found) =
 -- One command.
 
 -- The turn files the verdict of a rule on a symbol, with the digests of the logs.
-pub record FilesVerdict (digests : CaseDigests) (kept : List KeptCase) (label : List ℕ)
+pub record FilesVerdict (digests : LogDigests) (kept : List KeptCase) (label : List ℕ)
     (the_rule : Rule) (symbol : List ℕ) (entries : List OrderRecord)
     (paired : Result (List TradeRecord) Finding) (turn : FilingTurn) : Type 0 where
   pub the_verdict : Verdict
@@ -190,7 +190,7 @@ pub record FilesVerdict (digests : CaseDigests) (kept : List KeptCase) (label : 
 
 -- where the reports of the trade log do not pair, no symbol of the day is filed, and finding 4 is
 -- written
-abbrev pub FilesDayOrNone : CaseDigests → List KeptCase → List ℕ → Rule → List OrderRecord
+abbrev pub FilesDayOrNone : LogDigests → List KeptCase → List ℕ → Rule → List OrderRecord
     → Result (List TradeRecord) Finding → FilingTurn → Type 0
 FilesDayOrNone digests kept label the_rule entries (Ok trades) turn =
     FilesDay digests kept label the_rule entries turn trades
@@ -198,7 +198,7 @@ FilesDayOrNone digests kept label the_rule entries (Err finding) turn =
     turn ≡ unfiled_turn kept status.Refused (verdict_text (verdict.Rejected finding))
 
 -- what a command leaves, by the records of logs of these digests
-abbrev pub IsTurnOfRecords : CaseDigests → List KeptCase → List ℕ → FilingCommand → FilingTurn
+abbrev pub IsTurnOfRecords : LogDigests → List KeptCase → List ℕ → FilingCommand → FilingTurn
     → List OrderRecord → Result (List TradeRecord) Finding → Type 0
 IsTurnOfRecords digests kept label (command.File the_rule symbol) turn entries paired =
     FilesVerdict digests kept label the_rule symbol entries paired turn

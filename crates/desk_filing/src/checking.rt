@@ -14,22 +14,23 @@ ghost use Rattle.desk_filing.specs.declared.requests.FilingCommand.TheVariants.{
 ghost use Rattle.log_verdict.specs.BothLogs.{HaveOneLimit};
 ghost use Rattle.log_verdict.specs.Steps.{reading_by, FaultsNeverFall, KeepsShelfLogs, Reading};
 
-use crate::answers::FilingAnswer;
 use crate::differences::{AuditedLogs, CaseDifference, first_difference};
 use crate::digested_verdicts::{DigestedVerdict, digested_verdict_on};
-use crate::judging::{malformed_answer, offence_of};
+use crate::judging::malformed_answer;
 use crate::lines::{comparison_text, no_case_text, no_digest_text};
 use crate::requests::FilingRequest;
 use audit_base::faults::NoMemory;
 use audit_base::names::Name;
 use audit_base::terms::Rule;
 use audit_report::verdicts::Verdict;
-use case_keeper::case::{Case, Offence};
+use case_keeper::case::Offence;
+use case_run::answers::{CaseAnswer, offence_of};
 use case_run::halts::Halt;
 use case_run::statuses::CaseStatus;
-use digest_keeper::digested::{CaseDigests, KeptCase};
+use digest_keeper::digested::{DigestedCase, KeptCase};
 use digest_keeper::keeper::DigestKeeper;
 use log_digests::digest_shelf::DigestShelf;
+use log_digests::digests::LogDigests;
 use log_source::shelf::Shelf;
 use log_verdict::sources::Source;
 use log_verdict::verdicts::verdict_on;
@@ -37,7 +38,7 @@ use record_verdict::questions::Question;
 use std::alloc::Global;
 
 /// The answer that a verdict is a first bad place, if it is one.
-fn refusal_in(alloc: Global, verdict: &Verdict) -> Result<Option<FilingAnswer>, NoMemory>
+fn refusal_in(alloc: Global, verdict: &Verdict) -> Result<Option<CaseAnswer>, NoMemory>
     ensures { IfOk result (IsRefusalIn verdict.now) }
 {
     match verdict {
@@ -55,7 +56,7 @@ pub(crate) fn look_at_logs<F: Shelf>(
     request: &FilingRequest,
     orders: &Source<'_>,
     trades: &Source<'_>,
-) -> Result<Option<FilingAnswer>, Halt>
+) -> Result<Option<CaseAnswer>, Halt>
     requires limit { HaveOneLimit orders.now trades.now }
     requires names { NamesLogs request.now.logs orders.now trades.now }
     ensures logs { KeepsShelfLogs F.Shelf shelf.old shelf.new }
@@ -92,11 +93,11 @@ fn comparison(
     label: &Name,
     filed: &AuditedLogs,
     now: &AuditedLogs,
-) -> Result<FilingAnswer, NoMemory>
+) -> Result<CaseAnswer, NoMemory>
     ensures { IfOk result (TellsFirst label.now filed.now now.now) }
 {
     let difference = first_difference(filed, now);
-    Ok(FilingAnswer {
+    Ok(CaseAnswer {
         status: comparison_status(difference),
         text: comparison_text(alloc, label, difference)?,
     })
@@ -106,41 +107,39 @@ fn comparison(
 fn compared_audit(
     alloc: Global,
     label: &Name,
-    case: &Case,
-    filed: &CaseDigests,
-    digests: &CaseDigests,
+    filed: &DigestedCase,
+    digests: &LogDigests,
     offence: Option<Offence>,
-) -> Result<FilingAnswer, NoMemory>
-    ensures { let was = record { digests = filed.now; offence = case.now.offence } in
+) -> Result<CaseAnswer, NoMemory>
+    ensures { let was = record { digests = filed.now.digests; offence = filed.now.case.offence } in
         IfOk result (TellsFirst label.now was (record { digests = digests.now; offence = offence })) }
 {
-    let filed = AuditedLogs {
-        digests: *filed,
-        offence: case.offence,
+    let before = AuditedLogs {
+        digests: filed.digests,
+        offence: filed.case.offence,
     };
     let now = AuditedLogs {
         digests: *digests,
         offence,
     };
-    comparison(alloc, label, &filed, &now)
+    comparison(alloc, label, &before, &now)
 }
 
-/// What a verdict comes to beside a case with these digests.
+/// What a verdict comes to beside a case with its digests.
 fn compared(
     alloc: Global,
     label: &Name,
-    case: &Case,
-    filed: &CaseDigests,
+    filed: &DigestedCase,
     made: &DigestedVerdict,
-) -> Result<FilingAnswer, NoMemory>
-    ensures { IfOk result (IsComparedVerdict label.now case.now filed.now made.now.digests
-        made.now.verdict) }
+) -> Result<CaseAnswer, NoMemory>
+    ensures { IfOk result (IsComparedVerdict label.now filed.now.case filed.now.digests
+        made.now.digests made.now.verdict) }
 {
     match &made.verdict {
-        Verdict::Accepted(_) => compared_audit(alloc, label, case, filed, &made.digests, None),
+        Verdict::Accepted(_) => compared_audit(alloc, label, filed, &made.digests, None),
         Verdict::Rejected(finding) => {
             let offence = Some(offence_of(finding));
-            compared_audit(alloc, label, case, filed, &made.digests, offence)
+            compared_audit(alloc, label, filed, &made.digests, offence)
         }
         Verdict::Malformed { log, bad } => malformed_answer(alloc, *log, bad),
     }
@@ -151,11 +150,10 @@ fn compare<'a, F: Shelf>(
     alloc: Global,
     shelf: &mut DigestShelf<'a, F>,
     request: &FilingRequest,
-    case: &Case,
-    filed: &CaseDigests,
+    filed: &DigestedCase,
     orders: &Source<'_>,
     trades: &Source<'_>,
-) -> Result<FilingAnswer, Halt>
+) -> Result<CaseAnswer, Halt>
     requires limit { HaveOneLimit orders.now trades.now }
     requires names { NamesLogs request.now.logs orders.now trades.now }
     requires asked { request.now.command ≡ Check }
@@ -163,18 +161,18 @@ fn compare<'a, F: Shelf>(
     ensures later { let shelves = ⟦<DigestShelf<'a, F> as Shelf>⟧ in
         FaultsNeverFall (reading_by orders.now shelves shelf.old shelf.new) }
     ensures compares { let shelves = ⟦<DigestShelf<'a, F> as Shelf>⟧ in
-        ComparesOrStops (reading_by orders.now shelves shelf.old shelf.new) request.now case.now
-        filed.now result }
+        ComparesOrStops (reading_by orders.now shelves shelf.old shelf.new) request.now
+        filed.now.case filed.now.digests result }
     ensures within { let shelves = ⟦<DigestShelf<'a, F> as Shelf>⟧ in
         EndsWithinOrHalts (reading_by orders.now shelves shelf.old shelf.new) result }
 {
     let question = Question {
-        rule: case.rule,
-        symbol: case.symbol,
+        rule: filed.case.rule,
+        symbol: filed.case.symbol,
         table: false,
     };
     match digested_verdict_on(alloc, shelf, &question, orders, trades) {
-        Ok(made) => Ok(compared(alloc, &request.label, case, filed, &made)?),
+        Ok(made) => Ok(compared(alloc, &request.label, filed, &made)?),
         Err(stop) => Err(Halt::from(stop)),
     }
 }
@@ -187,7 +185,7 @@ fn check_kept<'a, F: Shelf>(
     kept: &KeptCase,
     orders: &Source<'_>,
     trades: &Source<'_>,
-) -> Result<FilingAnswer, Halt>
+) -> Result<CaseAnswer, Halt>
     requires limit { HaveOneLimit orders.now trades.now }
     requires names { NamesLogs request.now.logs orders.now trades.now }
     requires asked { request.now.command ≡ Check }
@@ -203,8 +201,14 @@ fn check_kept<'a, F: Shelf>(
         EndsWithinOrHalts (reading_by orders.now shelves shelf.old shelf.new) result }
 {
     match &kept.digests {
-        Some(filed) => compare(alloc, shelf, request, &kept.case, filed, orders, trades),
-        None => Ok(FilingAnswer {
+        Some(digests) => {
+            let filed = DigestedCase {
+                case: kept.case,
+                digests: *digests,
+            };
+            compare(alloc, shelf, request, &filed, orders, trades)
+        }
+        None => Ok(CaseAnswer {
             status: CaseStatus::Refused,
             text: no_digest_text(alloc, &request.label)?,
         }),
@@ -219,7 +223,7 @@ pub(crate) fn check_in<'a, F: Shelf, B: DigestKeeper>(
     orders: &Source<'_>,
     trades: &Source<'_>,
     book: &mut B,
-) -> Result<FilingAnswer, Halt>
+) -> Result<CaseAnswer, Halt>
     requires limit { HaveOneLimit orders.now trades.now }
     requires names { NamesLogs request.now.logs orders.now trades.now }
     requires asked { request.now.command ≡ Check }
@@ -237,7 +241,7 @@ pub(crate) fn check_in<'a, F: Shelf, B: DigestKeeper>(
 {
     match book.find(&request.label) {
         Ok(Some(kept)) => check_kept(alloc, shelf, request, &kept, orders, trades),
-        Ok(None) => Ok(FilingAnswer {
+        Ok(None) => Ok(CaseAnswer {
             status: CaseStatus::Refused,
             text: no_case_text(alloc, &request.label)?,
         }),

@@ -19,7 +19,7 @@ use case_run::halts::Halt;
 use log_digests::digest_shelf::DigestShelf;
 use log_source::shelf::Shelf;
 use log_source::sink::Sink;
-use log_verdict::sources::Source;
+use log_verdict::sources::LogSources;
 use std::alloc::Global;
 
 /// Opens the database, where there is one, and tells whether the logs are those of the case.
@@ -27,32 +27,31 @@ fn check_database<'a, F: Shelf, K: Sink, O: DigestOpener>(
     alloc: Global,
     shelf: &mut DigestShelf<'a, F>,
     request: &FilingRequest,
-    orders: &Source<'_>,
-    trades: &Source<'_>,
+    logs: &LogSources<'_>,
     out: &mut K,
     opener: &mut O,
 ) -> Ended<O::Book>
-    requires limit { HaveOneLimit orders.now trades.now }
-    requires names { NamesLogs request.now.logs orders.now trades.now }
+    requires limit { HaveOneLimit logs.now.orders logs.now.trades }
+    requires names { NamesLogs request.now.logs logs.now.orders logs.now.trades }
     requires asked { request.now.command ≡ Check }
     ensures logs { KeepsShelfLogs ⟦<DigestShelf<'a, F> as Shelf>⟧ shelf.old shelf.new }
     ensures later { let shelves = ⟦<DigestShelf<'a, F> as Shelf>⟧ in
-        FaultsNeverFall (reading_by orders.now shelves shelf.old shelf.new) }
+        FaultsNeverFall (reading_by logs.now.orders shelves shelf.old shelf.new) }
     ensures runs { let shelves = ⟦<DigestShelf<'a, F> as Shelf>⟧ in
-        let second = reading_by orders.now shelves shelf.old shelf.new in (first : Reading)
+        let second = reading_by logs.now.orders shelves shelf.old shelf.new in (first : Reading)
         → GoesOn first second → ReadsRecords first request.now.logs AnyRecords
         → RunsRequest (filing_call (both_readings first second) (O.state opener.old)
         (O.state opener.new) (option_map O.Book.state result.book)) request.now
         (K.state out.old) (K.state out.new) result.status }
     ensures length { let shelves = ⟦<DigestShelf<'a, F> as Shelf>⟧ in
-        let second = reading_by orders.now shelves shelf.old shelf.new in
+        let second = reading_by logs.now.orders shelves shelf.old shelf.new in
         EndsWithinOrAnswers second result.status }
     ensures opener { KeepsDatabases (O.state opener.old) (O.state opener.new) }
     ensures stays { SinkStays (K.state out.old) (K.state out.new) }
 {
     match opener.open(request.database.as_str(), Missing::Refuse) {
         Ok(mut book) => {
-            let answer = check_in(alloc, shelf, request, orders, trades, &mut book);
+            let answer = check_in(alloc, shelf, request, &logs.orders, &logs.trades, &mut book);
             Ended {
                 status: write_decided(out, answer),
                 book: Some(book),
@@ -67,28 +66,27 @@ pub(crate) fn check<'a, F: Shelf, K: Sink, O: DigestOpener>(
     alloc: Global,
     shelf: &mut DigestShelf<'a, F>,
     request: &FilingRequest,
-    orders: &Source<'_>,
-    trades: &Source<'_>,
+    logs: &LogSources<'_>,
     out: &mut K,
     opener: &mut O,
 ) -> Ended<O::Book>
-    requires limit { HaveOneLimit orders.now trades.now }
-    requires names { NamesLogs request.now.logs orders.now trades.now }
+    requires limit { HaveOneLimit logs.now.orders logs.now.trades }
+    requires names { NamesLogs request.now.logs logs.now.orders logs.now.trades }
     requires asked { request.now.command ≡ Check }
     ensures later { let shelves = ⟦<DigestShelf<'a, F> as Shelf>⟧ in
-        FaultsNeverFall (reading_by orders.now shelves shelf.old shelf.new) }
+        FaultsNeverFall (reading_by logs.now.orders shelves shelf.old shelf.new) }
     ensures runs { let shelves = ⟦<DigestShelf<'a, F> as Shelf>⟧ in
-        let r = reading_by orders.now shelves shelf.old shelf.new in
+        let r = reading_by logs.now.orders shelves shelf.old shelf.new in
         RunsRequest (filing_call r (O.state opener.old) (O.state opener.new)
         (option_map O.Book.state result.book)) request.now (K.state out.old) (K.state out.new)
         result.status }
     ensures length { let shelves = ⟦<DigestShelf<'a, F> as Shelf>⟧ in
-        EndsWithinOrAnswers (reading_by orders.now shelves shelf.old shelf.new) result.status }
+        EndsWithinOrAnswers (reading_by logs.now.orders shelves shelf.old shelf.new) result.status }
     ensures opener { KeepsDatabases (O.state opener.old) (O.state opener.new) }
     ensures stays { SinkStays (K.state out.old) (K.state out.new) }
 {
-    match look_at_logs(alloc, shelf, request, orders, trades) {
-        Ok(None) => check_database(alloc, shelf, request, orders, trades, out, opener),
+    match look_at_logs(alloc, shelf, request, &logs.orders, &logs.trades) {
+        Ok(None) => check_database(alloc, shelf, request, logs, out, opener),
         Ok(Some(answer)) => end_unopened(out, Ok(answer)),
         Err(halt) => end_unopened(out, Err(halt)),
     }

@@ -11,12 +11,13 @@ ghost use Rattle.desk_filing.specs.declared.requests.FilingRequest.{FilingReques
 ghost use Rattle.log_source.specs.Sinks.{SinkStays};
 ghost use Rattle.log_verdict.specs.Steps.{Reading};
 
-use crate::answers::{FilingAnswer, Judged};
+use crate::answers::Judged;
 use crate::filing::file_in;
 use crate::lines::case_text;
 use crate::opener::{DigestOpener, Missing};
 use crate::requests::FilingRequest;
 use crate::writing::write_decided;
+use case_run::answers::CaseAnswer;
 use case_run::halts::Halt;
 use case_run::statuses::CaseStatus;
 use digest_keeper::digested::DigestedCase;
@@ -31,7 +32,7 @@ pub(crate) struct Ended<B> {
 }
 
 /// How a command ends that opens no database.
-pub(crate) fn end_unopened<K: Sink, B>(out: &mut K, decided: Result<FilingAnswer, Halt>) -> Ended<B>
+pub(crate) fn end_unopened<K: Sink, B>(out: &mut K, decided: Result<CaseAnswer, Halt>) -> Ended<B>
     ensures runs { (call : FilingCall) (request : ARequest)
         → DecidesRequest call request decided
         → RunsRequest call request (K.state out.old) (K.state out.new) result.status }

@@ -16,7 +16,7 @@ ghost use Rattle.log_verdict.specs.Steps.{reading_by, FaultsNeverFall, KeepsShel
 ghost use Rattle.record_verdict.specs.Judged.{as_verdict};
 ghost use Rattle.record_verdict.specs.Scopes.{admission_of};
 
-use crate::answers::{FilingAnswer, Judged};
+use crate::answers::Judged;
 use crate::judging::{digested_case, malformed_answer, offence_in};
 use crate::lines::{finding_text, long_label_text};
 use crate::requests::FilingRequest;
@@ -24,6 +24,7 @@ use audit_base::faults::NoMemory;
 use audit_base::findings::Finding;
 use audit_base::names::{Name, read_name};
 use audit_base::terms::{Rule, Which};
+use case_run::answers::CaseAnswer;
 use case_run::halts::Halt;
 use case_run::statuses::CaseStatus;
 use day_logs::before_rule::DayBeforeRule;
@@ -31,8 +32,9 @@ use day_logs::reading::read_day;
 use day_records::day_trades::EndedTrades;
 use day_symbols::shares::DayShare;
 use day_verdicts::verdict_lists::{VerdictList, hand_verdicts};
-use digest_keeper::digested::{CaseDigests, DigestedCase};
+use digest_keeper::digested::DigestedCase;
 use log_digests::digest_shelf::DigestShelf;
+use log_digests::digests::LogDigests;
 use log_source::shelf::Shelf;
 use log_verdict::sources::Source;
 use log_verdict::stops::NoRecords;
@@ -69,14 +71,14 @@ struct DayCases {
     alloc: Global,
     label: Name,
     rule: Rule,
-    digests: CaseDigests,
+    digests: LogDigests,
     cases: Vec<DigestedCase>,
     long: Option<Name>,
 }
 
 impl DayCases {
     /// Of no symbols.
-    fn none(alloc: Global, label: &Name, rule: Rule, digests: &CaseDigests) -> DayCases
+    fn none(alloc: Global, label: &Name, rule: Rule, digests: &LogDigests) -> DayCases
         ensures { IsDayOf label.now rule digests.now result [] [] }
     {
         DayCases {
@@ -135,7 +137,7 @@ fn judged_cases(alloc: Global, day: DayCases) -> Result<Judged, NoMemory>
 {
     let DayCases { cases, long, .. } = day;
     match long {
-        Some(symbol) => Ok(Judged::Refused(FilingAnswer {
+        Some(symbol) => Ok(Judged::Refused(CaseAnswer {
             status: CaseStatus::Refused,
             text: long_label_text(alloc, &symbol)?,
         })),
@@ -148,7 +150,7 @@ fn judged_day(
     alloc: Global,
     label: &Name,
     rule: Rule,
-    digests: &CaseDigests,
+    digests: &LogDigests,
     ended: EndedTrades,
 ) -> Result<Judged, NoMemory>
     requires few { RuleTradesFitPlaces rule whole_day ended }
@@ -160,10 +162,10 @@ fn judged_day(
 }
 
 /// The answer that a report of the trade log has no partner.
-fn unpaired_answer(alloc: Global, finding: &Finding) -> Result<FilingAnswer, NoMemory>
+fn unpaired_answer(alloc: Global, finding: &Finding) -> Result<CaseAnswer, NoMemory>
     ensures { IfOk result (TellsUnpaired finding.now) }
 {
-    Ok(FilingAnswer {
+    Ok(CaseAnswer {
         status: CaseStatus::Refused,
         text: finding_text(alloc, finding)?,
     })
@@ -188,7 +190,7 @@ fn judged_logs(
     alloc: Global,
     label: &Name,
     rule: Rule,
-    digests: &CaseDigests,
+    digests: &LogDigests,
     given: DayBeforeRule,
 ) -> Result<Judged, NoMemory>
     requires few { IsDayWithFewTrades whole_day (admission_of rule) given }
@@ -231,7 +233,7 @@ pub(crate) fn judge_day<'a, F: Shelf>(
         trades,
     ) {
         Ok(given) => {
-            let digests = CaseDigests {
+            let digests = LogDigests {
                 orders: shelf.digest(Which::Orders),
                 trades: shelf.digest(Which::Trades),
             };

@@ -6,7 +6,7 @@ ghost use Rattle.desk_filing.specs.Turns.{IsFirstDifference};
 use audit_base::terms::Which;
 use audit_report::words::log_word;
 use case_keeper::case::Offence;
-use digest_keeper::digested::CaseDigests;
+use log_digests::digests::LogDigests;
 
 /// What is not as the case has it.
 #[derive(Clone, Copy, Debug, PartialEq, Eq)]
@@ -35,7 +35,7 @@ impl CaseDifference {
 /// How two audits ended, each on logs of these digests.
 #[derive(Clone, Copy, Debug, PartialEq, Eq)]
 pub(crate) struct AuditedLogs {
-    pub(crate) digests: CaseDigests,
+    pub(crate) digests: LogDigests,
     pub(crate) offence: Option<Offence>,
 }
 

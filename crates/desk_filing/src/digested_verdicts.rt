@@ -7,8 +7,8 @@ ghost use Rattle.log_verdict.specs.Steps.{reading_by, KeepsShelfLogs, FaultsNeve
 
 use audit_base::terms::Which;
 use audit_report::verdicts::Verdict;
-use digest_keeper::digested::CaseDigests;
 use log_digests::digest_shelf::DigestShelf;
+use log_digests::digests::LogDigests;
 use log_source::shelf::Shelf;
 use log_verdict::sources::Source;
 use log_verdict::stops::Stop;
@@ -21,7 +21,7 @@ use std::alloc::Global;
 #[derive(Debug, Drop)]
 pub struct DigestedVerdict {
     pub verdict: Verdict,
-    pub digests: CaseDigests,
+    pub digests: LogDigests,
 }
 
 /// The verdict on two logs, as `verdict_on` gives it, with the digests of the bytes that it is
@@ -50,7 +50,7 @@ pub fn digested_verdict_on<'a, F: Shelf>(
     let verdict = verdict_on(alloc, shelf, question, orders, trades)?;
     Ok(DigestedVerdict {
         verdict,
-        digests: CaseDigests {
+        digests: LogDigests {
             orders: shelf.digest(Which::Orders),
             trades: shelf.digest(Which::Trades),
         },

@@ -2,9 +2,8 @@
 ghost use Rattle.std.specs.Prelude.{◌≡◌, ◌≤◌};
 ghost use Rattle.desk_filing.specs.Steps.{FilesOrStops, FindsFirst, case_lines};
 
-use crate::answers::FilingAnswer;
-use crate::lines::known_text;
 use case_keeper::keeper::KeepFault;
+use case_run::answers::{CaseAnswer, known_text};
 use case_run::halts::Halt;
 use case_run::statuses::CaseStatus;
 use digest_keeper::digested::{DigestedCase, KeptCase};
@@ -34,19 +33,19 @@ pub(crate) fn file_in<B: DigestKeeper>(
     cases: &[DigestedCase],
     text: Vec<u8>,
     book: &mut B,
-) -> Result<FilingAnswer, Halt>
+) -> Result<CaseAnswer, Halt>
     requires { text.items ≡ case_lines cases.now }
     ensures files { FilesOrStops (B.state book.old) (B.state book.new) cases.now result }
     ensures later { (B.state book.old).faults ≤ (B.state book.new).faults }
 {
     match first_known(cases, book)? {
-        Some(known) => Ok(FilingAnswer {
+        Some(known) => Ok(CaseAnswer {
             status: CaseStatus::Refused,
             text: known_text(alloc, &known.case)?,
         }),
         None => {
             book.file_all(cases)?;
-            Ok(FilingAnswer {
+            Ok(CaseAnswer {
                 status: CaseStatus::Done,
                 text,
             })

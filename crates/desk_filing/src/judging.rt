@@ -1,7 +1,6 @@
 //! What the logs of `file` come to: the verdict on a symbol, as a case with the digests of the
 //! bytes that it is on.
 ghost use Rattle.std.specs.Prelude.{◌≡◌, ◌∷◌, [], IfOk, false};
-ghost use Rattle.case_run.specs.Play.{offence_of};
 ghost use Rattle.case_run.specs.Turns.{EndsWithinOrHalts};
 ghost use Rattle.desk_filing.specs.Judging.{case_that_ended, IsJudgedVerdict, TellsBadPlace};
 ghost use Rattle.desk_filing.specs.Steps.{JudgesLogs, NamesLogs};
@@ -11,36 +10,25 @@ ghost use Rattle.log_verdict.specs.BothLogs.{HaveOneLimit};
 ghost use Rattle.log_verdict.specs.Steps.{reading_by, FaultsNeverFall, KeepsShelfLogs};
 ghost use Rattle.record_verdict.specs.Judged.{as_verdict};
 
-use crate::answers::{FilingAnswer, Judged};
+use crate::answers::Judged;
 use crate::digested_verdicts::{DigestedVerdict, digested_verdict_on};
-use crate::lines::malformed_text;
 use crate::requests::FilingRequest;
 use audit_base::faults::{BadPlace, NoMemory};
-use audit_base::findings::Finding;
 use audit_base::names::Name;
 use audit_base::terms::{Rule, Which};
 use audit_report::verdicts::Verdict;
 use case_keeper::case::{Case, Offence};
+use case_run::answers::{CaseAnswer, malformed_text, offence_of};
 use case_run::halts::Halt;
 use case_run::statuses::CaseStatus;
-use digest_keeper::digested::{CaseDigests, DigestedCase};
+use digest_keeper::digested::DigestedCase;
 use log_digests::digest_shelf::DigestShelf;
+use log_digests::digests::LogDigests;
 use log_source::shelf::Shelf;
 use log_verdict::sources::Source;
 use record_verdict::questions::Question;
 use record_verdict::verdicts as records;
 use std::alloc::Global;
-
-/// The offence of a finding.
-pub(crate) fn offence_of(finding: &Finding) -> Offence
-    ensures { result ≡ offence_of finding.now }
-{
-    Offence {
-        property: finding.property,
-        log: finding.log,
-        place: finding.place,
-    }
-}
 
 /// How an audit ended with a verdict on records.
 pub(crate) fn offence_in(judged: &records::Judged) -> Option<Offence>
@@ -56,7 +44,7 @@ pub(crate) fn offence_in(judged: &records::Judged) -> Option<Offence>
 pub(crate) fn digested_case(
     label: &Name,
     rule: Rule,
-    digests: &CaseDigests,
+    digests: &LogDigests,
     symbol: &Name,
     offence: Option<Offence>,
 ) -> DigestedCase
@@ -78,10 +66,10 @@ pub(crate) fn malformed_answer(
     alloc: Global,
     log: Which,
     bad: &BadPlace,
-) -> Result<FilingAnswer, NoMemory>
+) -> Result<CaseAnswer, NoMemory>
     ensures { IfOk result (TellsBadPlace (Verdict.Malformed log bad.now)) }
 {
-    Ok(FilingAnswer {
+    Ok(CaseAnswer {
         status: CaseStatus::Malformed,
         text: malformed_text(alloc, log, bad)?,
     })
@@ -92,7 +80,7 @@ fn case_alone(
     alloc: Global,
     label: &Name,
     question: &Question,
-    digests: &CaseDigests,
+    digests: &LogDigests,
     offence: Option<Offence>,
 ) -> Result<Vec<DigestedCase>, NoMemory>
     ensures { let q = question.now in

@@ -26,6 +26,5 @@ pub mod memory_opener;
 pub mod opener;
 pub mod requests;
 pub mod running;
-mod sources;
 pub mod words;
 mod writing;

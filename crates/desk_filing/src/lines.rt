@@ -1,22 +1,19 @@
 //! The lines of filing and checking, beside those of a casebook.
-ghost use Rattle.std.specs.Prelude.{◌≡◌, ◌++◌, IfOk};
-ghost use Rattle.audit_report.specs.Lines.{malformed_line};
+ghost use Rattle.std.specs.Prelude.{◌≡◌, IfOk};
 ghost use Rattle.audit_report.specs.Texts.{verdict_text};
 ghost use Rattle.audit_report.specs.declared.verdicts.Verdict.TheVariants as verdict;
-ghost use Rattle.case_run.specs.Lines.{case_line, known_line, no_case_line};
+ghost use Rattle.case_run.specs.Lines.{no_case_line};
 ghost use Rattle.desk_filing.specs.Lines as text;
 ghost use Rattle.desk_filing.specs.Steps.{case_lines};
 
 use crate::differences::CaseDifference;
-use audit_base::faults::{BadPlace, NoMemory};
+use audit_base::faults::NoMemory;
 use audit_base::findings::Finding;
 use audit_base::names::Name;
-use audit_base::terms::Which;
 use audit_report::line_parts::{LinePart, append_line};
 use audit_report::reports::report_text;
 use audit_report::verdicts::Verdict;
-use case_keeper::case::Case;
-use case_run::lines::{append_case_line, append_known_line, append_no_case_line};
+use case_run::lines::{append_case_line, append_no_case_line};
 use digest_keeper::digested::DigestedCase;
 use std::alloc::Global;
 
@@ -28,16 +25,6 @@ pub(crate) fn case_text(alloc: Global, cases: &[DigestedCase]) -> Result<Vec<u8>
     for one in cases {
         append_case_line(alloc, &one.case, &mut made)?;
     }
-    Ok(made)
-}
-
-/// That a label is known, and the line of the case that has it.
-pub(crate) fn known_text(alloc: Global, known: &Case) -> Result<Vec<u8>, NoMemory>
-    ensures { IfOk result (λ made. made.items ≡ known_line ++ case_line known.now) }
-{
-    let mut made = Vec::new(alloc);
-    append_known_line(alloc, &mut made)?;
-    append_case_line(alloc, known, &mut made)?;
     Ok(made)
 }
 
@@ -95,13 +82,6 @@ pub(crate) fn comparison_text(
         None => append_line(alloc, b"same", &[LinePart::Word(label.bytes())], &mut made)?,
     }
     Ok(made)
-}
-
-/// The line of a bad place.
-pub(crate) fn malformed_text(alloc: Global, log: Which, bad: &BadPlace) -> Result<Vec<u8>, NoMemory>
-    ensures { IfOk result (λ made. made.items ≡ malformed_line log bad.now) }
-{
-    report_text(alloc, &Verdict::Malformed { log, bad: *bad })
 }
 
 /// The text of a finding that rejects.

@@ -20,7 +20,6 @@ use crate::judging::judge_symbol;
 use crate::laws::one_filing_turn;
 use crate::opener::DigestOpener;
 use crate::requests::{FilingCommand, FilingRequest};
-use crate::sources::filing_source;
 use crate::words::read_filing_words;
 use case_run::statuses::CaseStatus;
 use case_run::writing::write_text;
@@ -29,6 +28,7 @@ use desk_words::texts::desk_usage_text;
 use log_digests::digest_shelf::DigestShelf;
 use log_source::shelf::Shelf;
 use log_source::sink::Sink;
+use log_verdict::sources::{LogSources, Source};
 use record_verdict::questions::Question;
 use seeded_hash::seed::HashSeed;
 use std::alloc::Global;
@@ -70,8 +70,9 @@ fn run_over<'a, F: Shelf, K: Sink, O: DigestOpener>(
     ensures opener { KeepsDatabases (O.state opener.old) (O.state opener.new) }
     ensures stays { SinkStays (K.state out.old) (K.state out.new) }
 {
-    let orders = filing_source(&request.logs.orders, request.logs.orders_form, seed);
-    let trades = filing_source(&request.logs.trades, request.logs.trades_form, seed);
+    let logs = &request.logs;
+    let orders = Source::of_day(logs.orders.as_str(), logs.orders_form, seed);
+    let trades = Source::of_day(logs.trades.as_str(), logs.trades_form, seed);
     match &request.command {
         FilingCommand::File { rule, symbol } => {
             let question = Question {
@@ -86,7 +87,10 @@ fn run_over<'a, F: Shelf, K: Sink, O: DigestOpener>(
             let judged = judge_day(alloc, shelf, request, *rule, &orders, &trades);
             file_judged(alloc, request, judged, out, opener)
         }
-        FilingCommand::Check => check(alloc, shelf, request, &orders, &trades, out, opener),
+        FilingCommand::Check => {
+            let sources = LogSources { orders, trades };
+            check(alloc, shelf, request, &sources, out, opener)
+        }
     }
 }
 

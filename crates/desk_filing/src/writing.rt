@@ -6,7 +6,7 @@ ghost use Rattle.desk_filing.specs.declared.requests.FilingRequest.{FilingReques
 ghost use Rattle.log_source.specs.Sinks.{SinkStays};
 ghost use Rattle.log_verdict.specs.Steps.{Reading};
 
-use crate::answers::FilingAnswer;
+use case_run::answers::CaseAnswer;
 use case_run::halts::Halt;
 use case_run::statuses::CaseStatus;
 use case_run::writing::{write_halt, write_text};
@@ -14,7 +14,7 @@ use log_source::sink::Sink;
 
 /// Writes the text of an answer, or the line of a halt, and answers the status. Whatever decided
 /// that, the status has its cause in it.
-pub(crate) fn write_decided<K: Sink>(out: &mut K, decided: Result<FilingAnswer, Halt>) -> CaseStatus
+pub(crate) fn write_decided<K: Sink>(out: &mut K, decided: Result<CaseAnswer, Halt>) -> CaseStatus
     ensures runs { (call : FilingCall) (request : FilingRequest)
         → DecidesRequest call request decided
         → RunsRequest call request (K.state out.old) (K.state out.new) result }

@@ -17,7 +17,7 @@ use Rattle.log_verdict.specs.declared.sources.Source.{Source}
 use Rattle.log_verdict.specs.BothLogs.{ReadsAfterOrders, ReadsLogs}
 use Rattle.log_verdict.specs.LogVerdicts.{records_of_order_log, trades_of_trade_log}
 use Rattle.log_verdict.specs.Steps.{Reading}
-use Rattle.desk_page.specs.declared.page_logs.PageDigests.{PageDigests}
+use Rattle.log_digests.specs.declared.digests.LogDigests.{LogDigests}
 use Rattle.desk_page.specs.declared.requests.PageRequest.{PageRequest}
 use Rattle.desk_page.specs.PageAnswers.{IsAnswerByPresence, IsAnswerToRecords, logs_in, page_question, Pictures}
 use Rattle.desk_page.specs.PageLogs.{AreDigestsOf}
@@ -32,7 +32,7 @@ of-log : (tells told : Bool) (known log : Option (List ℕ)) (digest : List ℕ)
     → tells ≡ true → option_map digest_of known ≡ Some digest
 of-log tells told known log digest is-told is-log has told-so = ap (option_map digest_of) (sym is-log) ∙ has (is-told ∙ told-so)
 
-module _ (is_picture : Pictures) (r : Reading) (request : PageRequest) (orders trades : Source) (digests : PageDigests) (given : BeforeRule) (answer : Answer) (digested : IsDigestedAnswer is_picture request digests given answer)
+module _ (is_picture : Pictures) (r : Reading) (request : PageRequest) (orders trades : Source) (digests : LogDigests) (given : BeforeRule) (answer : Answer) (digested : IsDigestedAnswer is_picture request digests given answer)
     (tells : Bool) (log_of : Which → List ℕ → Option (List ℕ)) (is-told : tells ≡ r.tells) (logs : (log : Which) (name : List ℕ) → log_of log name ≡ r.log_of log name)
     (first : IsDigestAtEnd tells (log_of Orders request.logs.orders) (r.after Orders) digests.orders) (second : IsDigestAtEnd tells (log_of Trades request.logs.trades) (r.after Trades) digests.trades) where
   abbrev of_records : List OrderRecord → Result (List TradeRecord) Finding → Type 0

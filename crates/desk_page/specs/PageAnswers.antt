@@ -24,7 +24,7 @@ use Rattle.log_verdict.specs.declared.sources.Source.{Source}
 use Rattle.log_verdict.specs.declared.stops.Stop.{Stop}
 use Rattle.log_verdict.specs.BothLogs.{IsStopOfTwoLogs, ReadsLogs}
 use Rattle.log_verdict.specs.Steps.{Reading}
-use Rattle.desk_page.specs.declared.page_logs.PageDigests.{PageDigests}
+use Rattle.log_digests.specs.declared.digests.LogDigests.{LogDigests}
 use Rattle.desk_page.specs.declared.requests.PageRequest.{PageRequest}
 use Rattle.desk_page.specs.PageLogs.{AreDigestsOf, NamesLogs, ShelfLogs}
 use Rattle.record_verdict.specs.declared.questions.Question.{Question}
@@ -98,7 +98,7 @@ pub record IsPageOfRecords (is_picture : Pictures) (q : Question) (named : PageL
 pub record IsPageOfLogs (is_picture : Pictures) (shelf : ShelfLogs) (request : PageRequest)
     (entries : List OrderRecord) (paired : Result (List TradeRecord) Finding)
     (the_status : Status) (text : List ℕ) : Type 0 where
-  pub digests : PageDigests
+  pub digests : LogDigests
   pub are_digests : AreDigestsOf shelf request.logs digests
   pub named : PageLogs
   pub names : NamesLogs request.logs digests named

@@ -5,7 +5,7 @@ use Rattle.audit_base.specs.declared.terms.Which.TheVariants.{Orders, Trades}
 use Rattle.desk_words.specs.declared.requests.DayLogs.{DayLogs}
 use Rattle.hex.specs.Hex.{encode_lower}
 use Rattle.log_digests.specs.Digests.{digest_of}
-use Rattle.desk_page.specs.declared.page_logs.PageDigests.{PageDigests}
+use Rattle.log_digests.specs.declared.digests.LogDigests.{LogDigests}
 use Rattle.page_parts.specs.declared.repeats.PageLogs.{PageLogs}
 
 -- Which logs a shelf has: whether that is known, and which bytes a slot finds under a name.
@@ -19,13 +19,13 @@ IsDigestOf shelf log name digest =
     shelf.tells ≡ true → option_map digest_of (shelf.log_of log name) ≡ Some digest
 
 -- The digests are those of both logs under these names.
-pub record AreDigestsOf (shelf : ShelfLogs) (logs : DayLogs) (digests : PageDigests)
+pub record AreDigestsOf (shelf : ShelfLogs) (logs : DayLogs) (digests : LogDigests)
     : Type 0 where
   pub of_orders : IsDigestOf shelf Orders logs.orders digests.orders
   pub of_trades : IsDigestOf shelf Trades logs.trades digests.trades
 
 -- A page names these logs: under their names, in their forms, with the digits of these digests.
-pub record NamesLogs (logs : DayLogs) (digests : PageDigests) (named : PageLogs) : Type 0 where
+pub record NamesLogs (logs : DayLogs) (digests : LogDigests) (named : PageLogs) : Type 0 where
   pub orders_are : named.orders.now ≡ logs.orders
   pub trades_are : named.trades.now ≡ logs.trades
   pub orders_form_is : named.orders_form ≡ logs.orders_form

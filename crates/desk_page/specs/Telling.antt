@@ -13,7 +13,7 @@ use Rattle.audit_report.specs.Statuses.{verdict_status}
 use Rattle.command_run.specs.declared.answers.Answer.{Answer}
 use Rattle.command_run.specs.Deciding.{IsAnswerOfKind}
 use Rattle.command_run.specs.VerdictAnswers.{IsAnswerWith}
-use Rattle.desk_page.specs.declared.page_logs.PageDigests.{PageDigests}
+use Rattle.log_digests.specs.declared.digests.LogDigests.{LogDigests}
 use Rattle.desk_page.specs.declared.requests.PageRequest.{PageRequest}
 use Rattle.desk_page.specs.PageAnswers.{finding_of, in_words, IsPageOfMarket, IsPageOfRecords, page_question, Pictures}
 use Rattle.desk_page.specs.PageLogs.{NamesLogs}
@@ -65,7 +65,7 @@ IsAnswerToGiven is_picture q named given answer =
     entries paired) answer
 
 -- The answer to what two logs give, on a page that names the logs of a request with these digests.
-pub record IsDigestedAnswer (is_picture : Pictures) (request : PageRequest) (digests : PageDigests)
+pub record IsDigestedAnswer (is_picture : Pictures) (request : PageRequest) (digests : LogDigests)
     (given : BeforeRule) (answer : Answer) : Type 0 where
   pub named : PageLogs
   pub names : NamesLogs request.logs digests named

@@ -14,7 +14,7 @@ ghost use Rattle.record_verdict.specs.Judged.{as_verdict};
 ghost use Rattle.symbol_offences.specs.Telling.{are_none};
 
 use crate::drawings::Drawing;
-use crate::page_logs::{PageDigests, named_logs};
+use crate::page_logs::{digits_of, named_logs};
 use crate::pages::{finding_of, page_before_rule, page_of_market};
 use crate::requests::PageRequest;
 use audit_base::faults::NoMemory;
@@ -24,6 +24,7 @@ use audit_base::terms::Which;
 use audit_report::statuses::Status;
 use command_run::answers::{Answer, answer_without};
 use log_digests::digest_shelf::DigestShelf;
+use log_digests::digests::LogDigests;
 use log_source::shelf::Shelf;
 use log_verdict::both_logs::read_both;
 use log_verdict::sources::Source;
@@ -133,13 +134,13 @@ fn answer_digested<D: Drawing>(
     alloc: Global,
     request: &PageRequest,
     given: &BeforeRule,
-    digests: &PageDigests,
+    digests: &LogDigests,
 ) -> Result<Answer, NoMemory>
     requires { IsJudgeable given.now }
     ensures { IfOk result
         (IsDigestedAnswer D.is_picture request.now digests.now given.now) }
 {
-    let digits = digests.digits();
+    let digits = digits_of(digests);
     let named = named_logs(&request.logs, digests, &digits);
     let question = question_of(request);
     answer_after::<D>(alloc, &question, given, &named)
@@ -174,7 +175,7 @@ pub(crate) fn page_on<'a, D: Drawing, F: Shelf>(
 {
     match read_both(alloc, shelf, &question_of(request).scope(), orders, trades) {
         Ok(given) => {
-            let digests = PageDigests {
+            let digests = LogDigests {
                 orders: shelf.digest(Which::Orders),
                 trades: shelf.digest(Which::Trades),
             };

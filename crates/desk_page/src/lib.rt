@@ -20,5 +20,4 @@ mod pages;
 pub mod program;
 pub mod requests;
 pub mod running;
-mod sources;
 pub mod words;

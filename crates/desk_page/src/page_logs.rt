@@ -4,40 +4,32 @@ ghost use Rattle.hex.specs.Hex.{encode_lower};
 ghost use Rattle.desk_page.specs.PageLogs.{NamesLogs};
 
 use desk_words::requests::DayLogs;
-use log_digests::digests::LogDigest;
+use log_digests::digests::LogDigests;
 use page_parts::repeats::PageLogs;
 
-/// The digests of the two logs of a page.
-#[derive(Clone, Copy, Debug, PartialEq, Eq)]
-pub struct PageDigests {
-    pub orders: LogDigest,
-    pub trades: LogDigest,
-}
-
-/// Their digits, 64 in lower case each: those that `sha256sum` writes.
+/// The digits of the digests of the two logs of a page, 64 in lower case each: those that
+/// `sha256sum` writes.
 #[derive(Clone, Copy, Debug)]
 pub(crate) struct PageDigits {
     pub(crate) orders: [u8; 64],
     pub(crate) trades: [u8; 64],
 }
 
-impl PageDigests {
-    /// The digits of both.
-    pub(crate) fn digits(&self) -> PageDigits
-        ensures orders { result.orders ≡ encode_lower self.now.orders }
-        ensures trades { result.trades ≡ encode_lower self.now.trades }
-    {
-        PageDigits {
-            orders: self.orders.digits(),
-            trades: self.trades.digits(),
-        }
+/// The digits of both.
+pub(crate) fn digits_of(digests: &LogDigests) -> PageDigits
+    ensures orders { result.orders ≡ encode_lower digests.now.orders }
+    ensures trades { result.trades ≡ encode_lower digests.now.trades }
+{
+    PageDigits {
+        orders: digests.orders.digits(),
+        trades: digests.trades.digits(),
     }
 }
 
 /// The logs of a page, with the digits of these digests.
 pub(crate) fn named_logs<'a>(
     logs: &'a DayLogs,
-    digests: &PageDigests,
+    digests: &LogDigests,
     digits: &'a PageDigits,
 ) -> PageLogs<'a>
     requires orders { digits.now.orders ≡ encode_lower digests.now.orders }

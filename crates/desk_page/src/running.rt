@@ -17,7 +17,6 @@ use crate::answers::page_on;
 use crate::drawings::Drawing;
 use crate::program::{GivenPage, KnownLogs, Pages};
 use crate::requests::PageRequest;
-use crate::sources::page_source;
 use crate::words::read_page_words;
 use audit_report::statuses::Status;
 use command_run::answers::Answer;
@@ -27,6 +26,7 @@ use command_words::requests::WordsFault;
 use log_digests::digest_shelf::DigestShelf;
 use log_source::shelf::Shelf;
 use log_source::sink::Sink;
+use log_verdict::sources::Source;
 use log_verdict::stops::Stop;
 use seeded_hash::seed::HashSeed;
 use std::alloc::Global;
@@ -58,8 +58,9 @@ fn answer_page<'a, D: Drawing, W: KnownLogs, F: Shelf>(
 {
     // A law that the answer rests on. It computes nothing.
     both_logs_decide::<Pages<D, W>, GivenPage<D, W>>();
-    let orders = page_source(&request.logs.orders, request.logs.orders_form, seed);
-    let trades = page_source(&request.logs.trades, request.logs.trades_form, seed);
+    let logs = &request.logs;
+    let orders = Source::of_day(logs.orders.as_str(), logs.orders_form, seed);
+    let trades = Source::of_day(logs.trades.as_str(), logs.trades_form, seed);
     page_on::<D, F>(alloc, shelf, request, &orders, &trades)
 }
 

@@ -24,7 +24,8 @@ use Rattle.day_verdicts.specs.declared.day_verdicts.JudgedSymbols.{JudgedSymbols
 use Rattle.day_verdicts.specs.DayVerdicts.{told_of_symbols}
 use Rattle.day_verdicts.specs.ToldSymbols.{counts_of, day_lines_of, Told, TellsSymbols}
 use Rattle.desk_words.specs.declared.requests.DeskRequest.{DeskRequest}
-use Rattle.desk_words.specs.declared.requests.DeskRequest.TheVariants.{Audit, Session}
+use Rattle.desk_words.specs.declared.requests.DeskRequest.TheVariants.{Whole}
+use Rattle.desk_words.specs.declared.requests.WholeRequest.TheVariants.{Audit, Session}
 use Rattle.log_source.specs.Sinks.{SinkState}
 use Rattle.log_verdict.specs.LogVerdicts.{Log, log_in, records_of_order_log, trades_of_trade_log}
 use Rattle.log_verdict.specs.Steps.{Reading}
@@ -131,7 +132,7 @@ answers_day asked r old new status answers = record { of_rule = of_rule; of_phas
           verdicts_are = is.verdicts_are;
           wrote = same_told (symbols_in q.share (symbols_of_day entries day_trades)) (told_of_symbols checks entries day_trades (symbols_in q.share (symbols_of_day entries day_trades)) is.verdicts) judged (rule_word rule) old new status is.tells written;
         })
-        r (desk_command_of (Audit rule (logs_named orders trades to_judge.orders_name to_judge.trades_name) table share checks false)) orders trades to_judge.orders_name to_judge.trades_name
+        r (desk_command_of (Whole (Audit rule (logs_named orders trades to_judge.orders_name to_judge.trades_name) table share checks false))) orders trades to_judge.orders_name to_judge.trades_name
         to_judge.holds_orders to_judge.holds_trades known nothing_fails refl (λ bytes. refl) (λ bytes text is. is)
         (subst (λ (x : Option DeskRequest). AnswersHeldLogs desk_command_of x r old new status) to_judge.words answers)
 
@@ -144,6 +145,6 @@ answers_day asked r old new status answers = record { of_rule = of_rule; of_phas
           wrote = same_told (symbols_in (share_or_whole share) (symbols_of_day entries day_trades)) (told_by_sessions checks entries day_trades (symbols_in (share_or_whole share) (symbols_of_day entries day_trades)) is.sessions) judged
               (phases_text phases) old new status is.tells written;
         })
-        r (desk_command_of (Session phases (logs_named orders trades to_judge.orders_name to_judge.trades_name) table share checks false)) orders trades to_judge.orders_name to_judge.trades_name
+        r (desk_command_of (Whole (Session phases (logs_named orders trades to_judge.orders_name to_judge.trades_name) table share checks false))) orders trades to_judge.orders_name to_judge.trades_name
         to_judge.holds_orders to_judge.holds_trades known nothing_fails refl (λ bytes. refl) (λ bytes text is. is)
         (subst (λ (x : Option DeskRequest). AnswersHeldLogs desk_command_of x r old new status) to_judge.words answers)

@@ -22,7 +22,8 @@ use Rattle.command_run.specs.Writing.{HasWritten}
 use Rattle.desk_words.specs.DressWords.{HasSohWord}
 use Rattle.desk_words.specs.declared.dress_words.DayDress.{DayDress}
 use Rattle.desk_words.specs.declared.dress_words.DayDress.TheVariants.{OnLines}
-use Rattle.desk_words.specs.declared.requests.DeskRequest.TheVariants.{Plain}
+use Rattle.desk_words.specs.declared.requests.DeskRequest.TheVariants.{Early}
+use Rattle.desk_words.specs.declared.requests.EarlyRequest.TheVariants.{Plain}
 use Rattle.fix_days.specs.declared.faults.BadMessage.{BadMessage}
 use Rattle.fix_days.specs.Fronts.{BeginsReadings}
 use Rattle.fix_days.specs.Laws.{written_line}
@@ -114,7 +115,7 @@ nothing-written r reads name sink = record {
 
 module _ (r : Reading) (day : List ℕ) (dress : DayDress) (only : TouchesOnly r Orders) where
   abbrev command : Command
-  command = desk_command_of (Plain day dress)
+  command = desk_command_of (Early (Plain day dress))
 
   abbrev last : LogStep
   last = step_of r Orders day

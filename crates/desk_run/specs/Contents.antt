@@ -8,7 +8,8 @@ use Rattle.command_run.specs.VerdictAnswers.{IsDone, IsVerdictAnswer}
 use Rattle.log_contents.specs.DayItems.{order_log_items, trade_log_items}
 use Rattle.desk_run.specs.Deciding.{logs_of}
 use Rattle.desk_words.specs.declared.requests.DeskRequest.{DeskRequest}
-use Rattle.desk_words.specs.declared.requests.DeskRequest.TheVariants.{Contents}
+use Rattle.desk_words.specs.declared.requests.DeskRequest.TheVariants.{Whole}
+use Rattle.desk_words.specs.declared.requests.WholeRequest.TheVariants.{Contents}
 use Rattle.log_contents.specs.Summaries.{LogItems}
 use Rattle.log_contents.specs.Texts.{IsContentsText}
 use Rattle.log_verdict.specs.declared.sources.Source.{Source}
@@ -37,4 +38,4 @@ IsContentsAnswer orders trades status text =
 
 -- the request for what is in these logs
 abbrev pub request_of_contents : Source → Source → DeskRequest
-request_of_contents orders trades = Contents (logs_of orders trades)
+request_of_contents orders trades = Whole (Contents (logs_of orders trades))

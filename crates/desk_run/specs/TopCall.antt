@@ -24,7 +24,8 @@ use Rattle.day_verdicts.specs.DayVerdicts.{AreVerdicts, told_of_symbols}
 use Rattle.day_verdicts.specs.ToldSymbols.{counts_of, day_lines_of, Told}
 use Rattle.desk_words.specs.declared.requests.DayLogs.{DayLogs}
 use Rattle.desk_words.specs.declared.requests.DeskRequest.{DeskRequest}
-use Rattle.desk_words.specs.declared.requests.DeskRequest.TheVariants.{Audit, Session}
+use Rattle.desk_words.specs.declared.requests.DeskRequest.TheVariants.{Whole}
+use Rattle.desk_words.specs.declared.requests.WholeRequest.TheVariants.{Audit, Session}
 use Rattle.desk_words.specs.Texts.{desk_usage_line}
 use Rattle.further_checks.specs.declared.findings.FurtherChecks.{FurtherChecks}
 use Rattle.log_source.specs.declared.shelf.Shelf.{Ghosts as Shelf}
@@ -126,7 +127,7 @@ abbrev pub AnswersDayOfRule : Option DeskRequest → Reading → SinkState → S
     → Type 0
 AnswersDayOfRule asked r old new status = (rule : Rule) (table : Bool) (share : Option DayShare)
     (checks : FurtherChecks) (orders trades : Log)
-    → IsToJudgeDay (λ logs. Audit rule logs table share checks false) asked r orders trades
+    → IsToJudgeDay (λ logs. Whole (Audit rule logs table share checks false)) asked r orders trades
     → IsKnown r old → NothingFails r old new
     → WroteDay (WroteVerdicts (day_question rule table share checks) old new status) orders trades
     old new status
@@ -137,7 +138,7 @@ abbrev pub AnswersDayOfPhases : Option DeskRequest → Reading → SinkState →
     → Type 0
 AnswersDayOfPhases asked r old new status = (phases : List Phase) (table : Bool)
     (share : Option DayShare) (checks : FurtherChecks) (orders trades : Log)
-    → IsToJudgeDay (λ logs. Session phases logs table share checks false) asked r orders trades
+    → IsToJudgeDay (λ logs. Whole (Session phases logs table share checks false)) asked r orders trades
     → IsKnown r old → NothingFails r old new
     → WroteDay (WroteSessions phases table checks (share_or_whole share) old new status)
     orders trades old new status

@@ -1,12 +1,13 @@
-//! The answer to each command. A command is an arm of `answer_request`.
-ghost use Rattle.std.specs.Prelude.{◌≡◌, false, IfOk};
+//! The answer to each command. A command is an arm of `answer_whole`.
+ghost use Rattle.std.specs.Prelude.{IfOk};
 ghost use Rattle.audit_report.specs.declared.statuses.Status.TheVariants as status;
 ghost use Rattle.command_run.specs.Deciding.{DecidesAnswer, IsAnswerOfKind};
 ghost use Rattle.command_run.specs.VerdictAnswers.{IsAnswerWith};
-ghost use Rattle.desk_run.specs.Requests.{desk_command_of, writes_while_reading};
+ghost use Rattle.desk_run.specs.Requests.{desk_command_of};
 ghost use Rattle.desk_run.specs.TopCall.{desk_reading};
+ghost use Rattle.desk_words.specs.declared.requests.DeskRequest.TheVariants.{Whole};
 ghost use Rattle.desk_words.specs.Texts.{help_text, version_text};
-ghost use Rattle.desk_words.specs.Words.{MayBeAskedOfDesk};
+ghost use Rattle.desk_words.specs.Words.{MayBeAskedWhole};
 ghost use Rattle.log_verdict.specs.BothLogs.{StaysWithin};
 ghost use Rattle.log_verdict.specs.Steps.{FaultsNeverFall, KeepsShelfLogs};
 
@@ -16,15 +17,17 @@ use super::days::{answer_audit, answer_session};
 use super::digests::answer_digest;
 use super::offences::answer_offences;
 use super::program::Desk;
-use super::sources::{day_source, share_asked};
+use super::sources::{share_asked, sources_of};
 use audit_base::faults::NoMemory;
 use command_run::answers::{Answer, done_answer};
 use command_run::laws::no_log_decides;
 use day_logs::answers::DayQuestion;
+use day_sessions::questions::SessionQuestion;
 use desk_words::commands::DeskCommand;
-use desk_words::requests::DeskRequest;
+use desk_words::requests::WholeRequest;
 use desk_words::texts::{append_help, version_text};
 use log_source::shelf::Shelf;
+use log_verdict::sources::Source;
 use log_verdict::stops::Stop;
 use seeded_hash::seed::HashSeed;
 use std::alloc::Global;
@@ -48,25 +51,24 @@ fn answer_version(alloc: Global) -> Result<Answer, NoMemory>
     Ok(done_answer(text))
 }
 
-/// The answer to a request, whatever its command is, unless it writes while it makes its text.
-pub(crate) fn answer_request<F: Shelf>(
+/// The answer to a command that makes the whole of it before it is written.
+pub(crate) fn answer_whole<F: Shelf>(
     alloc: Global,
     seed: HashSeed,
     shelf: &mut F,
-    request: &DeskRequest,
+    request: &WholeRequest,
 ) -> Result<Answer, Stop>
-    requires may { MayBeAskedOfDesk request.now }
-    requires whole { writes_while_reading request.now ≡ false }
+    requires { MayBeAskedWhole request.now }
     ensures logs { KeepsShelfLogs F.Shelf shelf.old shelf.new }
     ensures later { FaultsNeverFall (desk_reading F.Shelf shelf.old shelf.new) }
     ensures decides { DecidesAnswer (desk_reading F.Shelf shelf.old shelf.new)
-        (desk_command_of request.now) result }
+        (desk_command_of (Whole request.now)) result }
     ensures within { StaysWithin (desk_reading F.Shelf shelf.old shelf.new) result }
 {
     // A law that the answers without a log rest on. It computes nothing.
     no_log_decides::<Desk>();
     match request {
-        DeskRequest::Audit {
+        WholeRequest::Audit {
             rule,
             logs,
             table,
@@ -80,11 +82,17 @@ pub(crate) fn answer_request<F: Shelf>(
                 checks: *checks,
                 share: share_asked(*share),
             };
-            let orders = day_source(&logs.orders, logs.orders_form, seed);
-            let trades = day_source(&logs.trades, logs.trades_form, seed);
-            answer_audit(alloc, shelf, &question, *page, &orders, &trades)
+            let sources = sources_of(logs, seed);
+            answer_audit(
+                alloc,
+                shelf,
+                &question,
+                *page,
+                &sources.orders,
+                &sources.trades,
+            )
         }
-        DeskRequest::Session {
+        WholeRequest::Session {
             phases,
             logs,
             table,
@@ -93,21 +101,23 @@ pub(crate) fn answer_request<F: Shelf>(
             page,
         } => {
             let share = share_asked(*share);
-            let orders = day_source(&logs.orders, logs.orders_form, seed);
-            let trades = day_source(&logs.trades, logs.trades_form, seed);
+            let sources = sources_of(logs, seed);
+            let question = SessionQuestion {
+                phases: phases.as_slice(),
+                table: *table,
+                checks: *checks,
+                share,
+            };
             answer_session(
                 alloc,
                 shelf,
-                phases.as_slice(),
-                *table,
-                *checks,
-                share,
+                &question,
                 *page,
-                &orders,
-                &trades,
+                &sources.orders,
+                &sources.trades,
             )
         }
-        DeskRequest::Offences {
+        WholeRequest::Offences {
             rule,
             symbol,
             logs,
@@ -120,27 +130,24 @@ pub(crate) fn answer_request<F: Shelf>(
                 records: *records,
                 checks: *checks,
             };
-            let orders = day_source(&logs.orders, logs.orders_form, seed);
-            let trades = day_source(&logs.trades, logs.trades_form, seed);
-            answer_offences(alloc, shelf, &question, &orders, &trades)
+            let sources = sources_of(logs, seed);
+            answer_offences(alloc, shelf, &question, &sources.orders, &sources.trades)
         }
-        DeskRequest::Digest { orders, trades } => answer_digest(alloc, shelf, orders, trades),
-        DeskRequest::Orders { .. } | DeskRequest::Plain { .. } => unreachable!(),
-        DeskRequest::Convert {
+        WholeRequest::Digest { orders, trades } => answer_digest(alloc, shelf, orders, trades),
+        WholeRequest::Convert {
             log,
             from,
             path,
             into,
         } => {
-            let source = day_source(path, *from, seed);
+            let source = Source::of_day(path.as_str(), *from, seed);
             answer_convert(alloc, shelf, *log, &source, *into)
         }
-        DeskRequest::Contents { logs } => {
-            let orders = day_source(&logs.orders, logs.orders_form, seed);
-            let trades = day_source(&logs.trades, logs.trades_form, seed);
-            answer_contents(alloc, shelf, &orders, &trades)
+        WholeRequest::Contents { logs } => {
+            let sources = sources_of(logs, seed);
+            answer_contents(alloc, shelf, &sources.orders, &sources.trades)
         }
-        DeskRequest::Help(about) => Ok(answer_help(alloc, *about)?),
-        DeskRequest::Version => Ok(answer_version(alloc)?),
+        WholeRequest::Help(about) => Ok(answer_help(alloc, *about)?),
+        WholeRequest::Version => Ok(answer_version(alloc)?),
     }
 }

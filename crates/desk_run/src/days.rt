@@ -18,8 +18,7 @@ use day_logs::answers::{DayAnswer, DayQuestion, verdicts_on};
 use day_logs::texts::{status_of_day, text_of_day};
 use day_page::day_pages::page_of_day_text;
 use day_sessions::answers::sessions_on;
-use day_symbols::shares::DayShare;
-use further_checks::findings::FurtherChecks;
+use day_sessions::questions::SessionQuestion;
 use log_source::shelf::Shelf;
 use log_verdict::sources::Source;
 use log_verdict::stops::Stop;
@@ -115,26 +114,22 @@ pub(crate) fn answer_audit<F: Shelf>(
 pub(crate) fn answer_session<F: Shelf>(
     alloc: Global,
     shelf: &mut F,
-    phases: &[Phase],
-    table: bool,
-    checks: FurtherChecks,
-    share: DayShare,
+    question: &SessionQuestion<'_>,
     page: bool,
     orders: &Source<'_>,
     trades: &Source<'_>,
 ) -> Result<Answer, Stop>
-    requires phases { ArePhases phases.now }
+    requires phases { ArePhases question.now.phases.now }
     requires limit { HaveOneLimit orders.now trades.now }
     ensures logs { KeepsShelfLogs F.Shelf shelf.old shelf.new }
     ensures later { FaultsNeverFall (reading_by orders.now F.Shelf shelf.old shelf.new) }
     ensures decides { DecidesAnswer (reading_by orders.now F.Shelf shelf.old shelf.new)
-        (desk_command_of
-        (request_by_phases phases.now table checks share page orders.now trades.now)) result }
+        (desk_command_of (request_by_phases question.now page orders.now trades.now)) result }
     ensures within { StaysWithin (reading_by orders.now F.Shelf shelf.old shelf.new) result }
 {
     both_logs_decide::<Desk, GivenSessions>();
-    match sessions_on(alloc, shelf, phases, table, checks, share, orders, trades) {
-        Ok(day) => Ok(phases_answer(alloc, &day, phases, page)?),
+    match sessions_on(alloc, shelf, question, orders, trades) {
+        Ok(day) => Ok(phases_answer(alloc, &day, question.phases, page)?),
         Err(stop) => Err(stop),
     }
 }

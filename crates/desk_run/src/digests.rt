@@ -3,7 +3,8 @@ ghost use Rattle.command_run.specs.Deciding.{DecidesAnswer, DecidesBytes};
 ghost use Rattle.desk_run.specs.Digesting.{GivesDigest, IsDigestAnswer, stop_of_take};
 ghost use Rattle.desk_run.specs.Requests.{desk_command_of};
 ghost use Rattle.desk_run.specs.TopCall.{desk_reading};
-ghost use Rattle.desk_words.specs.declared.requests.DeskRequest.TheVariants.{Digest};
+ghost use Rattle.desk_words.specs.declared.requests.DeskRequest.TheVariants.{Whole};
+ghost use Rattle.desk_words.specs.declared.requests.WholeRequest.TheVariants.{Digest};
 ghost use Rattle.log_verdict.specs.BothLogs.{StaysWithin, StaysWithinAt};
 ghost use Rattle.log_verdict.specs.Collecting.{TouchesOnly};
 ghost use Rattle.log_verdict.specs.Steps.{FaultsNeverFall, KeepsShelfLogs};
@@ -76,7 +77,7 @@ pub(crate) fn answer_digest<F: Shelf>(
     ensures logs { KeepsShelfLogs F.Shelf shelf.old shelf.new }
     ensures later { FaultsNeverFall (desk_reading F.Shelf shelf.old shelf.new) }
     ensures decides { DecidesAnswer (desk_reading F.Shelf shelf.old shelf.new)
-        (desk_command_of (Digest orders.now trades.now)) result }
+        (desk_command_of (Whole (Digest orders.now trades.now))) result }
     ensures within { StaysWithin (desk_reading F.Shelf shelf.old shelf.new) result }
 {
     // Laws that the answer rests on. They compute nothing.

@@ -2,7 +2,8 @@
 ghost use Rattle.std.specs.Prelude.{◌≡◌};
 ghost use Rattle.command_run.specs.Runs.{AnswersCommand};
 ghost use Rattle.desk_run.specs.Requests.{desk_command_of};
-ghost use Rattle.desk_words.specs.declared.requests.DeskRequest.TheVariants.{Orders};
+ghost use Rattle.desk_words.specs.declared.requests.DeskRequest.TheVariants.{Early};
+ghost use Rattle.desk_words.specs.declared.requests.EarlyRequest.TheVariants.{Orders};
 ghost use Rattle.log_maker.specs.Generator.{IsCount, IsStart};
 ghost use Rattle.log_source.specs.Sinks.{SinkStays};
 ghost use Rattle.log_verdict.specs.Steps.{Reading};
@@ -27,7 +28,7 @@ pub(crate) fn run_orders<K: Sink>(
     requires count { IsCount count }
     ensures stays { SinkStays (K.state out.old) (K.state out.new) }
     ensures answers { (r : Reading) → ((log : AWhich) → r.after log ≡ r.before log)
-        → AnswersCommand r (desk_command_of (Orders start count form))
+        → AnswersCommand r (desk_command_of (Early (Orders start count form)))
         (K.state out.old) (K.state out.new) result }
 {
     match write_generated(alloc, start, count, form, out) {

@@ -10,7 +10,8 @@ ghost use Rattle.desk_run.specs.PlainWriting.{WritesDay, WritesWithin};
 ghost use Rattle.desk_run.specs.Requests.{desk_command_of};
 ghost use Rattle.desk_run.specs.TopCall.{desk_reading};
 ghost use Rattle.desk_words.specs.DressWords.{HasSohWord};
-ghost use Rattle.desk_words.specs.declared.requests.DeskRequest.TheVariants.{Plain};
+ghost use Rattle.desk_words.specs.declared.requests.DeskRequest.TheVariants.{Early};
+ghost use Rattle.desk_words.specs.declared.requests.EarlyRequest.TheVariants.{Plain};
 ghost use Rattle.fix_days.specs.Framed.{IsFramedReading};
 ghost use Rattle.fix_days.specs.Lines.{IsLineReading, is_soh_text};
 ghost use Rattle.log_source.specs.Sinks.{SinkStays};
@@ -194,7 +195,7 @@ pub(crate) fn run_plain<F: Shelf, K: Sink>(
     ensures later { FaultsNeverFall (desk_reading F.Shelf shelf.old shelf.new) }
     ensures stays { SinkStays (K.state out.old) (K.state out.new) }
     ensures answers { AnswersCommand (desk_reading F.Shelf shelf.old shelf.new)
-        (desk_command_of (Plain day.now dress.now)) (K.state out.old) (K.state out.new) result }
+        (desk_command_of (Early (Plain day.now dress.now))) (K.state out.old) (K.state out.new) result }
     ensures too_long { AnswersTooLong (desk_reading F.Shelf shelf.old shelf.new) result }
 {
     match write_day(alloc, shelf, out, day, dress) {

@@ -1,15 +1,16 @@
 //! The top call of `desk`: from the words of a command line to the text that is written and the
 //! status.
-ghost use Rattle.std.specs.Prelude.{◌≡◌, false, map};
+ghost use Rattle.std.specs.Prelude.{map};
 ghost use Rattle.std.specs.String.{string_bytes};
 ghost use Rattle.command_run.specs.Runs.{AnswersCommand, AnswersTooLong};
-ghost use Rattle.desk_run.specs.Requests.{desk_command_of, writes_while_reading};
+ghost use Rattle.desk_run.specs.Requests.{desk_command_of};
 ghost use Rattle.desk_run.specs.TopCall.{desk_reading, DeskAnswers};
-ghost use Rattle.desk_words.specs.Words.{desk_request_of, MayBeAskedOfDesk};
+ghost use Rattle.desk_words.specs.declared.requests.DeskRequest.TheVariants.{Early, Whole};
+ghost use Rattle.desk_words.specs.Words.{desk_request_of, MayBeAskedEarly, MayBeAskedOfDesk, MayBeAskedWhole};
 ghost use Rattle.log_source.specs.Sinks.{SinkStays};
 ghost use Rattle.log_verdict.specs.Steps.{FaultsNeverFall, KeepsShelfLogs};
 
-use super::commands::answer_request;
+use super::commands::answer_whole;
 use super::generated::run_orders;
 use super::plain::run_plain;
 use super::program::Desk;
@@ -17,7 +18,7 @@ use audit_report::statuses::Status;
 use command_run::laws::{held_logs_are_answered, memory_is_answered};
 use command_run::writing::{write_answer, write_usage};
 use command_words::requests::WordsFault;
-use desk_words::requests::{DeskRequest, read_desk_words};
+use desk_words::requests::{DeskRequest, EarlyRequest, WholeRequest, read_desk_words};
 use log_source::shelf::Shelf;
 use log_source::sink::Sink;
 use seeded_hash::seed::HashSeed;
@@ -29,19 +30,41 @@ fn run_whole<F: Shelf, K: Sink>(
     seed: HashSeed,
     shelf: &mut F,
     out: &mut K,
-    request: &DeskRequest,
+    request: &WholeRequest,
 ) -> Status
-    requires may { MayBeAskedOfDesk request.now }
-    requires whole { writes_while_reading request.now ≡ false }
+    requires { MayBeAskedWhole request.now }
     ensures logs { KeepsShelfLogs F.Shelf shelf.old shelf.new }
     ensures later { FaultsNeverFall (desk_reading F.Shelf shelf.old shelf.new) }
     ensures stays { SinkStays (K.state out.old) (K.state out.new) }
     ensures answers { AnswersCommand (desk_reading F.Shelf shelf.old shelf.new)
-        (desk_command_of request.now) (K.state out.old) (K.state out.new) result }
+        (desk_command_of (Whole request.now)) (K.state out.old) (K.state out.new) result }
     ensures too_long { AnswersTooLong (desk_reading F.Shelf shelf.old shelf.new) result }
 {
-    let decided = answer_request(alloc, seed, shelf, request);
+    let decided = answer_whole(alloc, seed, shelf, request);
     write_answer::<Desk, K>(out, decided)
+}
+
+/// Answers well-formed words whose command writes its answer while it makes it.
+fn run_early<F: Shelf, K: Sink>(
+    alloc: Global,
+    shelf: &mut F,
+    out: &mut K,
+    request: &EarlyRequest,
+) -> Status
+    requires { MayBeAskedEarly request.now }
+    ensures logs { KeepsShelfLogs F.Shelf shelf.old shelf.new }
+    ensures later { FaultsNeverFall (desk_reading F.Shelf shelf.old shelf.new) }
+    ensures stays { SinkStays (K.state out.old) (K.state out.new) }
+    ensures answers { AnswersCommand (desk_reading F.Shelf shelf.old shelf.new)
+        (desk_command_of (Early request.now)) (K.state out.old) (K.state out.new) result }
+    ensures too_long { AnswersTooLong (desk_reading F.Shelf shelf.old shelf.new) result }
+{
+    match request {
+        EarlyRequest::Orders { start, count, form } => {
+            run_orders(alloc, out, *start, *count, *form)
+        }
+        EarlyRequest::Plain { day, dress } => run_plain(alloc, shelf, out, day, dress),
+    }
 }
 
 /// Answers well-formed words.
@@ -61,9 +84,8 @@ fn run_request<F: Shelf, K: Sink>(
     ensures too_long { AnswersTooLong (desk_reading F.Shelf shelf.old shelf.new) result }
 {
     match request {
-        DeskRequest::Orders { start, count, form } => run_orders(alloc, out, *start, *count, *form),
-        DeskRequest::Plain { day, dress } => run_plain(alloc, shelf, out, day, dress),
-        _ => run_whole(alloc, seed, shelf, out, request),
+        DeskRequest::Whole(asked) => run_whole(alloc, seed, shelf, out, asked),
+        DeskRequest::Early(asked) => run_early(alloc, shelf, out, asked),
     }
 }
 

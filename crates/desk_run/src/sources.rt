@@ -3,25 +3,23 @@ ghost use Rattle.std.specs.Prelude.{◌≡◌};
 ghost use Rattle.desk_run.specs.Requests.{share_or_whole};
 ghost use Rattle.log_source.specs.Sources.{longest_read};
 
-use audit_base::terms::Form;
-use command_words::paths::PathText;
 use day_symbols::shares::DayShare;
-use log_source::limits::LONGEST_READ;
-use log_verdict::sources::Source;
+use desk_words::requests::DayLogs;
+use log_verdict::sources::{LogSources, Source};
 use seeded_hash::seed::HashSeed;
 
-/// The log of this path, in this form, of at most 34,359,738,368 bytes, read with hashes of this
-/// seed.
-pub(crate) fn day_source(path: &PathText, form: Form, seed: HashSeed) -> Source<'_>
-    ensures name { result.name.now ≡ path.now }
-    ensures form { result.form ≡ form }
-    ensures limit { result.limit ≡ longest_read }
+/// The logs of a day that a request names, read with hashes of this seed.
+pub(crate) fn sources_of(logs: &DayLogs, seed: HashSeed) -> LogSources<'_>
+    ensures orders_name { result.orders.name.now ≡ logs.now.orders }
+    ensures orders_form { result.orders.form ≡ logs.now.orders_form }
+    ensures orders_limit { result.orders.limit ≡ longest_read }
+    ensures trades_name { result.trades.name.now ≡ logs.now.trades }
+    ensures trades_form { result.trades.form ≡ logs.now.trades_form }
+    ensures trades_limit { result.trades.limit ≡ longest_read }
 {
-    Source {
-        name: path.as_str(),
-        form,
-        limit: LONGEST_READ,
-        seed,
+    LogSources {
+        orders: Source::of_day(logs.orders.as_str(), logs.orders_form, seed),
+        trades: Source::of_day(logs.trades.as_str(), logs.trades_form, seed),
     }
 }
 

@@ -5,7 +5,7 @@ use audit_base::faults::NoMemory;
 use audit_base::terms::{Form, Rule};
 use command_words::requests::WordsFault;
 use day_symbols::shares::DayShare;
-use desk_words::requests::{DayLogs, DeskRequest, read_desk_words};
+use desk_words::requests::{DayLogs, DeskRequest, EarlyRequest, WholeRequest, read_desk_words};
 use std::alloc::Global;
 use std::test::Fail;
 
@@ -37,7 +37,8 @@ const LONG_LOGS: [&str; 3] = [
 fn words_of_generated_logs(rt: HostRuntime) -> Result<(), Fail> {
     for line in &LONG_LOGS {
         let asked = asked_by(rt.alloc(), line)?;
-        assert!(rt; matches!(&asked, Ok(DeskRequest::Orders { .. })), "{line}");
+        let is_early = matches!(&asked, Ok(DeskRequest::Early(EarlyRequest::Orders { .. })));
+        assert!(rt; is_early, "{line}");
     }
     Ok(())
 }
@@ -54,14 +55,16 @@ fn are_logs_of_two_forms(logs: &DayLogs) -> bool {
 fn is_page_of_a_share(asked: &Result<DeskRequest, WordsFault>) -> bool {
     match asked {
         Ok(
-            DeskRequest::Audit {
-                rule,
-                logs,
-                table,
-                share,
-                checks,
-                page,
-            },
+            DeskRequest::Whole(
+                WholeRequest::Audit {
+                    rule,
+                    logs,
+                    table,
+                    share,
+                    checks,
+                    page,
+                },
+            ),
         ) => {
             *rule == Rule::Continuous
                 && are_logs_of_two_forms(logs)

@@ -5,7 +5,9 @@ use Rattle.audit_base.specs.declared.terms.Form.TheVariants.{Csv}
 use Rattle.command_words.specs.WordForms.{form_named, is_path, log_named, nth_word, number_upto, word_equals}
 use Rattle.command_words.specs.Words.{when_some}
 use Rattle.desk_words.specs.declared.requests.DeskRequest.{DeskRequest}
-use Rattle.desk_words.specs.declared.requests.DeskRequest.TheVariants.{Convert, Orders}
+use Rattle.desk_words.specs.declared.requests.DeskRequest.TheVariants.{Early, Whole}
+use Rattle.desk_words.specs.declared.requests.EarlyRequest.TheVariants.{Orders}
+use Rattle.desk_words.specs.declared.requests.WholeRequest.TheVariants.{Convert}
 
 -- the form that a log is to be written in, by the words after all others: csv where there are
 -- none, or that of `--form FORM`
@@ -21,7 +23,7 @@ orders_asked words =
     if nat_le 3 (length words) then
     when_some (number_upto 2147483646 (nth_word words 1)) (λ start.
     when_some (number_upto 1000000 (nth_word words 2)) (λ count.
-    when_some (form_option_in (drop 3 words)) (λ form. Some (Orders start count form))))
+    when_some (form_option_in (drop 3 words)) (λ form. Some (Early (Orders start count form)))))
     else None
 
 -- `convert LOG FORM PATH FORM`: the form of the log that is read, its path, and the form that it
@@ -32,5 +34,5 @@ desk_convert_asked words =
     when_some (log_named (nth_word words 1)) (λ log.
     when_some (form_named (nth_word words 2)) (λ from.
     when_some (form_named (nth_word words 4)) (λ into.
-    Some (Convert log from (nth_word words 3) into))))
+    Some (Whole (Convert log from (nth_word words 3) into)))))
     else None

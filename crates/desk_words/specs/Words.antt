@@ -18,7 +18,11 @@ use Rattle.desk_words.specs.declared.commands.OffenceWords.{OffenceWords}
 use Rattle.desk_words.specs.declared.options.DeskOptions.{DeskOptions}
 use Rattle.desk_words.specs.declared.requests.DayLogs.{DayLogs}
 use Rattle.desk_words.specs.declared.requests.DeskRequest.{DeskRequest}
-use Rattle.desk_words.specs.declared.requests.DeskRequest.TheVariants.{Audit, Session, Offences, Digest, Orders, Convert, Plain, Contents, Help, Version}
+use Rattle.desk_words.specs.declared.requests.DeskRequest.TheVariants.{Early, Whole}
+use Rattle.desk_words.specs.declared.requests.EarlyRequest.{EarlyRequest}
+use Rattle.desk_words.specs.declared.requests.EarlyRequest.TheVariants.{Orders, Plain}
+use Rattle.desk_words.specs.declared.requests.WholeRequest.{WholeRequest}
+use Rattle.desk_words.specs.declared.requests.WholeRequest.TheVariants.{Audit, Session, Offences, Digest, Convert, Contents, Help, Version}
 use Rattle.desk_words.specs.DressWords.{dress_named, HasSohWord}
 use Rattle.desk_words.specs.FurtherWords.{checks_fit_rule}
 use Rattle.desk_words.specs.LogWords.{desk_convert_asked, orders_asked}
@@ -68,8 +72,8 @@ abbrev pub desk_audit_asked : List (List ℕ) → Option DeskRequest
 desk_audit_asked words =
     if nat_le 4 (length words) && names_logs words 2 then
     when_both (rule_and_options (nth_word words 1) (drop 4 words)) (λ the_rule said.
-    Some (Audit the_rule (day_logs words 2 said.common) said.common.table said.share
-    said.checks said.page))
+    Some (Whole (Audit the_rule (day_logs words 2 said.common) said.common.table said.share
+    said.checks said.page)))
     else None
 
 -- what these words say as options of `session`, where no price of a resting order is asked for, nor
@@ -85,8 +89,8 @@ desk_session_asked words =
     if nat_le 4 (length words) && names_logs words 2 then
     when_some (session_options_in (drop 4 words)) (λ said.
     when_some (phases_named (nth_word words 1)) (λ phases.
-    Some (Session phases (day_logs words 2 said.common) said.common.table said.share
-    said.checks said.page)))
+    Some (Whole (Session phases (day_logs words 2 said.common) said.common.table said.share
+    said.checks said.page))))
     else None
 
 -- of `offences`, RULE, SYMBOL, and what the words after all others say as options by that rule
@@ -102,21 +106,22 @@ abbrev pub offences_asked : List (List ℕ) → Option DeskRequest
 offences_asked words =
     if nat_le 5 (length words) && names_logs words 3 then
     when_some (offence_words words) (λ asked.
-    Some (Offences asked.rule asked.symbol (day_logs words 3 asked.said.forms)
-    asked.said.records asked.said.checks))
+    Some (Whole (Offences asked.rule asked.symbol (day_logs words 3 asked.said.forms)
+    asked.said.records asked.said.checks)))
     else None
 
 -- `digest ORDERS TRADES`
 abbrev pub digest_asked : List (List ℕ) → Option DeskRequest
 digest_asked words =
     if length words == 3 && names_logs words 1
-    then Some (Digest (nth_word words 1) (nth_word words 2)) else None
+    then Some (Whole (Digest (nth_word words 1) (nth_word words 2))) else None
 
 -- `plain DAY` and options
 abbrev pub plain_asked : List (List ℕ) → Option DeskRequest
 plain_asked words =
     if nat_le 2 (length words) && is_path (nth_word words 1) then
-    when_some (dress_named (drop 2 words)) (λ dress. Some (Plain (nth_word words 1) dress))
+    when_some (dress_named (drop 2 words)) (λ dress.
+    Some (Early (Plain (nth_word words 1) dress)))
     else None
 
 -- what these words say as options, where that is nothing but the forms of the logs
@@ -127,15 +132,16 @@ form_options_in words = when_some (options_in words) (λ said. only_if (not said
 abbrev pub contents_asked : List (List ℕ) → Option DeskRequest
 contents_asked words =
     if nat_le 3 (length words) && names_logs words 1 then
-    when_some (form_options_in (drop 3 words)) (λ said. Some (Contents (day_logs words 1 said)))
+    when_some (form_options_in (drop 3 words)) (λ said.
+    Some (Whole (Contents (day_logs words 1 said))))
     else None
 
 -- `help`, or `help COMMAND`
 abbrev pub help_asked : List (List ℕ) → Option DeskRequest
 help_asked words =
-    if length words == 1 then Some (Help None)
+    if length words == 1 then Some (Whole (Help None))
     else (if length words == 2 then
-    when_some (desk_command_named (nth_word words 1)) (λ about. Some (Help (Some about)))
+    when_some (desk_command_named (nth_word words 1)) (λ about. Some (Whole (Help (Some about))))
     else None)
 
 -- what the words of a command ask for, one row a command; those of `page`, `file`, `file-all` and
@@ -171,8 +177,9 @@ asks_page words = word_equals (nth_word words 0) (codes "page")
 -- what a word asks for that is no command and is the only word: `--help`, as `help`,
 -- and `--version`
 abbrev pub lone_word_asks : List ℕ → Option DeskRequest
-lone_word_asks word = first_answer (only_if (word_equals word (codes "--help")) (Help None)
-    ∷ only_if (word_equals word (codes "--version")) Version ∷ [])
+lone_word_asks word = first_answer (only_if (word_equals word (codes "--help"))
+    (Whole (Help None))
+    ∷ only_if (word_equals word (codes "--version")) (Whole Version) ∷ [])
 
 -- what words ask for whose first names no command
 abbrev pub asked_without_command : List (List ℕ) → Option DeskRequest
@@ -188,18 +195,26 @@ asked_by_first (Some named) words = desk_asked_by named words
 abbrev pub desk_request_of : List (List ℕ) → Option DeskRequest
 desk_request_of words = asked_by_first (desk_command_named (nth_word words 0)) words
 
--- what well-formed words ask for is a table only of a rule that has one, phases that are those of
--- a day, the prices of resting orders only where there are such, a log of numbers in their limits,
--- and a word of 1 to 5 bytes from 0x21 to 0x7E in the place of SOH
+-- what the words of a command that makes its whole answer first ask for is a table only of a rule
+-- that has one, phases that are those of a day, and the prices of resting orders only where there
+-- are such
+abbrev pub MayBeAskedWhole : WholeRequest → Type 0
+MayBeAskedWhole (Audit rule logs table share checks page) = IsTrue (table_fits_rule table rule)
+MayBeAskedWhole (Session phases logs table share checks page) = ArePhases phases
+MayBeAskedWhole (Offences rule symbol logs records checks) = IsTrue (checks_fit_rule checks rule)
+MayBeAskedWhole (Digest orders trades) = Unit {0}
+MayBeAskedWhole (Convert log from path into) = Unit {0}
+MayBeAskedWhole (Contents logs) = Unit {0}
+MayBeAskedWhole (Help about) = Unit {0}
+MayBeAskedWhole Version = Unit {0}
+
+-- what the words of a command that writes early ask for is a log of numbers in their limits, and a
+-- word of 1 to 5 bytes from 0x21 to 0x7E in the place of SOH
+abbrev pub MayBeAskedEarly : EarlyRequest → Type 0
+MayBeAskedEarly (Orders start count form) = IsStart start × IsCount count
+MayBeAskedEarly (Plain day dress) = HasSohWord dress
+
+-- what well-formed words ask for may be asked, by when its answer is written
 abbrev pub MayBeAskedOfDesk : DeskRequest → Type 0
-MayBeAskedOfDesk (Audit rule logs table share checks page) = IsTrue (table_fits_rule table rule)
-MayBeAskedOfDesk (Session phases logs table share checks page) = ArePhases phases
-MayBeAskedOfDesk (Offences rule symbol logs records checks) =
-    IsTrue (checks_fit_rule checks rule)
-MayBeAskedOfDesk (Digest orders trades) = Unit {0}
-MayBeAskedOfDesk (Orders start count form) = IsStart start × IsCount count
-MayBeAskedOfDesk (Convert log from path into) = Unit {0}
-MayBeAskedOfDesk (Plain day dress) = HasSohWord dress
-MayBeAskedOfDesk (Contents logs) = Unit {0}
-MayBeAskedOfDesk (Help about) = Unit {0}
-MayBeAskedOfDesk Version = Unit {0}
+MayBeAskedOfDesk (Whole request) = MayBeAskedWhole request
+MayBeAskedOfDesk (Early request) = MayBeAskedEarly request

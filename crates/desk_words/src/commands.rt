@@ -12,7 +12,7 @@ use super::further_words::checks_fit_rule;
 use super::log_words::{desk_convert_request, orders_request};
 use super::offence_words::{OffenceOptions, options_under};
 use super::options::{DeskOptions, desk_options_in, is_table_or_page};
-use super::requests::{DayLogs, DeskRequest};
+use super::requests::{DayLogs, DeskRequest, EarlyRequest, WholeRequest};
 use audit_base::faults::NoMemory;
 use audit_base::names::Name;
 use audit_base::terms::Rule;
@@ -179,14 +179,14 @@ fn desk_audit_request(alloc: Global, words: &[String]) -> Result<Option<DeskRequ
         return Ok(None);
     };
     let logs = day_logs(alloc, words, 2, &said.common)?;
-    Ok(Some(DeskRequest::Audit {
+    Ok(Some(DeskRequest::Whole(WholeRequest::Audit {
         rule,
         logs,
         table: said.common.table,
         share: said.share,
         checks: said.checks,
         page: said.page,
-    }))
+    })))
 }
 
 /// What these words say as options of `session`, unless a price of a resting order is asked for, or
@@ -220,14 +220,14 @@ fn desk_session_request(alloc: Global, words: &[String]) -> Result<Option<DeskRe
         return Ok(None);
     };
     let logs = day_logs(alloc, words, 2, &said.common)?;
-    Ok(Some(DeskRequest::Session {
+    Ok(Some(DeskRequest::Whole(WholeRequest::Session {
         phases,
         logs,
         table: said.common.table,
         share: said.share,
         checks: said.checks,
         page: said.page,
-    }))
+    })))
 }
 
 /// What the words of `offences` say of rule, symbol and options.
@@ -265,13 +265,13 @@ fn offences_request(alloc: Global, words: &[String]) -> Result<Option<DeskReques
         return Ok(None);
     };
     let logs = day_logs(alloc, words, 3, &asked.said.forms)?;
-    Ok(Some(DeskRequest::Offences {
+    Ok(Some(DeskRequest::Whole(WholeRequest::Offences {
         rule: asked.rule,
         symbol: asked.symbol,
         logs,
         records: asked.said.records,
         checks: asked.said.checks,
-    }))
+    })))
 }
 
 /// `digest ORDERS TRADES`.
@@ -285,7 +285,7 @@ fn digest_request(alloc: Global, words: &[String]) -> Result<Option<DeskRequest>
         return Ok(None);
     }
     let LogPaths { orders, trades } = log_paths(alloc, words, 1)?;
-    Ok(Some(DeskRequest::Digest { orders, trades }))
+    Ok(Some(DeskRequest::Whole(WholeRequest::Digest { orders, trades })))
 }
 
 /// `plain DAY` with its options.
@@ -302,7 +302,7 @@ fn plain_request(alloc: Global, words: &[String]) -> Result<Option<DeskRequest>,
         return Ok(None);
     };
     let day = path_of(alloc, word_at(words, 1))?;
-    Ok(Some(DeskRequest::Plain { day, dress }))
+    Ok(Some(DeskRequest::Early(EarlyRequest::Plain { day, dress })))
 }
 
 /// What these words say as options, if they say nothing but the forms of the logs.
@@ -330,7 +330,7 @@ fn contents_request(alloc: Global, words: &[String]) -> Result<Option<DeskReques
         return Ok(None);
     };
     let logs = day_logs(alloc, words, 1, &said)?;
-    Ok(Some(DeskRequest::Contents { logs }))
+    Ok(Some(DeskRequest::Whole(WholeRequest::Contents { logs })))
 }
 
 /// `help`, or `help COMMAND`. Takes no memory.
@@ -339,13 +339,13 @@ fn help_request(words: &[String]) -> Option<DeskRequest>
     ensures asked { IfSome result spec.MayBeAskedOfDesk }
 {
     if words.len() == 1 {
-        return Some(DeskRequest::Help(None));
+        return Some(DeskRequest::Whole(WholeRequest::Help(None)));
     }
     if words.len() != 2 {
         return None;
     }
     let about = desk_command_named(word_at(words, 1))?;
-    Some(DeskRequest::Help(Some(about)))
+    Some(DeskRequest::Whole(WholeRequest::Help(Some(about))))
 }
 
 /// What a word asks for that is no command and is the only word. Takes no memory.
@@ -354,10 +354,10 @@ fn lone_word_request(word: &str) -> Option<DeskRequest>
     ensures asked { IfSome result spec.MayBeAskedOfDesk }
 {
     if is_word(word, b"--help") {
-        return Some(DeskRequest::Help(None));
+        return Some(DeskRequest::Whole(WholeRequest::Help(None)));
     }
     if is_word(word, b"--version") {
-        return Some(DeskRequest::Version);
+        return Some(DeskRequest::Whole(WholeRequest::Version));
     }
     None
 }

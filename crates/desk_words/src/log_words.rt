@@ -4,7 +4,7 @@ ghost use Rattle.std.specs.String.{string_bytes};
 ghost use Rattle.desk_words.specs.LogWords as spec;
 ghost use Rattle.desk_words.specs.Words.{MayBeAskedOfDesk};
 
-use super::requests::DeskRequest;
+use super::requests::{DeskRequest, EarlyRequest, WholeRequest};
 use audit_base::faults::NoMemory;
 use audit_base::terms::Form;
 use command_words::paths::path_of;
@@ -35,7 +35,7 @@ pub(crate) fn orders_request(words: &[String]) -> Option<DeskRequest>
     let start = number_upto(word_at(words, 1), 2_147_483_646)?;
     let count = number_upto(word_at(words, 2), 1_000_000)?;
     let form = form_option_in(&words[3..])?;
-    Some(DeskRequest::Orders { start, count, form })
+    Some(DeskRequest::Early(EarlyRequest::Orders { start, count, form }))
 }
 
 /// `convert LOG FORM PATH FORM`.
@@ -62,10 +62,10 @@ pub(crate) fn desk_convert_request(
         return Ok(None);
     };
     let path = path_of(alloc, word_at(words, 3))?;
-    Ok(Some(DeskRequest::Convert {
+    Ok(Some(DeskRequest::Whole(WholeRequest::Convert {
         log,
         from,
         path,
         into,
-    }))
+    })))
 }

@@ -24,9 +24,10 @@ pub struct DayLogs {
     pub trades_form: Form,
 }
 
-/// What well-formed words ask for. Where there is no share, the whole day is asked for.
+/// What the words of a command that makes its whole answer before it writes ask for. Where there
+/// is no share, the whole day is asked for.
 #[derive(Drop)]
-pub enum DeskRequest {
+pub enum WholeRequest {
     /// To judge the trades of each symbol by a rule. A table is asked for only where the rule
     /// has one, prices of resting orders only where it is `continuous`, and a page only where no
     /// table is.
@@ -63,23 +64,12 @@ pub enum DeskRequest {
         orders: PathText,
         trades: PathText,
     },
-    /// To write the generated order log of START and COUNT in this form.
-    Orders {
-        start: u32,
-        count: u32,
-        form: Form,
-    },
     /// To write the records of a log, which is in one form, in the same or the other one.
     Convert {
         log: Which,
         from: Form,
         path: PathText,
         into: Form,
-    },
-    /// To write the messages of a day as a FIX log.
-    Plain {
-        day: PathText,
-        dress: DayDress,
     },
     /// To write what is in each log.
     Contents {
@@ -89,6 +79,25 @@ pub enum DeskRequest {
     Help(Option<DeskCommand>),
     /// To write which version of the program this is.
     Version,
+}
+
+/// What the words of a command that writes its answer while it makes it ask for: its text may be
+/// longer than memory is to be.
+#[derive(Drop)]
+pub enum EarlyRequest {
+    /// To write the generated order log of START and COUNT in this form.
+    Orders { start: u32, count: u32, form: Form },
+    /// To write the messages of a day as a FIX log.
+    Plain { day: PathText, dress: DayDress },
+}
+
+/// What well-formed words ask for, by when its answer is written.
+#[derive(Drop)]
+pub enum DeskRequest {
+    /// The whole answer is made first.
+    Whole(WholeRequest),
+    /// The answer is written while it is made.
+    Early(EarlyRequest),
 }
 
 /// What the words ask for, one row a command:

@@ -4,27 +4,20 @@ ghost use Rattle.digest_keeper.specs.KeptCases.{has_kept_label};
 
 use audit_base::names::Name;
 use case_keeper::case::Case;
-use log_digests::digests::LogDigest;
-
-/// The digests of both logs of an audit.
-#[derive(Clone, Copy, Debug, PartialEq, Eq)]
-pub struct CaseDigests {
-    pub orders: LogDigest,
-    pub trades: LogDigest,
-}
+use log_digests::digests::LogDigests;
 
 /// A case that is to be filed with the digests of its logs.
 #[derive(Clone, Copy, Debug, PartialEq, Eq)]
 pub struct DigestedCase {
     pub case: Case,
-    pub digests: CaseDigests,
+    pub digests: LogDigests,
 }
 
 /// A case on file, with the digests of its logs where it was filed with them.
 #[derive(Clone, Copy, Debug, PartialEq, Eq)]
 pub struct KeptCase {
     pub case: Case,
-    pub digests: Option<CaseDigests>,
+    pub digests: Option<LogDigests>,
 }
 
 impl DigestedCase {

@@ -4,7 +4,7 @@ use Rattle.std.specs.Prelude.{Option}
 use Rattle.case_keeper.specs.declared.case.Case.{Case}
 use Rattle.case_sqlite.specs.CaseRows.{rows_of_case}
 use Rattle.case_sqlite.specs.Statements.{find_text}
-use Rattle.digest_keeper.specs.declared.digested.CaseDigests.{CaseDigests}
+use Rattle.log_digests.specs.declared.digests.LogDigests.{LogDigests}
 use Rattle.sqlite.specs.Held.{Held}
 use Rattle.sqlite_trees.specs.declared.store.Store.{Ghosts}
 use Rattle.digest_sqlite.specs.DigestRows.{rows_of_digests}
@@ -15,7 +15,7 @@ module _ {S : Type 0} (g : Ghosts S) (label : List ℕ) (found : Option Case) wh
   pub finds_none : (old new : Held S) → found ≡ None → ShowsIfThere g cases_table find_text label old new (rows_of_case found) → FindsBothRows g label old new None
   finds_none old new is shown = subst (λ f. ShowsIfThere g cases_table find_text label old new (rows_of_case f)) is shown
 
-  pub finds_both : (old mid new : Held S) (case : Case) (digests : Option CaseDigests) → found ≡ Some case
+  pub finds_both : (old mid new : Held S) (case : Case) (digests : Option LogDigests) → found ≡ Some case
       → ShowsIfThere g cases_table find_text label old mid (rows_of_case found)
       → ShowsIfThere g digests_table find_digests_text label mid new (rows_of_digests label digests)
       → FindsBothRows g label old new (Some (record { case = case; digests = digests }))

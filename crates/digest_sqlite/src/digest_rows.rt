@@ -6,7 +6,7 @@ ghost use Rattle.sqlite_value.specs.declared.value.Value.TheVariants.{Text};
 
 use audit_base::names::Name;
 use case_keeper::keeper::KeepFault;
-use digest_keeper::digested::CaseDigests;
+use log_digests::digests::LogDigests;
 use log_digests::digits::read_digest;
 use sqlite::Row;
 use sqlite::types::ValueRef;
@@ -22,7 +22,7 @@ fn text_at(row: &Row, at: usize) -> Option<&[u8]>
 }
 
 /// The digests in the columns of a row after the first.
-fn digests_at(row: &Row, label: &Name) -> Option<CaseDigests>
+fn digests_at(row: &Row, label: &Name) -> Option<LogDigests>
     ensures { IfSome result (λ digests.
         column row.now 0 ∷ column row.now 1 ∷ column row.now 2 ∷ []
         ≡ digest_columns label.now digests) }
@@ -32,11 +32,11 @@ fn digests_at(row: &Row, label: &Name) -> Option<CaseDigests>
     }
     let orders = read_digest(text_at(row, 1)?)?;
     let trades = read_digest(text_at(row, 2)?)?;
-    Some(CaseDigests { orders, trades })
+    Some(LogDigests { orders, trades })
 }
 
 /// The digests whose row it is, if it is one with this label.
-fn digests_with_label(row: &Row, label: &Name) -> Option<CaseDigests>
+fn digests_with_label(row: &Row, label: &Name) -> Option<LogDigests>
     ensures { IfSome result (λ digests. row.now ≡ digest_columns label.now digests) }
 {
     if row.column_count() == 3 {
@@ -49,7 +49,7 @@ fn digests_with_label(row: &Row, label: &Name) -> Option<CaseDigests>
 /// What the rows of digests with a label say: no digests where there is no row, else those of the
 /// one row. It fails where that row is one of no digests or of another label, and where there are
 /// two.
-pub(crate) fn one_pair(rows: &[Row], label: &Name) -> Result<Option<CaseDigests>, KeepFault>
+pub(crate) fn one_pair(rows: &[Row], label: &Name) -> Result<Option<LogDigests>, KeepFault>
     ensures { IfOk result (λ found. rows.now ≡ rows_of_digests label.now found) }
 {
     match rows {

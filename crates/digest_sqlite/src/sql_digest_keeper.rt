@@ -23,8 +23,9 @@ use audit_base::names::Name;
 use case_keeper::case::Case;
 use case_keeper::keeper::KeepFault;
 use case_sqlite::answers::one_with_label;
-use digest_keeper::digested::{CaseDigests, DigestedCase, KeptCase};
+use digest_keeper::digested::{DigestedCase, KeptCase};
 use digest_keeper::keeper::DigestKeeper;
+use log_digests::digests::LogDigests;
 use sqlite::{Alter, Connection};
 use std::alloc::Global;
 
@@ -77,7 +78,7 @@ fn find_digests<S: Alter>(
     alloc: Global,
     connection: &mut Connection<S>,
     label: &Name,
-) -> Result<Option<CaseDigests>, KeepFault>
+) -> Result<Option<LogDigests>, KeepFault>
     ensures ends { EndsTransaction connection.old connection.new }
     ensures shown { HasCleanDisk (state S.Store connection.new) → IfOk result (λ found.
         ShowsIfThere S.Store digests_table find_digests_text label.now

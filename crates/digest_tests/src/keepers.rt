@@ -5,8 +5,9 @@ use audit_base::names::read_name;
 use audit_base::terms::Rule;
 use case_keeper::case::Case;
 use case_keeper::keeper::KeepFault;
-use digest_keeper::digested::{CaseDigests, DigestedCase};
+use digest_keeper::digested::DigestedCase;
 use digest_keeper::keeper::DigestKeeper;
+use log_digests::digests::LogDigests;
 use log_digests::digits::read_digest;
 use std::alloc::Global;
 
@@ -23,7 +24,7 @@ fn digested(label: &[u8], symbol: &[u8]) -> Option<DigestedCase> {
         symbol: read_name(symbol)?,
         offence: None,
     };
-    let digests = CaseDigests {
+    let digests = LogDigests {
         orders: read_digest(ABC)?,
         trades: read_digest(EMPTY)?,
     };

@@ -56,6 +56,13 @@ impl LogDigest {
     }
 }
 
+/// The digests of the two logs of an audit.
+#[derive(Clone, Copy, Debug, PartialEq, Eq)]
+pub struct LogDigests {
+    pub orders: LogDigest,
+    pub trades: LogDigest,
+}
+
 /// The digest of the log of this name, which is read to its end, whatever bytes it has, and of
 /// which nothing is kept. `limit` is the greatest number of bytes that it may have,
 /// `LONGEST_READ` at most. The causes of failure are those of `take_log`: `Fault` comes only where

@@ -6,7 +6,7 @@ use Rattle.day_sessions.proofs.answers.sessions_of_logs.Goals as goal
 
 pub returns-in_ok-sessions_after-in-Ok-clause-decides : goal.returns-in_ok-sessions_after-in-Ok-clause-decides
 returns-in_ok-sessions_after-in-Ok-clause-decides g c =
-    reads-answer (reading_by c.args.orders.now g.F.Shelf c.args.shelf.now c.read_day.new.shelf) c.args.share admission.All (AreSessionsOfDay c.args.phases.now c.args.table c.args.checks c.args.share) c.args.orders.now c.args.trades.now c.in-Ok.given
+    reads-answer (reading_by c.args.orders.now g.F.Shelf c.args.shelf.now c.read_day.new.shelf) c.args.question.now.share admission.All (AreSessionsOfDay c.args.question.now.phases.now c.args.question.now.table c.args.question.now.checks c.args.question.now.share) c.args.orders.now c.args.trades.now c.in-Ok.given
     c.in_ok-sessions_after-in-Ok.field-0 c.in-Ok.ensures.decides c.in_ok-sessions_after-in-Ok.ensures
 
 pub returns-in-Err-clause-decides : goal.returns-in-Err-clause-decides

@@ -5,4 +5,4 @@ use Rattle.day_sessions.proofs.answers.sessions_on.Goals as goal
 
 pub returns-clause-complete : goal.returns-clause-complete
 returns-clause-complete g c =
-    answers-held (reading_by c.args.orders.now g.F.Shelf c.args.shelf.now c.sessions_of_logs.new.shelf) (AreSessionsOfDay c.args.phases.now c.args.table c.args.checks c.args.share) c.args.orders.now c.args.trades.now c.sessions_of_logs.result c.sessions_of_logs.ensures.decides
+    answers-held (reading_by c.args.orders.now g.F.Shelf c.args.shelf.now c.sessions_of_logs.new.shelf) (AreSessionsOfDay c.args.question.now.phases.now c.args.question.now.table c.args.question.now.checks c.args.question.now.share) c.args.orders.now c.args.trades.now c.sessions_of_logs.result c.sessions_of_logs.ensures.decides

@@ -7,4 +7,4 @@ abbrev pub invariant-loop-symbol_records : goal.invariant-loop-symbol_records
 invariant-loop-symbol_records l =
     (l.yielded ++ l.symbol_records-iterator.rest.items ≡ l.fn.ended.kept.items)
     × (l.place ≡ length l.yielded)
-    × AreJudgedSessionsUpTo l.fn.phases l.fn.table l.fn.checks l.fn.share l.fn.ended l.place l.judged
+    × AreJudgedSessionsUpTo l.fn.question.phases.now l.fn.question.table l.fn.question.checks l.fn.question.share l.fn.ended l.place l.judged

@@ -1,6 +1,6 @@
 use Rattle.std.proofs.Common.{Option, refl}
 use Rattle.audit_report.specs.declared.verdicts.Verdict.{Verdict}
-use Rattle.desk_filing.specs.declared.answers.FilingAnswer.{FilingAnswer}
+use Rattle.case_run.specs.declared.answers.CaseAnswer.{CaseAnswer}
 use Rattle.desk_filing.proofs.JudgeLemmas.{looks}
 use Rattle.desk_filing.proofs.LogLemmas.{stops_reading}
 use Rattle.desk_filing.proofs.WritingLemmas.{ends_stopped}
@@ -18,4 +18,4 @@ pub returns-in_ok-refusal_in-in-Ok-clause-within : goal.returns-in_ok-refusal_in
 returns-in_ok-refusal_in-in-Ok-clause-within g c = c.in-Ok.ensures.within
 
 pub returns-in-Err-clause-within : goal.returns-in-Err-clause-within
-returns-in-Err-clause-within g c = rw c.from.ensures (ends_stopped Verdict (Option FilingAnswer) c.in-Err.stop c.in-Err.ensures.within)
+returns-in-Err-clause-within g c = rw c.from.ensures (ends_stopped Verdict (Option CaseAnswer) c.in-Err.stop c.in-Err.ensures.within)

@@ -1,5 +1,5 @@
 use Rattle.std.proofs.Common.{Option, Err, refl, ⊎_elim}
-use Rattle.desk_filing.specs.declared.answers.FilingAnswer.{FilingAnswer}
+use Rattle.case_run.specs.declared.answers.CaseAnswer.{CaseAnswer}
 use Rattle.desk_filing.proofs.CheckLemmas.{faults_of_both, goes_on}
 use Rattle.desk_filing.proofs.FilingLemmas.{decides_refused, decides_stopped}
 use Rattle.desk_filing.proofs.WritingLemmas.{ends_any, ends_at, ends_halted}
@@ -29,4 +29,4 @@ returns-in-Err-clause-runs g c =
     rw c.end_unopened-in-Err.ensures.unopened (c.end_unopened-in-Err.ensures.runs _ c.args.request.now (decides_stopped _ (g.O.DigestOpener.state c.args.opener.now) (g.O.DigestOpener.state c.args.opener.now) c.args.request.now c.in-Err.halt c.in-Err.ensures.looks))
 
 pub returns-in-Err-clause-length : goal.returns-in-Err-clause-length
-returns-in-Err-clause-length g c = ends_at c.args.orders.now _ _ _ c.in-Err.ensures.logs (Err c.in-Err.halt) c.end_unopened-in-Err.result.status c.end_unopened-in-Err.ensures.length (ends_halted (Option FilingAnswer) FilingAnswer c.in-Err.halt c.in-Err.ensures.within)
+returns-in-Err-clause-length g c = ends_at c.args.logs.now.orders _ _ _ c.in-Err.ensures.logs (Err c.in-Err.halt) c.end_unopened-in-Err.result.status c.end_unopened-in-Err.ensures.length (ends_halted (Option CaseAnswer) CaseAnswer c.in-Err.halt c.in-Err.ensures.within)

@@ -6,7 +6,7 @@ use Rattle.desk_run.proofs.days.answer_session.Goals as goal
 
 pub returns-in_ok-phases_answer-in-Ok-clause-decides : goal.returns-in_ok-phases_answer-in-Ok-clause-decides
 returns-in_ok-phases_answer-in-Ok-clause-decides g c =
-    c.both_logs_decide.ensures.answers (request_by_phases c.args.phases.now c.args.table c.args.checks c.args.share c.args.page c.args.orders.now c.args.trades.now) (c.args.phases.now, c.args.table, c.args.checks, c.args.share, c.in-Ok.day)
+    c.both_logs_decide.ensures.answers (request_by_phases c.args.question.now c.args.page c.args.orders.now c.args.trades.now) (c.args.question.now.phases.now, c.args.question.now.table, c.args.question.now.checks, c.args.question.now.share, c.in-Ok.day)
     (reading_by c.args.orders.now g.F.Shelf c.args.shelf.now c.sessions_on.new.shelf) c.args.orders.now c.args.trades.now _ _ c.in-Ok.ensures.later
     (record {
       starts = record { first = refl; second = λ bytes. refl };
@@ -17,5 +17,5 @@ returns-in_ok-phases_answer-in-Ok-clause-decides g c =
 
 pub returns-in-Err-clause-decides : goal.returns-in-Err-clause-decides
 returns-in-Err-clause-decides g c =
-    c.both_logs_decide.ensures.stops (request_by_phases c.args.phases.now c.args.table c.args.checks c.args.share c.args.page c.args.orders.now c.args.trades.now) (reading_by c.args.orders.now g.F.Shelf c.args.shelf.now c.sessions_on.new.shelf) c.args.orders.now c.args.trades.now c.in-Err.stop
+    c.both_logs_decide.ensures.stops (request_by_phases c.args.question.now c.args.page c.args.orders.now c.args.trades.now) (reading_by c.args.orders.now g.F.Shelf c.args.shelf.now c.sessions_on.new.shelf) c.args.orders.now c.args.trades.now c.in-Err.stop
     c.in-Err.ensures.later (record { first = refl; second = λ bytes. refl }) c.in-Err.ensures.decides

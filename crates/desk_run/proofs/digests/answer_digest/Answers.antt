@@ -2,7 +2,8 @@ use Rattle.std.proofs.Common.{◌∙◌, subst, sym, refl, ⊎_elim, ℕ, List}
 use Rattle.command_run.specs.Deciding.{DecidesBytes, IsStatusOfLogs}
 use Rattle.command_run.specs.InTurn.{ReadsInTurn}
 use Rattle.audit_base.specs.declared.terms.Which.TheVariants.{Trades}
-use Rattle.desk_words.specs.declared.requests.DeskRequest.TheVariants.{Digest}
+use Rattle.desk_words.specs.declared.requests.DeskRequest.TheVariants.{Whole}
+use Rattle.desk_words.specs.declared.requests.WholeRequest.TheVariants.{Digest}
 use Rattle.desk_run.specs.Digesting.{IsDigestAnswer}
 use Rattle.desk_run.specs.TopCall.{desk_reading}
 use Rattle.desk_run.proofs.DigestLemmas.{first_stop}
@@ -28,7 +29,7 @@ returns-in-Ok-clause-decides g c =
     let second = desk_reading g.F.Shelf c.digest_of_log.new.shelf c.answer_after.new.shelf in
     let on : ReadsInTurn first second = record { limit = refl; tells = c.in-Ok.ensures.logs.tells; logs = c.in-Ok.ensures.logs.logs; begins = λ log. refl; orders = c.in-Ok.ensures.only; trades = c.answer_after.ensures.only } in
     let is = c.in-Ok.ensures.digest in
-    c.any_two_logs_decide.ensures.second (Digest c.args.orders.now c.args.trades.now) first second c.args.orders.now c.args.trades.now is.bytes c.answer_after.result on
+    c.any_two_logs_decide.ensures.second (Whole (Digest c.args.orders.now c.args.trades.now)) first second c.args.orders.now c.args.trades.now is.bytes c.answer_after.result on
     (record { first = refl; second = λ bytes. refl; last = λ one other. refl })
     (λ logs status text answer. subst IsStatusOfLogs (sym answer.status_is) tt) is.read
     (subst (λ (digest : List ℕ). DecidesBytes second Trades c.args.trades.now (IsDigestAnswer digest) c.answer_after.result) is.holds c.answer_after.ensures.decides)
@@ -42,7 +43,7 @@ returns-in-Ok-clause-within g c =
 
 pub returns-in-Err-clause-decides : goal.returns-in-Err-clause-decides
 returns-in-Err-clause-decides g c =
-    c.any_two_logs_decide.ensures.first (Digest c.args.orders.now c.args.trades.now) (desk_reading g.F.Shelf c.args.shelf.now c.digest_of_log.new.shelf)
+    c.any_two_logs_decide.ensures.first (Whole (Digest c.args.orders.now c.args.trades.now)) (desk_reading g.F.Shelf c.args.shelf.now c.digest_of_log.new.shelf)
     c.args.orders.now c.args.trades.now c.in-Err.stop c.in-Err.ensures.only (record { first = refl; second = λ bytes. refl; last = λ one other. refl }) c.in-Err.ensures.digest
 
 pub returns-in-Err-clause-within : goal.returns-in-Err-clause-within

@@ -1,5 +1,6 @@
 use Rattle.std.proofs.Common.{◌∙◌, ap, Err, inr, refl}
-use Rattle.desk_words.specs.declared.requests.DeskRequest.TheVariants.{Plain}
+use Rattle.desk_words.specs.declared.requests.DeskRequest.TheVariants.{Early}
+use Rattle.desk_words.specs.declared.requests.EarlyRequest.TheVariants.{Plain}
 use Rattle.plain_logs.specs.PlainTexts.{plain_text}
 use Rattle.desk_run.specs.TopCall.{desk_reading}
 use Rattle.desk_run.proofs.PlainLemmas.{end-written, ended-within, first_later, rest-at-end, rest-at-stop, sink-failed, stays-on, stop-written}
@@ -10,7 +11,7 @@ returns-in-Ok-clause-answers g c =
     let r = desk_reading g.F.Shelf c.args.shelf.now c.write_day.new.shelf in
     let only = c.in-Ok.ensures.only in
     let is = c.in-Ok.ensures.writes in
-    c.write_answer.ensures.rest (Plain c.args.day.now c.args.dress.now) r (g.K.Sink.state c.args.out.now) (plain_text is.bodies) refl
+    c.write_answer.ensures.rest (Early (Plain c.args.day.now c.args.dress.now)) r (g.K.Sink.state c.args.out.now) (plain_text is.bodies) refl
     (end-written r c.args.day.now c.args.dress.now only (g.K.Sink.state c.args.out.now) (g.K.Sink.state c.write_day.new.out) c.in-Ok.end is c.in-Ok.ensures.stays)
     (rest-at-end r c.args.day.now c.args.dress.now only (g.K.Sink.state c.args.out.now) (g.K.Sink.state c.write_day.new.out) c.in-Ok.end is c.end_or_stop.result c.end_or_stop.ensures)
 
@@ -30,7 +31,7 @@ returns-in-Err-Log-clause-answers g c =
     let r = desk_reading g.F.Shelf c.args.shelf.now c.write_day.new.shelf in
     let only = c.write_day.ensures.only in
     let is = rw (c.in-Err-Log.is ∙ ap Err c.in-Err-Log.field-0-is) at c.write_day.ensures.writes in
-    c.write_answer-in-Err-Log.ensures.rest (Plain c.args.day.now c.args.dress.now) r (g.K.Sink.state c.args.out.now) (plain_text is.early.bodies) refl
+    c.write_answer-in-Err-Log.ensures.rest (Early (Plain c.args.day.now c.args.dress.now)) r (g.K.Sink.state c.args.out.now) (plain_text is.early.bodies) refl
     (stop-written r c.args.day.now c.args.dress.now only (g.K.Sink.state c.args.out.now) (g.K.Sink.state c.write_day.new.out) c.in-Err-Log.fault is c.write_day.ensures.stays)
     (rw (c.stop_of_take.ensures, c.in-Err-Log.field-0-is) (rest-at-stop r c.args.day.now c.args.dress.now only (g.K.Sink.state c.args.out.now) (g.K.Sink.state c.write_day.new.out) c.in-Err-Log.fault is))
 

@@ -1,6 +1,6 @@
 use Rattle.std.proofs.Common.{inl, refl}
 use Rattle.desk_run.specs.TopCall.{desk_reading}
-use Rattle.desk_run.proofs.running.run_request.Goals as goal
+use Rattle.desk_run.proofs.running.run_early.Goals as goal
 
 pub returns-in-Orders-clause-answers : goal.returns-in-Orders-clause-answers
 returns-in-Orders-clause-answers g c =
