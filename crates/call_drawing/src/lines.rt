@@ -9,7 +9,7 @@ use audit_base::numbers::Price;
 use audit_base::texts::write_number;
 use page_markup::markup::Markup;
 use page_plots::papers::price_words;
-use page_plots::plot_lines::{with_line_across, with_worded_line};
+use page_plots::plot_lines::{WordsOver, with_line_across, with_worded_line};
 use page_plots::shapes::{Anchor, Point, with_label};
 use std::alloc::Global;
 
@@ -22,6 +22,17 @@ const GREATEST_TOP: u32 = 16;
 /// Where the words of the one price end, right before the right end of the plot.
 const PRICE_WORDS_END: u32 = 464;
 
+/// How the line of a quantity is drawn.
+#[derive(Clone, Copy, Debug)]
+struct QuantityLine<'a> {
+    /// Its class.
+    class: &'a [u8],
+    /// Its upper end, where its words have their foot, in units of the paper from its top.
+    top: u32,
+    /// The words before the quantity.
+    words: &'a [u8],
+}
+
 /// Words and a quantity behind them.
 fn quantity_words(alloc: Global, words: &[u8], quantity: u128) -> Result<Vec<u8>, NoMemory>
     ensures { IfOk result (λ text. text.items ≡ words.now ++ decimal quantity) }
@@ -31,23 +42,26 @@ fn quantity_words(alloc: Global, words: &[u8], quantity: u128) -> Result<Vec<u8>
     Ok(text)
 }
 
-/// With an upright line behind it at a quantity, with these words and the quantity over it.
+/// With an upright line behind it at a quantity, with its words and the quantity over it.
 fn with_quantity_line(
     alloc: Global,
     made: Markup,
-    class: &[u8],
-    words: &[u8],
-    top: u32,
+    line: &QuantityLine<'_>,
     at: UprightLine,
     quantity: u128,
 ) -> Result<Markup, NoMemory>
-    ensures { IfOk result
-        (λ more. more ≡ made ++ spec.quantity_line class.now words.now top at quantity) }
+    ensures { IfOk result (λ more. more ≡ made
+        ++ spec.quantity_line line.now.class.now line.now.words.now line.now.top at quantity) }
 {
-    let text = quantity_words(alloc, words, quantity)?;
+    let text = quantity_words(alloc, line.words, quantity)?;
     let x = u32::from(at.x);
-    let from = Point { x, y: top };
-    with_worded_line(alloc, made, class, from, top, at.anchor, &text)
+    let from = Point { x, y: line.top };
+    let over = WordsOver {
+        foot: line.top,
+        anchor: at.anchor,
+        words: &text,
+    };
+    with_worded_line(alloc, made, line.class, from, &over)
 }
 
 /// With the volume behind it.
@@ -59,8 +73,12 @@ pub fn with_volume(
 ) -> Result<Markup, NoMemory>
     ensures { IfOk result (λ more. more ≡ made ++ spec.volume_shapes at volume) }
 {
-    let (class, words) = (b"volume", b"traded ");
-    with_quantity_line(alloc, made, class, words, VOLUME_TOP, at, volume)
+    let line = QuantityLine {
+        class: b"volume",
+        top: VOLUME_TOP,
+        words: b"traded ",
+    };
+    with_quantity_line(alloc, made, &line, at, volume)
 }
 
 /// With the greatest volume behind it, where the finding tells it.
@@ -74,9 +92,12 @@ pub fn with_greatest(
 {
     match short {
         Some(short) => {
-            let (class, words) = (b"greatest", b"possible ");
-            let greatest = short.greatest;
-            with_quantity_line(alloc, made, class, words, GREATEST_TOP, at, greatest)
+            let line = QuantityLine {
+                class: b"greatest",
+                top: GREATEST_TOP,
+                words: b"possible ",
+            };
+            with_quantity_line(alloc, made, &line, at, short.greatest)
         }
         None => Ok(made),
     }

@@ -17,6 +17,15 @@ use page_plots::orders::{has_place, with_badge};
 use page_plots::shapes::Point;
 use std::alloc::Global;
 
+/// The mark of an order of the evidence.
+#[derive(Clone, Copy, Debug)]
+struct OrderMark<'a> {
+    /// The number of the order's row in the table: 1 or 2, as it is written.
+    number: &'a [u8],
+    /// The order.
+    line: &'a OrderLine,
+}
+
 /// Whether a step is that of this order, or of its limit.
 fn is_step_of(orders: &OrderList<'_>, by_limit: bool, step: &SideStep, line: &OrderLine) -> bool
     ensures { result ≡ spec.is_step_of orders.now by_limit step.now line.now }
@@ -52,15 +61,14 @@ fn with_mark_at_step(
     made: Markup,
     orders: &OrderList<'_>,
     by_limit: bool,
-    number: &[u8],
-    line: &OrderLine,
+    mark: &OrderMark<'_>,
     placed: &PlacedStep,
 ) -> Result<Markup, NoMemory>
-    ensures { IfOk result (λ more. more
-        ≡ made ++ spec.mark_at_step orders.now by_limit number.now line.now placed.now) }
+    ensures { IfOk result (λ more. more ≡ made ++ spec.mark_at_step orders.now by_limit
+        mark.now.number.now mark.now.line.now placed.now) }
 {
-    if is_step_of(orders, by_limit, &placed.step, line) {
-        with_mark(alloc, made, number, placed.bar)
+    if is_step_of(orders, by_limit, &placed.step, mark.line) {
+        with_mark(alloc, made, mark.number, placed.bar)
     } else {
         Ok(made)
     }
@@ -72,16 +80,15 @@ fn with_mark_at_steps(
     made: Markup,
     orders: &OrderList<'_>,
     by_limit: bool,
-    number: &[u8],
-    line: &OrderLine,
+    mark: &OrderMark<'_>,
     steps: &[PlacedStep],
 ) -> Result<Markup, NoMemory>
-    ensures { IfOk result (λ more. more ≡ made
-        ++ flat_map (spec.mark_at_step orders.now by_limit number.now line.now) steps.now) }
+    ensures { IfOk result (λ more. more ≡ made ++ flat_map
+        (spec.mark_at_step orders.now by_limit mark.now.number.now mark.now.line.now) steps.now) }
 {
     let mut made = made;
     for placed in steps {
-        made = with_mark_at_step(alloc, made, orders, by_limit, number, line, placed)?;
+        made = with_mark_at_step(alloc, made, orders, by_limit, mark, placed)?;
     }
     Ok(made)
 }
@@ -91,22 +98,13 @@ fn with_mark_on_side(
     alloc: Global,
     made: Markup,
     orders: &OrderList<'_>,
-    number: &[u8],
-    line: &OrderLine,
+    mark: &OrderMark<'_>,
     side: &PlacedSide,
 ) -> Result<Markup, NoMemory>
-    ensures { IfOk result
-        (λ more. more ≡ made ++ spec.mark_on_side orders.now number.now line.now side.now) }
+    ensures { IfOk result (λ more. more ≡ made
+        ++ spec.mark_on_side orders.now mark.now.number.now mark.now.line.now side.now) }
 {
-    with_mark_at_steps(
-        alloc,
-        made,
-        orders,
-        side.by_limit,
-        number,
-        line,
-        &side.steps,
-    )
+    with_mark_at_steps(alloc, made, orders, side.by_limit, mark, &side.steps)
 }
 
 impl MarkedPicture for CallLayout {
@@ -122,9 +120,10 @@ impl MarkedPicture for CallLayout {
         number: &[u8],
         line: &OrderLine,
     ) -> Result<Markup, NoMemory> {
+        let mark = OrderMark { number, line };
         match line.side {
-            Side::Buy => with_mark_on_side(alloc, made, orders, number, line, &self.bids),
-            Side::Sell => with_mark_on_side(alloc, made, orders, number, line, &self.asks),
+            Side::Buy => with_mark_on_side(alloc, made, orders, &mark, &self.bids),
+            Side::Sell => with_mark_on_side(alloc, made, orders, &mark, &self.asks),
         }
     }
 }

@@ -21,6 +21,7 @@ use page_plots::figures::with_figure;
 use page_plots::marks::{MarkedOrders, with_marks};
 use page_plots::papers::plot_paper;
 use page_plots::plot_axes::with_axes;
+use page_plots::shapes::Picture;
 use std::alloc::Global;
 
 /// What is marked in the picture of a call.
@@ -129,10 +130,13 @@ fn section_of(
     let shapes = call_shapes(alloc, orders, numbers, marked, layout)?;
     let caption = caption_of(alloc, numbers, marked)?;
     let paper = plot_paper(alloc, &layout.axes)?;
+    let picture = Picture {
+        paper: &paper,
+        title: b"Bids and asks by price and quantity",
+        shapes: &shapes,
+    };
     let made = Markup::new(alloc);
-    let heading = b"The orders of the call";
-    let title = b"Bids and asks by price and quantity";
-    with_figure(alloc, made, heading, title, &paper, &shapes, &caption)
+    with_figure(alloc, made, b"The orders of the call", &picture, &caption)
 }
 
 /// The section of the picture of a call with these numbers.

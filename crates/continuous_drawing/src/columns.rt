@@ -22,6 +22,15 @@ const LEAST_HEIGHT: u32 = 2;
 /// How wide a column is at least, so that it is seen.
 const LEAST_WIDTH: u32 = 1;
 
+/// What a range shows.
+#[derive(Clone, Copy, Debug)]
+struct RangeKind<'a> {
+    /// The class of its bar.
+    class: &'a [u8],
+    /// The word of its title.
+    word: &'a [u8],
+}
+
 /// The title of a range.
 fn range_title(
     alloc: Global,
@@ -97,17 +106,16 @@ fn with_range(
     alloc: Global,
     made: Markup,
     plot: Plot,
-    class: &[u8],
-    word: &[u8],
+    kind: &RangeKind<'_>,
     column: &PlaceColumn,
     range: &LimitRange,
 ) -> Result<Markup, NoMemory>
     requires { IsPlot plot }
-    ensures { IfOk result
-        (λ more. more ≡ made ++ spec.range_shapes plot class.now word.now column.now range.now) }
+    ensures { IfOk result (λ more. more ≡ made
+        ++ spec.range_shapes plot kind.now.class.now kind.now.word.now column.now range.now) }
 {
-    let title = range_title(alloc, word, column, range)?;
-    let shapes = with_bar(alloc, Markup::new(alloc), plot, class, column, range)?;
+    let title = range_title(alloc, kind.word, column, range)?;
+    let shapes = with_bar(alloc, Markup::new(alloc), plot, kind.class, column, range)?;
     with_group(alloc, made, &title, &shapes)
 }
 
@@ -116,17 +124,16 @@ fn with_range_if_there(
     alloc: Global,
     made: Markup,
     plot: Plot,
-    class: &[u8],
-    word: &[u8],
+    kind: &RangeKind<'_>,
     column: &PlaceColumn,
     range: &Option<LimitRange>,
 ) -> Result<Markup, NoMemory>
     requires { IsPlot plot }
-    ensures { IfOk result
-        (λ more. more ≡ made ++ spec.range_if_there plot class.now word.now column.now range.now) }
+    ensures { IfOk result (λ more. more ≡ made
+        ++ spec.range_if_there plot kind.now.class.now kind.now.word.now column.now range.now) }
 {
     match range {
-        Some(range) => with_range(alloc, made, plot, class, word, column, range),
+        Some(range) => with_range(alloc, made, plot, kind, column, range),
         None => Ok(made),
     }
 }
@@ -141,9 +148,12 @@ fn with_bids(
     requires { IsPlot plot }
     ensures { IfOk result (λ more. more ≡ made ++ spec.bid_range plot column.now) }
 {
-    let word = side_word(Side::Buy);
+    let kind = RangeKind {
+        class: b"bidtraded",
+        word: side_word(Side::Buy),
+    };
     let range = &column.bids;
-    with_range_if_there(alloc, made, plot, b"bidtraded", word, column, range)
+    with_range_if_there(alloc, made, plot, &kind, column, range)
 }
 
 /// With the best asks of a column behind it.
@@ -156,9 +166,12 @@ fn with_asks(
     requires { IsPlot plot }
     ensures { IfOk result (λ more. more ≡ made ++ spec.ask_range plot column.now) }
 {
-    let word = side_word(Side::Sell);
+    let kind = RangeKind {
+        class: b"asktraded",
+        word: side_word(Side::Sell),
+    };
     let range = &column.asks;
-    with_range_if_there(alloc, made, plot, b"asktraded", word, column, range)
+    with_range_if_there(alloc, made, plot, &kind, column, range)
 }
 
 /// With the best limits of a column behind it.
@@ -202,8 +215,12 @@ fn with_trade_range(
     requires { IsPlot plot }
     ensures { IfOk result (λ more. more ≡ made ++ spec.trade_range plot column.now) }
 {
+    let kind = RangeKind {
+        class: b"trade",
+        word: b"trades",
+    };
     let range = &column.trades;
-    with_range_if_there(alloc, made, plot, b"trade", b"trades", column, range)
+    with_range_if_there(alloc, made, plot, &kind, column, range)
 }
 
 /// With the prices of the trades of these columns behind it.

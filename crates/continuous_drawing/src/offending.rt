@@ -8,7 +8,7 @@ use audit_base::findings::Property;
 use audit_base::texts::write_number;
 use page_markup::markup::Markup;
 use page_plots::measures::TOP;
-use page_plots::plot_lines::with_worded_line;
+use page_plots::plot_lines::{WordsOver, with_worded_line};
 use page_plots::plots::Plot;
 use page_plots::shapes::{Anchor, Point};
 use std::alloc::Global;
@@ -69,8 +69,12 @@ fn with_line_and_words(
 {
     let text = words_of(alloc, offence)?;
     let from = Point { x, y: TOP };
-    let anchor = anchor_beside(x);
-    with_worded_line(alloc, made, b"mark", from, WORDS_FOOT, anchor, &text)
+    let over = WordsOver {
+        foot: WORDS_FOOT,
+        anchor: anchor_beside(x),
+        words: &text,
+    };
+    with_worded_line(alloc, made, b"mark", from, &over)
 }
 
 /// How far from the left of the paper a place lies.

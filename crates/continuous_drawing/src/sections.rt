@@ -27,7 +27,17 @@ use page_plots::marks::{MarkedOrders, with_marks};
 use page_plots::papers::plot_paper;
 use page_plots::plot_axes::{Axes, with_axes};
 use page_plots::plots::Plot;
+use page_plots::shapes::Picture;
 use std::alloc::Global;
+
+/// A plot, and what is marked on its axes.
+#[derive(Clone, Copy, Debug)]
+struct PlotWithAxes<'a> {
+    /// By it places and prices lie on the paper.
+    plot: Plot,
+    /// The marks of its axes, each at its place on the paper.
+    axes: &'a Axes,
+}
 
 /// What is marked in the picture of continuous trading.
 #[derive(Clone, Copy, Debug)]
@@ -76,7 +86,12 @@ fn with_worded_figure(
         ≡ made ++ spec.worded_figure heading.now paper.now shapes.now words.now) }
 {
     let caption = with_text_element(alloc, Markup::new(alloc), Tag::Paragraph, words)?;
-    with_figure(alloc, made, heading, heading, paper, shapes, &caption)
+    let picture = Picture {
+        paper,
+        title: heading,
+        shapes,
+    };
+    with_figure(alloc, made, heading, &picture, &caption)
 }
 
 /// With the best limits and the trades behind it.
@@ -100,21 +115,20 @@ fn with_numbers(
 /// The shapes of the picture of the best limits.
 fn picture_shapes(
     alloc: Global,
-    plot: Plot,
-    axes: &Axes,
+    plotted: &PlotWithAxes<'_>,
     orders: &OrderList<'_>,
     deals: &[Deal],
     columns: &[PlaceColumn],
     offence: Option<OffendingPlace>,
 ) -> Result<Markup, NoMemory>
-    requires plot { IsPlot plot }
+    requires plot { IsPlot plotted.now.plot }
     requires deal_list { IsDealList orders.now deals.now }
-    ensures { IfOk result (λ made. made
-        ≡ spec.picture_shapes plot axes.now orders.now deals.now columns.now offence) }
+    ensures { IfOk result (λ made. made ≡ spec.picture_shapes plotted.now.plot
+        plotted.now.axes.now orders.now deals.now columns.now offence) }
 {
-    let made = with_axes(alloc, Markup::new(alloc), axes, b"record")?;
-    let made = with_numbers(alloc, made, plot, orders, deals, columns)?;
-    let made = with_offending(alloc, made, plot, offence)?;
+    let made = with_axes(alloc, Markup::new(alloc), plotted.axes, b"record")?;
+    let made = with_numbers(alloc, made, plotted.plot, orders, deals, columns)?;
+    let made = with_offending(alloc, made, plotted.plot, offence)?;
     with_trading_legend(alloc, made)
 }
 
@@ -205,7 +219,8 @@ fn plotted_picture(
         (spec.IsPlottedPicture plot orders.now deals.now columns.now offence) }
 {
     let axes = plot.axes(alloc)?;
-    let shapes = picture_shapes(alloc, plot, &axes, orders, deals, columns, offence)?;
+    let plotted = PlotWithAxes { plot, axes: &axes };
+    let shapes = picture_shapes(alloc, &plotted, orders, deals, columns, offence)?;
     let made = picture_section(alloc, &axes, &shapes)?;
     Ok(made)
 }

@@ -2,7 +2,7 @@
 ghost use Rattle.std.specs.Prelude.{◌≡◌, ◌++◌, IfOk};
 ghost use Rattle.page_plots.specs.Figures as spec;
 
-use crate::shapes::with_picture;
+use crate::shapes::{Picture, with_picture};
 use audit_base::faults::NoMemory;
 use page_markup::markup::Markup;
 use page_markup::words::Tag;
@@ -17,21 +17,18 @@ fn figure_of(alloc: Global, picture: Markup, caption: &Markup) -> Result<Markup,
     Markup::new(alloc).with_element(Tag::Figure, &[], &inner)
 }
 
-/// With a section behind it that has a picture of these shapes: its heading, the title of the
-/// picture and the coordinates of its paper, and what stands below it.
+/// With a section of this heading behind it that has a picture, and what stands below it.
 pub fn with_figure(
     alloc: Global,
     made: Markup,
     heading: &[u8],
-    title: &[u8],
-    paper: &[u8],
-    shapes: &Markup,
+    picture: &Picture<'_>,
     caption: &Markup,
 ) -> Result<Markup, NoMemory>
-    ensures { IfOk result (λ more. more ≡ made
-        ++ spec.figure_section heading.now title.now paper.now shapes.now caption.now) }
+    ensures { IfOk result (λ more. more ≡ made ++ spec.figure_section heading.now
+        picture.now.title.now picture.now.paper.now picture.now.shapes.now caption.now) }
 {
-    let picture = with_picture(alloc, Markup::new(alloc), paper, title, shapes)?;
+    let picture = with_picture(alloc, Markup::new(alloc), picture)?;
     let figure = figure_of(alloc, picture, caption)?;
     with_section(alloc, made, heading, &figure)
 }

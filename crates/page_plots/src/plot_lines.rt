@@ -21,25 +21,36 @@ pub fn with_line_across(
     with_line(alloc, made, class, from, to)
 }
 
-/// With an upright line behind it, from a point to the lower end of the plot, and these words over
-/// it, which have their foot here.
+/// Words over an upright line.
+#[derive(Clone, Copy, Debug)]
+pub struct WordsOver<'a> {
+    /// Their foot, in units of the paper from its top: up to 44 they stand above the plot.
+    pub foot: u32,
+    /// Which point of them stands over the line.
+    pub anchor: Anchor,
+    /// The words, as they are read.
+    pub words: &'a [u8],
+}
+
+/// With an upright line behind it, from a point to the lower end of the plot, and words over it.
 pub fn with_worded_line(
     alloc: Global,
     made: Markup,
     class: &[u8],
     from: Point,
-    foot: u32,
-    anchor: Anchor,
-    words: &[u8],
+    over: &WordsOver<'_>,
 ) -> Result<Markup, NoMemory>
-    ensures { IfOk result (λ more. more
-        ≡ made ++ spec.worded_line class.now from foot anchor words.now) }
+    ensures { IfOk result (λ more. more ≡ made
+        ++ spec.worded_line class.now from over.now.foot over.now.anchor over.now.words.now) }
 {
     let to = Point {
         x: from.x,
         y: BOTTOM,
     };
     let made = with_line(alloc, made, class, from, to)?;
-    let at = Point { x: from.x, y: foot };
-    with_label(alloc, made, b"label", at, anchor, words)
+    let at = Point {
+        x: from.x,
+        y: over.foot,
+    };
+    with_label(alloc, made, b"label", at, over.anchor, over.words)
 }

@@ -10,13 +10,22 @@ use page_markup::words::{AttributeName, Tag};
 use page_parts::elements::{says, with_text_element};
 use std::alloc::Global;
 
-/// A point of the paper.
+/// A point of the paper, in units of its coordinates.
 #[derive(Clone, Copy, Debug, PartialEq, Eq)]
 pub struct Point {
     /// From the left.
     pub x: u32,
     /// From the top.
     pub y: u32,
+}
+
+/// A point of the paper as it is written: each coordinate in decimal digits, from 0 to 4294967295.
+#[derive(Clone, Copy, Debug)]
+struct WrittenPoint<'a> {
+    /// From the left.
+    x: &'a [u8],
+    /// From the top.
+    y: &'a [u8],
 }
 
 /// Which point of a text is at its place.
@@ -45,18 +54,17 @@ fn with_written_rectangle(
     alloc: Global,
     made: Markup,
     class: &[u8],
-    x: &[u8],
-    y: &[u8],
+    corner: &WrittenPoint<'_>,
     width: &[u8],
     height: &[u8],
 ) -> Result<Markup, NoMemory>
-    ensures { IfOk result (λ shape. shape ≡ made
-        ++ spec.written_rectangle class.now x.now y.now width.now height.now) }
+    ensures { IfOk result (λ shape. shape ≡ made ++ spec.written_rectangle class.now
+        corner.now.x.now corner.now.y.now width.now height.now) }
 {
     let attributes = [
         says(AttributeName::Class, class),
-        says(AttributeName::X, x),
-        says(AttributeName::Y, y),
+        says(AttributeName::X, corner.x),
+        says(AttributeName::Y, corner.y),
         says(AttributeName::Width, width),
         says(AttributeName::Height, height),
     ];
@@ -77,11 +85,13 @@ pub fn with_rectangle(
 {
     let (mut left, mut top) = (Buffer::new(), Buffer::new());
     let (mut wide, mut high) = (Buffer::new(), Buffer::new());
-    let x = left.format(corner.x).as_bytes();
-    let y = top.format(corner.y).as_bytes();
+    let corner = WrittenPoint {
+        x: left.format(corner.x).as_bytes(),
+        y: top.format(corner.y).as_bytes(),
+    };
     let width = wide.format(width).as_bytes();
     let height = high.format(height).as_bytes();
-    with_written_rectangle(alloc, made, class, x, y, width, height)
+    with_written_rectangle(alloc, made, class, &corner, width, height)
 }
 
 /// With a bar behind it, from this upper left corner to the right as far as here.
@@ -103,20 +113,18 @@ fn with_written_line(
     alloc: Global,
     made: Markup,
     class: &[u8],
-    x1: &[u8],
-    y1: &[u8],
-    x2: &[u8],
-    y2: &[u8],
+    from: &WrittenPoint<'_>,
+    to: &WrittenPoint<'_>,
 ) -> Result<Markup, NoMemory>
-    ensures { IfOk result (λ shape. shape ≡ made
-        ++ spec.written_straight_line class.now x1.now y1.now x2.now y2.now) }
+    ensures { IfOk result (λ shape. shape ≡ made ++ spec.written_straight_line class.now
+        from.now.x.now from.now.y.now to.now.x.now to.now.y.now) }
 {
     let attributes = [
         says(AttributeName::Class, class),
-        says(AttributeName::X1, x1),
-        says(AttributeName::Y1, y1),
-        says(AttributeName::X2, x2),
-        says(AttributeName::Y2, y2),
+        says(AttributeName::X1, from.x),
+        says(AttributeName::Y1, from.y),
+        says(AttributeName::X2, to.x),
+        says(AttributeName::Y2, to.y),
     ];
     made.with_element(Tag::Line, &attributes, &Markup::new(alloc))
 }
@@ -133,11 +141,15 @@ pub fn with_line(
 {
     let (mut from_x, mut from_y) = (Buffer::new(), Buffer::new());
     let (mut to_x, mut to_y) = (Buffer::new(), Buffer::new());
-    let x1 = from_x.format(from.x).as_bytes();
-    let y1 = from_y.format(from.y).as_bytes();
-    let x2 = to_x.format(to.x).as_bytes();
-    let y2 = to_y.format(to.y).as_bytes();
-    with_written_line(alloc, made, class, x1, y1, x2, y2)
+    let from = WrittenPoint {
+        x: from_x.format(from.x).as_bytes(),
+        y: from_y.format(from.y).as_bytes(),
+    };
+    let to = WrittenPoint {
+        x: to_x.format(to.x).as_bytes(),
+        y: to_y.format(to.y).as_bytes(),
+    };
+    with_written_line(alloc, made, class, &from, &to)
 }
 
 /// With a circle behind it, whose numbers are written so.
@@ -145,17 +157,16 @@ fn with_written_circle(
     alloc: Global,
     made: Markup,
     class: &[u8],
-    x: &[u8],
-    y: &[u8],
+    centre: &WrittenPoint<'_>,
     radius: &[u8],
 ) -> Result<Markup, NoMemory>
-    ensures { IfOk result (λ shape. shape ≡ made
-        ++ spec.written_circle class.now x.now y.now radius.now) }
+    ensures { IfOk result (λ shape. shape ≡ made ++ spec.written_circle class.now
+        centre.now.x.now centre.now.y.now radius.now) }
 {
     let attributes = [
         says(AttributeName::Class, class),
-        says(AttributeName::CenterX, x),
-        says(AttributeName::CenterY, y),
+        says(AttributeName::CenterX, centre.x),
+        says(AttributeName::CenterY, centre.y),
         says(AttributeName::Radius, radius),
     ];
     made.with_element(Tag::Circle, &attributes, &Markup::new(alloc))
@@ -172,28 +183,29 @@ pub fn with_circle(
     ensures { IfOk result (λ shape. shape ≡ made ++ spec.circle class.now centre radius) }
 {
     let (mut left, mut top, mut wide) = (Buffer::new(), Buffer::new(), Buffer::new());
-    let x = left.format(centre.x).as_bytes();
-    let y = top.format(centre.y).as_bytes();
+    let centre = WrittenPoint {
+        x: left.format(centre.x).as_bytes(),
+        y: top.format(centre.y).as_bytes(),
+    };
     let radius = wide.format(radius).as_bytes();
-    with_written_circle(alloc, made, class, x, y, radius)
+    with_written_circle(alloc, made, class, &centre, radius)
 }
 
 /// With a text of a picture behind it, whose numbers are written so.
 fn with_written_label(
     made: Markup,
     class: &[u8],
-    x: &[u8],
-    y: &[u8],
+    at: &WrittenPoint<'_>,
     anchor: &[u8],
     text: &Markup,
 ) -> Result<Markup, NoMemory>
-    ensures { IfOk result (λ shape. shape ≡ made
-        ++ spec.written_label class.now x.now y.now anchor.now text.now) }
+    ensures { IfOk result (λ shape. shape ≡ made ++ spec.written_label class.now
+        at.now.x.now at.now.y.now anchor.now text.now) }
 {
     let attributes = [
         says(AttributeName::Class, class),
-        says(AttributeName::X, x),
-        says(AttributeName::Y, y),
+        says(AttributeName::X, at.x),
+        says(AttributeName::Y, at.y),
         says(AttributeName::TextAnchor, anchor),
     ];
     made.with_element(Tag::SvgText, &attributes, text)
@@ -212,10 +224,12 @@ pub fn with_label(
         (λ shape. shape ≡ made ++ spec.label class.now at anchor words.now) }
 {
     let (mut left, mut top) = (Buffer::new(), Buffer::new());
-    let x = left.format(at.x).as_bytes();
-    let y = top.format(at.y).as_bytes();
+    let at = WrittenPoint {
+        x: left.format(at.x).as_bytes(),
+        y: top.format(at.y).as_bytes(),
+    };
     let text = Markup::new(alloc).with_text(words)?;
-    with_written_label(made, class, x, y, anchor.word(), &text)
+    with_written_label(made, class, &at, anchor.word(), &text)
 }
 
 /// With a line through points behind it, as the words of a path.
@@ -241,22 +255,27 @@ pub fn append_point(path: &mut Vec<u8>, at: Point) -> Result<(), NoMemory>
     Ok(())
 }
 
-/// With a picture behind it, of these shapes: its title, which a screen reader reads in its place,
-/// and the coordinates of its paper.
-pub fn with_picture(
-    alloc: Global,
-    made: Markup,
-    paper: &[u8],
-    title: &[u8],
-    shapes: &Markup,
-) -> Result<Markup, NoMemory>
-    ensures { IfOk result
-        (λ more. more ≡ made ++ spec.svg paper.now title.now shapes.now) }
+/// A picture: shapes on paper, and what they are.
+#[derive(Clone, Copy)]
+pub struct Picture<'a> {
+    /// The coordinates of its paper, as `-76 0 576 346`: its left end, its upper end, its width and
+    /// its height.
+    pub paper: &'a [u8],
+    /// Its title, which a screen reader reads in its place.
+    pub title: &'a [u8],
+    /// Its shapes, which lie by these coordinates.
+    pub shapes: &'a Markup,
+}
+
+/// With a picture behind it.
+pub fn with_picture(alloc: Global, made: Markup, picture: &Picture<'_>) -> Result<Markup, NoMemory>
+    ensures { IfOk result (λ more. more ≡ made
+        ++ spec.svg picture.now.paper.now picture.now.title.now picture.now.shapes.now) }
 {
-    let inner = with_text_element(alloc, Markup::new(alloc), Tag::Title, title)?;
-    let inner = inner.with_markup(shapes)?;
+    let inner = with_text_element(alloc, Markup::new(alloc), Tag::Title, picture.title)?;
+    let inner = inner.with_markup(picture.shapes)?;
     let attributes = [
-        says(AttributeName::ViewBox, paper),
+        says(AttributeName::ViewBox, picture.paper),
         says(AttributeName::Role, b"img"),
     ];
     made.with_element(Tag::Svg, &attributes, &inner)

@@ -9,5 +9,5 @@ use Rattle.page_plots.proofs.plot_lines.with_worded_line.Goals as goal
 pub returns : goal.returns
 returns c =
     let line = straight_line c.args.class.now c.args.from (record { x = c.args.from.x; y = lower_end }) in
-    let over = label (codes "label") (record { x = c.args.from.x; y = c.args.foot }) c.args.anchor c.args.words.now in
+    let over = label (codes "label") (record { x = c.args.from.x; y = c.args.over.now.foot }) c.args.over.now.anchor c.args.over.now.words.now in
     IfOk-weaker c.with_label.result _ _ (λ more e. e ∙ ap (λ (m : List ℕ). m ++ over) c.in_ok-made.ensures ∙ append_assoc c.args.made line over) c.with_label.ensures
