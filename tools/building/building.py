@@ -1,11 +1,11 @@
 """Proves a program with all that it stands on, several crates at a time, and links it."""
 
-import hashlib
 import os
 import signal
 import time
 
 from crates import below, read_crates, stamps
+from kept import read_record
 from kit import verdict_of
 from machine import free_memory
 from plan import Plan, read_measured, work_of
@@ -20,21 +20,23 @@ class NotBuilt(Exception):
     """Why the program cannot be built, in words for whoever asked for it."""
 
 
-def sum_of(path):
-    with open(path, "rb") as file:
-        return hashlib.sha256(file.read()).hexdigest()
-
-
 def is_built(top, kept, kit, name):
-    """Returns whether the program stands there that was built for these sources. Without a kit, that of its record is
-    taken, so that a machine without one runs what another has built."""
-    crates = read_crates(top)
-    record = kept.record(crates[name])
-    if record is None:
-        return False
-    identity = kit.identity() if kit else record.get("kit_sum")
-    stamp = stamps(crates, below(crates, name), identity)[name]
-    return record.get("stamp") == stamp and record.get("sha256") == sum_of(kept.made(crates[name]))
+    """Returns whether the program stands there that this kit built of these sources. Without a kit, any will do."""
+    return kept.is_built(read_crates(top)[name], stamps(top, [name])[name], kit)
+
+
+def beside_dist(top, kept, name):
+    """Returns how the program that stands there compares with that of dist/, in words, or None where dist/ has none."""
+    dist, stamp = read_record(f"{top}/dist/proved"), stamps(top, [name])[name]
+    if name not in dist:
+        return None
+    if not dist[name].startswith(f"sources {stamp} "):
+        return f"dist/ has no program of these sources, with which out/{name} could be compared"
+    crate = read_crates(top)[name]
+    if dist[name] == kept.made_of(crate, stamp):
+        return f"out/{name}, proved and built here, is the program of dist/, to the byte"
+    kit = read_record(kept.record_path(crate)).get("kit")
+    return f"out/{name}, proved and built here by {kit}, is NOT the program of dist/, made by {dist.get('kit')}"
 
 
 class Build:
@@ -42,10 +44,10 @@ class Build:
         self.top, self.name, self.kept, self.kit, self.progress = top, name, kept, kit, progress
         self.crates = read_crates(top)
         self.names = below(self.crates, name)
-        self.stamps = stamps(self.crates, self.names, kit.identity())
+        self.stamps = stamps(top, self.names)
         measured = read_measured(f"{os.path.dirname(os.path.abspath(__file__))}/seconds")
         work = {it: work_of(self.crates[it], measured) for it in self.names}
-        left = [it for it in self.names if not kept.is_built(self.crates[it], self.stamps[it])]
+        left = [it for it in self.names if not kept.is_built(self.crates[it], self.stamps[it], kit)]
         if name not in left:
             left.append(name)
         self.plan = Plan(self.crates, left, work, processors, 0.85 * free_memory())
@@ -61,7 +63,7 @@ class Build:
             for name in [it for it, child in self.children.items() if child.has_ended()]:
                 self.finish(group, name, self.children.pop(name))
             self.show()
-        if stamps(read_crates(self.top), self.names, self.kit.identity()) != self.stamps:
+        if stamps(self.top, [self.name])[self.name] != self.stamps[self.name]:
             raise NotBuilt("the sources changed while they were proved: run it again")
 
     def start(self, group, name, jobs):
@@ -92,9 +94,7 @@ class Build:
 
     def hold_to_sources(self, name):
         """What was built is kept only where the sources are still those that the stamp was made of."""
-        at = self.names.index(name)
-        now = stamps(self.crates, self.names[: at + 1], self.kit.identity())
-        if now[name] != self.stamps[name]:
+        if stamps(self.top, [name])[name] != self.stamps[name]:
             raise NotBuilt(f"sources of {name} or below it changed while it was proved: run it again")
 
     def link(self, group, name):
@@ -120,11 +120,8 @@ class Build:
             "processor_seconds": round(child.processor_seconds(), 1),
             "greatest_process_mb": child.usage.ru_maxrss // 1024,
         }
-        record = {"crate": name, "stamp": self.stamps[name], "verdict": verdict}
-        record |= {"kit": self.kit.line, "kit_sum": self.kit.identity(), **took}
-        if crate.is_program:
-            record["sha256"] = sum_of(self.kept.made(crate))
-        self.kept.keep(crate, record)
+        record = {name: self.kept.made_of(crate, self.stamps[name]), "verdict": verdict}
+        self.kept.keep(crate, record | {"kit": self.kit.line, "kit_sum": self.kit.identity(), **took})
         self.times.append((name, child.ended - self.began, took))
 
     # ---- What is shown ----

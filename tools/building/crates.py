@@ -1,8 +1,8 @@
-"""The crates of the repository: what each stands on, and the stamp of everything that it is built from."""
+"""The crates of the repository: what each stands on, and the stamp of the sources that it is built from."""
 
-import hashlib
 import os
 import re
+import subprocess
 
 # What `rattle build` reads of a crate.
 PARTS = ("src", "specs", "proofs")
@@ -24,23 +24,15 @@ class Crate:
     def root(self):
         return "src/main.rt" if self.is_program else "src/lib.rt"
 
-    def sources(self):
-        """Returns the paths of the crate's sources, relative to its folder, in one order on every machine."""
-        found = []
-        for part in PARTS:
-            for folder, _, names in os.walk(f"{self.folder}/{part}"):
-                inside = os.path.relpath(folder, self.folder)
-                found += [f"{inside}/{name}" for name in names]
-        return sorted(found)
-
     def lines(self):
         """Returns how many lines of code and of definitions and proofs the crate has."""
         counts = {".rt": 0, ".antt": 0}
-        for path in self.sources():
-            kind = os.path.splitext(path)[1]
-            if kind in counts:
-                with open(f"{self.folder}/{path}", "rb") as file:
-                    counts[kind] += file.read().count(b"\n")
+        for folder, _, names in (it for part in PARTS for it in os.walk(f"{self.folder}/{part}")):
+            for name in names:
+                kind = os.path.splitext(name)[1]
+                if kind in counts:
+                    with open(f"{folder}/{name}", "rb") as file:
+                        counts[kind] += file.read().count(b"\n")
         return counts[".rt"], counts[".antt"]
 
 
@@ -71,16 +63,9 @@ def below(crates, name):
     return list(found)
 
 
-def stamps(crates, names, kit):
-    """Returns for each of the names, which come lowest first, a sum of all that decides what is built of the crate:
-    its sources, the libraries that it names, the stamps of those of the repository, and the kit's identity."""
-    found = {}
-    for name in names:
-        crate = crates[name]
-        total = hashlib.sha256(repr((kit, name, crate.uses)).encode())
-        for path in crate.sources():
-            with open(f"{crate.folder}/{path}", "rb") as file:
-                total.update(repr((path, hashlib.sha256(file.read()).digest())).encode())
-        total.update(repr([found[it] for it in crate.uses if it in crates]).encode())
-        found[name] = total.hexdigest()
-    return found
+def stamps(top, names):
+    """Returns for each of the crates the stamp of the sources that it is made of, its own and those below it."""
+    found = subprocess.run([f"{top}/tools/stamp", *names], stdout=subprocess.PIPE, text=True, check=False)
+    if found.returncode:
+        raise OSError("the stamp of the sources cannot be taken")
+    return {name: stamp for stamp, name in (line.split() for line in found.stdout.splitlines())}
