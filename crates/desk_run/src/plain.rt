@@ -38,7 +38,7 @@ use log_source::sink::Sink;
 use log_source::take::TakeFault;
 use log_verdict::stops::Stop;
 use plain_logs::day_ends::{DayEnd, PlainFault};
-use plain_logs::logs::{write_framed, write_on_lines};
+use plain_logs::logs::{DaySource, write_framed, write_on_lines};
 use std::alloc::Global;
 use std::marker::Brand;
 
@@ -95,7 +95,12 @@ fn write_day_framed<F: Shelf, K: Sink>(
         (K.state out.old) (K.state out.new) result }
     ensures within { WritesWithin (desk_reading F.Shelf shelf.old shelf.new) result }
 {
-    write_framed(alloc, shelf, Which::Orders, day.as_str(), LONGEST_READ, out)
+    let day = DaySource {
+        which: Which::Orders,
+        name: day.as_str(),
+        limit: LONGEST_READ,
+    };
+    write_framed(alloc, shelf, &day, out)
 }
 
 /// Writes a day whose messages stand on lines, up to its end. The text of `S`, which is `soh`,
@@ -116,15 +121,12 @@ fn write_day_lines<S: SohText, F: Shelf, K: Sink>(
         day.now (K.state out.old) (K.state out.new) result }
     ensures within { WritesWithin (desk_reading F.Shelf shelf.old shelf.new) result }
 {
-    write_on_lines::<S, F, K>(
-        alloc,
-        shelf,
-        Which::Orders,
-        day.as_str(),
-        LONGEST_READ,
-        soh,
-        out,
-    )
+    let day = DaySource {
+        which: Which::Orders,
+        name: day.as_str(),
+        limit: LONGEST_READ,
+    };
+    write_on_lines::<S, F, K>(alloc, shelf, &day, soh, out)
 }
 
 /// The same, whatever text stands for SOH.

@@ -18,6 +18,15 @@ use log_source::sink::Sink;
 use log_source::take::TakeFault;
 use std::alloc::Global;
 
+/// A day that is read: the log of this name, by this slot of the shelf.
+#[derive(Clone, Copy, Debug)]
+pub struct DaySource<'a> {
+    pub which: Which,
+    pub name: &'a str,
+    /// The greatest number of bytes that the day may have, `LONGEST_READ` at most.
+    pub limit: u64,
+}
+
 /// The bytes of one read, 1 MiB, as where a log is handed to a feed.
 const PIECE: usize = 1_048_576;
 
@@ -45,37 +54,36 @@ fn pass_piece<D: DayFeed, K: Sink>(
     }
 }
 
-/// Hands the log of this name to the feed, piece by piece up to its end, and writes what the feed
-/// gives at each.
+/// Hands the day to the feed, piece by piece up to its end, and writes what the feed gives at each.
 fn pass_log<D: DayFeed, F: Shelf, K: Sink>(
     alloc: Global,
     shelf: &mut F,
-    which: Which,
-    name: &str,
-    limit: u64,
+    day: &DaySource<'_>,
     feed: &mut D,
     out: &mut K,
 ) -> Result<(), PlainFault>
-    requires limit { limit ≤ longest_read }
+    requires limit { day.now.limit ≤ longest_read }
     requires empty { D.has_read feed.old [] [] }
-    ensures only { ChangesOneSlot F.tells F.log_of F.slot which shelf.old shelf.new }
+    ensures only { ChangesOneSlot F.tells F.log_of F.slot day.now.which shelf.old shelf.new }
     ensures stays { SinkStays (K.state out.old) (K.state out.new) }
-    ensures slot { TakesUpTo F.Shelf which name.now limit shelf.old shelf.new result }
-    ensures whole { OnOk result (WritesWholeLog F.Shelf D.reads which name.now limit
-        shelf.old shelf.new (K.state out.old) (K.state out.new) (D.has_read feed.new)) }
-    ensures stops { IfErr result (StopsWriting F.Shelf D.reads which name.now
-        shelf.old shelf.new (K.state out.old) (K.state out.new)) }
+    ensures slot { TakesUpTo F.Shelf day.now.which day.now.name.now day.now.limit
+        shelf.old shelf.new result }
+    ensures whole { OnOk result (WritesWholeLog F.Shelf D.reads day.now.which
+        day.now.name.now day.now.limit shelf.old shelf.new (K.state out.old) (K.state out.new)
+        (D.has_read feed.new)) }
+    ensures stops { IfErr result (StopsWriting F.Shelf D.reads day.now.which
+        day.now.name.now shelf.old shelf.new (K.state out.old) (K.state out.new)) }
 {
-    shelf.start(which, name)?;
+    shelf.start(day.which, day.name)?;
     let mut buffer = [0u8; PIECE];
     let mut spare = Vec::new(alloc);
     let mut taken: u64 = 0;
     'pieces: loop {
-        let count = shelf.read(which, &mut buffer)?;
+        let count = shelf.read(day.which, &mut buffer)?;
         if count == 0 {
             return Ok(());
         }
-        if count as u64 > limit - taken {
+        if count as u64 > day.limit - taken {
             return Err(PlainFault::Log(TakeFault::TooLong));
         }
         taken += count as u64;
@@ -87,57 +95,54 @@ fn pass_log<D: DayFeed, F: Shelf, K: Sink>(
 fn write_day<D: DayFeed, F: Shelf, K: Sink>(
     alloc: Global,
     shelf: &mut F,
-    which: Which,
-    name: &str,
-    limit: u64,
+    day: &DaySource<'_>,
     mut feed: D,
     out: &mut K,
 ) -> Result<DayEnd, PlainFault>
-    requires limit { limit ≤ longest_read }
+    requires limit { day.now.limit ≤ longest_read }
     requires empty { D.has_read feed [] [] }
-    ensures only { ChangesOneSlot F.tells F.log_of F.slot which shelf.old shelf.new }
+    ensures only { ChangesOneSlot F.tells F.log_of F.slot day.now.which shelf.old shelf.new }
     ensures stays { SinkStays (K.state out.old) (K.state out.new) }
-    ensures slot { TakesUpTo F.Shelf which name.now limit shelf.old shelf.new result }
-    ensures ends { IfOk result (WritesUpToEnd F.Shelf D.reads which name.now limit
-        shelf.old shelf.new (K.state out.old) (K.state out.new)) }
-    ensures stops { IfErr result (StopsWriting F.Shelf D.reads which name.now
-        shelf.old shelf.new (K.state out.old) (K.state out.new)) }
+    ensures slot { TakesUpTo F.Shelf day.now.which day.now.name.now day.now.limit
+        shelf.old shelf.new result }
+    ensures ends { IfOk result (WritesUpToEnd F.Shelf D.reads day.now.which
+        day.now.name.now day.now.limit shelf.old shelf.new (K.state out.old) (K.state out.new)) }
+    ensures stops { IfErr result (StopsWriting F.Shelf D.reads day.now.which
+        day.now.name.now shelf.old shelf.new (K.state out.old) (K.state out.new)) }
 {
-    pass_log(alloc, shelf, which, name, limit, &mut feed, out)?;
+    pass_log(alloc, shelf, day, &mut feed, out)?;
     match feed.close() {
         Ok(end) => Ok(end),
         Err(_) => Err(PlainFault::Log(TakeFault::Memory)),
     }
 }
 
-/// Makes plain the day of this name, whose messages are framed one after another: the text of each
-/// is written as soon as it is all there. What ends with the day is answered, and not written.
+/// Makes plain a day whose messages are framed one after another: the text of each is written as
+/// soon as it is all there. What ends with the day is answered, and not written.
 ///
-/// `limit` is the greatest number of bytes that the day may have, `LONGEST_READ` at most. Where a
-/// write fails, reading stops. The other causes of failure are those of `take_log`; what was read
-/// until then is written. Whatever the answer, the slot may be started anew, and the other slot is
-/// as it was.
+/// Where a write fails, reading stops. The other causes of failure are those of `take_log`; what
+/// was read until then is written. Whatever the answer, the slot may be started anew, and the other
+/// slot is as it was.
 ///
 /// No more is held than the bytes of a message that isn't all there and the text of two pieces of
 /// 1 MiB.
 pub fn write_framed<F: Shelf, K: Sink>(
     alloc: Global,
     shelf: &mut F,
-    which: Which,
-    name: &str,
-    limit: u64,
+    day: &DaySource<'_>,
     out: &mut K,
 ) -> Result<DayEnd, PlainFault>
-    requires { limit ≤ longest_read }
-    ensures only { ChangesOneSlot F.tells F.log_of F.slot which shelf.old shelf.new }
+    requires { day.now.limit ≤ longest_read }
+    ensures only { ChangesOneSlot F.tells F.log_of F.slot day.now.which shelf.old shelf.new }
     ensures stays { SinkStays (K.state out.old) (K.state out.new) }
-    ensures slot { TakesUpTo F.Shelf which name.now limit shelf.old shelf.new result }
-    ensures ends { IfOk result (WritesUpToEnd F.Shelf IsFramedReading which name.now limit
-        shelf.old shelf.new (K.state out.old) (K.state out.new)) }
-    ensures stops { IfErr result (StopsWriting F.Shelf IsFramedReading which name.now
-        shelf.old shelf.new (K.state out.old) (K.state out.new)) }
+    ensures slot { TakesUpTo F.Shelf day.now.which day.now.name.now day.now.limit
+        shelf.old shelf.new result }
+    ensures ends { IfOk result (WritesUpToEnd F.Shelf IsFramedReading day.now.which
+        day.now.name.now day.now.limit shelf.old shelf.new (K.state out.old) (K.state out.new)) }
+    ensures stops { IfErr result (StopsWriting F.Shelf IsFramedReading day.now.which
+        day.now.name.now shelf.old shelf.new (K.state out.old) (K.state out.new)) }
 {
-    write_day(alloc, shelf, which, name, limit, framed_feed(alloc), out)
+    write_day(alloc, shelf, day, framed_feed(alloc), out)
 }
 
 /// The same of a day whose messages stand on lines, after anything. `soh` is the text that stands
@@ -145,30 +150,21 @@ pub fn write_framed<F: Shelf, K: Sink>(
 pub fn write_on_lines<S: SohText, F: Shelf, K: Sink>(
     alloc: Global,
     shelf: &mut F,
-    which: Which,
-    name: &str,
-    limit: u64,
+    day: &DaySource<'_>,
     soh: Vec<u8>,
     out: &mut K,
 ) -> Result<DayEnd, PlainFault>
-    requires limit { limit ≤ longest_read }
+    requires limit { day.now.limit ≤ longest_read }
     requires soh { soh.items ≡ S.text }
     requires is { IsTrue (is_soh_text S.text) }
-    ensures only { ChangesOneSlot F.tells F.log_of F.slot which shelf.old shelf.new }
+    ensures only { ChangesOneSlot F.tells F.log_of F.slot day.now.which shelf.old shelf.new }
     ensures stays { SinkStays (K.state out.old) (K.state out.new) }
-    ensures slot { TakesUpTo F.Shelf which name.now limit shelf.old shelf.new result }
-    ensures ends { IfOk result (WritesUpToEnd F.Shelf (IsLineReading S.text) which name.now limit
-        shelf.old shelf.new (K.state out.old) (K.state out.new)) }
-    ensures stops { IfErr result (StopsWriting F.Shelf (IsLineReading S.text) which name.now
-        shelf.old shelf.new (K.state out.old) (K.state out.new)) }
+    ensures slot { TakesUpTo F.Shelf day.now.which day.now.name.now day.now.limit
+        shelf.old shelf.new result }
+    ensures ends { IfOk result (WritesUpToEnd F.Shelf (IsLineReading S.text) day.now.which
+        day.now.name.now day.now.limit shelf.old shelf.new (K.state out.old) (K.state out.new)) }
+    ensures stops { IfErr result (StopsWriting F.Shelf (IsLineReading S.text) day.now.which
+        day.now.name.now shelf.old shelf.new (K.state out.old) (K.state out.new)) }
 {
-    write_day(
-        alloc,
-        shelf,
-        which,
-        name,
-        limit,
-        line_feed::<S>(alloc, soh),
-        out,
-    )
+    write_day(alloc, shelf, day, line_feed::<S>(alloc, soh), out)
 }

@@ -26,10 +26,10 @@ returns-in-Ok-clause-ends g c =
     }
 
 pub returns-in-Ok-clause-slot : goal.returns-in-Ok-clause-slot
-returns-in-Ok-clause-slot g c = takes-at-end g.F.Shelf c.args.which c.args.name.now c.args.limit c.args.shelf.now c.pass_log.new.shelf c.in_ok-pass_log.field-0 c.in-Ok.end c.in_ok-pass_log.ensures.slot
+returns-in-Ok-clause-slot g c = takes-at-end g.F.Shelf c.args.day.now.which c.args.day.now.name.now c.args.day.now.limit c.args.shelf.now c.pass_log.new.shelf c.in_ok-pass_log.field-0 c.in-Ok.end c.in_ok-pass_log.ensures.slot
 
 pub returns-in-Err-clause-slot : goal.returns-in-Err-clause-slot
-returns-in-Err-clause-slot g c = takes-no-memory g.F.Shelf c.args.which c.args.name.now c.args.limit c.args.shelf.now c.pass_log.new.shelf c.in_ok-pass_log.field-0 c.in_ok-pass_log.ensures.slot
+returns-in-Err-clause-slot g c = takes-no-memory g.F.Shelf c.args.day.now.which c.args.day.now.name.now c.args.day.now.limit c.args.shelf.now c.pass_log.new.shelf c.in_ok-pass_log.field-0 c.in_ok-pass_log.ensures.slot
 
 pub returns-in-Err-clause-stops : goal.returns-in-Err-clause-stops
 returns-in-Err-clause-stops g c =
@@ -45,4 +45,4 @@ returns-in-Err-clause-stops g c =
 pub returns-in_err-pass_log-clause-slot : goal.returns-in_err-pass_log-clause-slot
 returns-in_err-pass_log-clause-slot g c =
     let p = err_from_is_err_and c.from_residual.result c.from_residual.ensures.1 in
-    rw (p.1, p.2) (takes-as _ _ g.F.Shelf c.args.which c.args.name.now c.args.limit c.args.shelf.now c.pass_log.new.shelf c.in_err-pass_log.field-0.0 c.in_err-pass_log.ensures.slot)
+    rw (p.1, p.2) (takes-as _ _ g.F.Shelf c.args.day.now.which c.args.day.now.name.now c.args.day.now.limit c.args.shelf.now c.pass_log.new.shelf c.in_err-pass_log.field-0.0 c.in_err-pass_log.ensures.slot)
