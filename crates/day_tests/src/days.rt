@@ -4,7 +4,7 @@ ghost use Rattle.std.specs.Prelude.{◌<◌, length};
 use audit_base::terms::Rule;
 use csv_logs::logs::{csv_orders_of, csv_trades_of};
 use day_symbols::shares::DayShare;
-use day_verdicts::whole_days::judge_records_of_day;
+use day_verdicts::whole_days::{DayRecords, judge_records_of_day};
 use further_checks::findings::FurtherChecks;
 use std::process::Abort;
 
@@ -34,8 +34,10 @@ fn text_of<R: AllocGlobal + Abort>(rt: &R, share: DayShare, orders: &[u8], trade
         false,
         FurtherChecks::none(),
         share,
-        &entries,
-        &trades,
+        &DayRecords {
+            entries: &entries,
+            trades: &trades,
+        },
     )
     .expect(rt, "memory");
     judged.text(rt.alloc(), b"matching").expect(rt, "memory")

@@ -70,6 +70,16 @@ fn report_of(
     report_after(alloc, checks, given, times, SymbolReport { accepted, text })
 }
 
+/// What is known of a symbol after all trades of a day.
+#[derive(Drop)]
+pub struct TimedTrades {
+    pub symbol_trades: SymbolTrades,
+    /// How many trades the day has, of all symbols.
+    pub count: u32,
+    /// The times of the trades of the symbol, where a further check is asked for.
+    pub times: Vec<Stamp>,
+}
+
 /// What was told of the symbols so far: how many there were, and their lines.
 #[derive(Drop)]
 pub struct JudgedSymbols {
@@ -114,24 +124,27 @@ impl JudgedSymbols {
         append_symbol_lines(symbol, &report.text, &mut self.lines)
     }
 
-    /// Judges one symbol more, whose trades have these times.
+    /// Judges one symbol more, of which this is known.
     fn judge(
         &mut self,
         alloc: Global,
         question: &Question,
         checks: FurtherChecks,
-        times: &[Stamp],
-        symbol_trades: SymbolTrades,
-        count: u32,
+        timed: TimedTrades,
     ) -> Result<(), NoMemory>
-        requires few { HasFewTimed checks count symbol_trades times.now }
+        requires few { HasFewTimed checks timed.count timed.symbol_trades timed.times.items }
         requires room { day.HasRoomForOne self.old.counts }
-        ensures { OnOk result (day.AddsVerdictOnSymbol question.now checks count symbol_trades
-            times.now self.old self.new) }
+        ensures { OnOk result (day.AddsVerdictOnSymbol question.now checks timed.count
+            timed.symbol_trades timed.times.items self.old self.new) }
     {
         nothing_is_found_unasked();
+        let TimedTrades {
+            symbol_trades,
+            count,
+            times,
+        } = timed;
         let given = symbol_trades.end(count);
-        let report = report_of(alloc, question, checks, &given, times)?;
+        let report = report_of(alloc, question, checks, &given, &times)?;
         self.add(&question.symbol, &report)
     }
 
@@ -184,7 +197,12 @@ pub fn judge_day(
             symbol: *symbol,
             table,
         };
-        judged.judge(alloc, &question, checks, &times, symbol_trades, count)?;
+        let timed = TimedTrades {
+            symbol_trades,
+            count,
+            times,
+        };
+        judged.judge(alloc, &question, checks, timed)?;
         share_index += 1;
     }
     Ok(judged)

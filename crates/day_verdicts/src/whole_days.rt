@@ -21,6 +21,13 @@ use seeded_hash::seed::HashSeed;
 use std::alloc::Global;
 use std::marker::Brand;
 
+/// The records of a day.
+#[derive(Clone, Copy, Debug)]
+pub struct DayRecords<'a> {
+    pub entries: &'a [OrderRecord],
+    pub trades: &'a [TradeRecord],
+}
+
 /// The order log of a day that has been handed these records.
 fn orders_handed<D: AuditedShare>(
     alloc: Global,
@@ -105,15 +112,15 @@ pub fn judge_records_of_day(
     table: bool,
     checks: FurtherChecks,
     share: DayShare,
-    entries: &[OrderRecord],
-    trades: &[TradeRecord],
+    records: &DayRecords<'_>,
 ) -> Result<JudgedSymbols, NoMemory>
-    requires entries_fit_places { length entries.now < 2 ^ 32 - 1 }
-    requires trades_fit_places { length trades.now < 2 ^ 32 - 1 }
-    ensures { let symbols = symbols_in share (symbols_of_day entries.now trades.now) in
-        IfOk result (IsJudgedDay rule table checks entries.now trades.now symbols) }
+    requires entries_fit_places { length records.now.entries.now < 2 ^ 32 - 1 }
+    requires trades_fit_places { length records.now.trades.now < 2 ^ 32 - 1 }
+    ensures { let entries = records.now.entries.now in let trades = records.now.trades.now in
+        IfOk result (IsJudgedDay rule table checks entries trades
+        (symbols_in share (symbols_of_day entries trades))) }
 {
-    let orders = orders_of::<Brand>(alloc, share, entries)?;
-    let ended = trades_of::<Brand>(alloc, share, Admission::of(rule), orders, trades)?;
+    let orders = orders_of::<Brand>(alloc, share, records.entries)?;
+    let ended = trades_of::<Brand>(alloc, share, Admission::of(rule), orders, records.trades)?;
     judge_day(alloc, rule, table, checks, share, ended)
 }

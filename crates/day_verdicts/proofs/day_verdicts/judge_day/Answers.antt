@@ -23,8 +23,8 @@ judge-requires-clause-few c =
     let got : slice_get (symbols_in c.args.share c.args.ended.symbols) c.loop-symbol_records.share_index ≡ Some c.in-Some-symbol_at.symbol.now =
     sym c.symbol_at.ensures ∙ ap (option_map (λ name. name.now)) c.in-Some-symbol_at.is in
     let next = next-at c.args.share c.args.ended c.loop-symbol_records.share_index c.in-Some.symbol_records c.in-Some-symbol_at.symbol.now c.loop-symbol_records.yielded c.next.new.self.rest.items all c.loop-symbol_records.invariant.1 got in
-    next-timed c.args.rule c.args.share c.args.ended c.loop-symbol_records.share_index c.in-Some.symbol_records c.in-Some-symbol_at.symbol.now c.in_ok-symbol_trades.symbol_trades c.args.checks c.any.result c.deref.result.now
-    next c.any.ensures (c.deref.ensures.value ∙ c.in_ok-times.ensures) c.in_ok-symbol_trades.ensures c.requires
+    next-timed c.args.rule c.args.share c.args.ended c.loop-symbol_records.share_index c.in-Some.symbol_records c.in-Some-symbol_at.symbol.now c.in_ok-symbol_trades.symbol_trades c.args.checks c.any.result c.in_ok-times.times.items
+    next c.any.ensures c.in_ok-times.ensures c.in_ok-symbol_trades.ensures c.requires
 
 pub judge-requires-clause-room : goal.judge-requires-clause-room
 judge-requires-clause-room c =
@@ -45,8 +45,8 @@ loop-symbol_records-preserved c =
     let next = next-at c.args.share c.args.ended c.loop-symbol_records.share_index c.in-Some.symbol_records c.in-Some-symbol_at.symbol.now c.loop-symbol_records.yielded c.next.new.self.rest.items all c.loop-symbol_records.invariant.1 got in (
       append_assoc c.loop-symbol_records.yielded (c.in-Some.symbol_records ∷ []) c.next.new.self.rest.items ∙ all,
       ap (λ (n : ℕ). n + 1) c.loop-symbol_records.invariant.1 ∙ sym (length-append c.loop-symbol_records.yielded (c.in-Some.symbol_records ∷ [])),
-      judged-next c.args.rule c.args.table c.args.checks c.args.share c.args.ended c.loop-symbol_records.share_index c.in-Some.symbol_records c.in-Some-symbol_at.symbol.now c.in_ok-symbol_trades.symbol_trades c.any.result c.deref.result.now
-          c.loop-symbol_records.judged c.judge.new.self next c.any.ensures (c.deref.ensures.value ∙ c.in_ok-times.ensures) c.in_ok-symbol_trades.ensures c.in_ok-judge.ensures c.loop-symbol_records.invariant.2,
+      judged-next c.args.rule c.args.table c.args.checks c.args.share c.args.ended c.loop-symbol_records.share_index c.in-Some.symbol_records c.in-Some-symbol_at.symbol.now c.in_ok-symbol_trades.symbol_trades c.any.result c.in_ok-times.times.items
+          c.loop-symbol_records.judged c.judge.new.self next c.any.ensures c.in_ok-times.ensures c.in_ok-symbol_trades.ensures c.in_ok-judge.ensures c.loop-symbol_records.invariant.2,
     )
 
 pub returns : goal.returns
