@@ -1,6 +1,6 @@
 -- The answer to two logs of a day: the verdicts on its symbols, finding 4 alone, or a first bad
 -- place.
-use Rattle.std.specs.Prelude.{◌≡◌, ◌≤◌, ℕ, true, List, Some, Result, Err, IsOkAnd, MatchResult, length}
+use Rattle.std.specs.Prelude.{◌≡◌, ◌≤◌, ℕ, true, List, Some, Result, Ok, Err, IsOkAnd, MatchResult, length}
 use Rattle.audit_base.specs.declared.findings.Finding.{Finding}
 use Rattle.audit_base.specs.declared.records.OrderRecord.{OrderRecord}
 use Rattle.audit_base.specs.declared.records.TradeRecord.{TradeRecord}
