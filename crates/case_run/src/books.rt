@@ -4,7 +4,7 @@ ghost use Rattle.std.specs.Option.{option_map};
 ghost use Rattle.std.specs.String.{string_bytes};
 ghost use Rattle.log_verdict.specs.Steps.{KeepsShelfLogs};
 ghost use Rattle.log_source.specs.Sinks.{SinkStays};
-ghost use Rattle.case_run.specs.NamedCasebooks.{RunsPath, RunsWords};
+ghost use Rattle.case_run.specs.NamedCasebooks.{RunsWords};
 ghost use Rattle.case_run.specs.Openers.{KeepsCasebooks};
 
 use super::halts::Halt;
@@ -24,39 +24,6 @@ use std::alloc::Global;
 pub struct Ended<B> {
     pub status: CaseStatus,
     pub book: Option<Casebook<B>>,
-}
-
-/// Opens the path and runs the other words over its casebook.
-fn run_path<F: Shelf, K: Sink, O: Opener>(
-    alloc: Global,
-    seed: HashSeed,
-    path: &str,
-    words: &[String],
-    shelf: &mut F,
-    out: &mut K,
-    opener: &mut O,
-) -> Ended<O::Book>
-    ensures logs { KeepsShelfLogs F.Shelf shelf.old shelf.new }
-    ensures sink { SinkStays (K.state out.old) (K.state out.new) }
-    ensures books { KeepsCasebooks (O.state opener.old) (O.state opener.new) }
-    ensures runs { RunsPath F.Shelf shelf.old shelf.new (O.state opener.old) (O.state opener.new)
-        path.now (map string_bytes words.now) (K.state out.old) (K.state out.new)
-        (option_map O.Book.state result.book) result.status }
-{
-    match opener.open_book(path) {
-        Ok(keeper) => {
-            let mut book = Casebook::new(keeper);
-            let status = run_case_seeded(alloc, seed, words, shelf, out, &mut book);
-            Ended {
-                status,
-                book: Some(book),
-            }
-        }
-        Err(fault) => Ended {
-            status: write_halt(out, Halt::from(fault)),
-            book: None,
-        },
-    }
 }
 
 /// Opens the casebook that the first word names, and runs the commands that the other words ask for
@@ -99,10 +66,23 @@ pub fn run_book_seeded<F: Shelf, K: Sink, O: Opener>(
         (map string_bytes words.now) (K.state out.old) (K.state out.new)
         (option_map O.Book.state result.book) result.status }
 {
-    match words.split_first() {
-        Some((path, rest)) => run_path(alloc, seed, path.as_str(), rest, shelf, out, opener),
-        None => Ended {
+    let Some((path, rest)) = words.split_first() else {
+        return Ended {
             status: write_text(out, usage_text(), CaseStatus::Usage),
+            book: None,
+        };
+    };
+    match opener.open_book(path.as_str()) {
+        Ok(keeper) => {
+            let mut book = Casebook::new(keeper);
+            let status = run_case_seeded(alloc, seed, rest, shelf, out, &mut book);
+            Ended {
+                status,
+                book: Some(book),
+            }
+        }
+        Err(fault) => Ended {
+            status: write_halt(out, Halt::from(fault)),
             book: None,
         },
     }
