@@ -9,7 +9,7 @@ use crate::questions::SessionQuestion;
 use crate::symbol_sessions::judge_symbol;
 use audit_base::faults::NoMemory;
 use day_records::day_trades::EndedTrades;
-use day_verdicts::day_verdicts::JudgedSymbols;
+use day_verdicts::day_verdicts::{JudgedSymbols, TimedTrades};
 use std::alloc::Global;
 
 /// The sessions of the symbols of a share, in their order: how many there are, and their lines,
@@ -42,15 +42,12 @@ pub fn judge_sessions(
         };
         let times = symbol_records.trade_times(alloc, question.checks.any())?;
         let symbol_trades = symbol_records.resolve(alloc, seed, admission)?;
-        judge_symbol(
-            alloc,
-            &mut judged,
-            symbol,
-            question,
-            &times,
+        let timed = TimedTrades {
             symbol_trades,
             count,
-        )?;
+            times,
+        };
+        judge_symbol(alloc, &mut judged, symbol, question, timed)?;
         place += 1;
     }
     Ok(judged)

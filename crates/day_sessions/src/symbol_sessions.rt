@@ -10,8 +10,7 @@ use crate::questions::SessionQuestion;
 use audit_base::faults::NoMemory;
 use audit_base::names::Name;
 use audit_base::stamps::Stamp;
-use day_records::symbol_trades::SymbolTrades;
-use day_verdicts::day_verdicts::JudgedSymbols;
+use day_verdicts::day_verdicts::{JudgedSymbols, TimedTrades};
 use day_verdicts::symbol_reports::{SymbolReport, report_after};
 use further_checks::laws::nothing_is_found_unasked;
 use record_verdict::before_rule::BeforeRule;
@@ -40,25 +39,29 @@ fn session_report(
     report_after(alloc, question.checks, given, times, report)
 }
 
-/// Judges one symbol more, whose trades have these times.
+/// Judges one symbol more, of which this is known.
 pub(crate) fn judge_symbol(
     alloc: Global,
     judged: &mut JudgedSymbols,
     symbol: &Name,
     question: &SessionQuestion<'_>,
-    times: &[Stamp],
-    symbol_trades: SymbolTrades,
-    count: u32,
+    timed: TimedTrades,
 ) -> Result<(), NoMemory>
     requires phases { ArePhases question.now.phases.now }
-    requires few { HasFewTimed question.now.checks count symbol_trades times.now }
+    requires few { let q = question.now in
+        HasFewTimed q.checks timed.count timed.symbol_trades timed.times.items }
     requires room { HasRoomForOne judged.old.counts }
     ensures { let q = question.now in
-        OnOk result (AddsSessionOfSymbol symbol.now q.phases.now q.table q.checks count
-        symbol_trades times.now judged.old judged.new) }
+        OnOk result (AddsSessionOfSymbol symbol.now q.phases.now q.table q.checks timed.count
+        timed.symbol_trades timed.times.items judged.old judged.new) }
 {
     nothing_is_found_unasked();
+    let TimedTrades {
+        symbol_trades,
+        count,
+        times,
+    } = timed;
     let given = symbol_trades.end(count);
-    let report = session_report(alloc, symbol, question, &given, times)?;
+    let report = session_report(alloc, symbol, question, &given, &times)?;
     judged.add(symbol, &report)
 }

@@ -12,7 +12,7 @@ returns-in_ok-sessions_after-in-Ok-clause-decides g c =
 pub returns-in-Err-clause-decides : goal.returns-in-Err-clause-decides
 returns-in-Err-clause-decides g c =
     rw c.day_without.ensures
-    (reads-without (reading_by c.args.orders.now g.F.Shelf c.args.shelf.now c.read_day.new.shelf) (AreSessionsOfDay c.args.phases.now c.args.table c.args.checks c.args.share) c.args.orders.now c.args.trades.now c.in-Err.why c.in-Err.ensures.decides)
+    (reads-without (reading_by c.args.orders.now g.F.Shelf c.args.shelf.now c.read_day.new.shelf) (AreSessionsOfDay c.args.question.now.phases.now c.args.question.now.table c.args.question.now.checks c.args.question.now.share) c.args.orders.now c.args.trades.now c.in-Err.why c.in-Err.ensures.decides)
 
 pub returns-in-Err-clause-within : goal.returns-in-Err-clause-within
 returns-in-Err-clause-within g c =

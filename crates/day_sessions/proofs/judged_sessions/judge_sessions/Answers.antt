@@ -24,8 +24,8 @@ judge_symbol-requires-clause-few c =
     let got : slice_get (symbols_in c.args.question.now.share c.args.ended.symbols) c.loop-symbol_records.place ≡ Some c.in-Some-symbol_at.symbol.now =
     sym c.symbol_at.ensures ∙ ap (option_map (λ name. name.now)) c.in-Some-symbol_at.is in
     let next = next-at c.args.question.now.share c.args.ended c.loop-symbol_records.place c.in-Some.symbol_records c.in-Some-symbol_at.symbol.now c.loop-symbol_records.yielded c.next.new.self.rest.items all c.loop-symbol_records.invariant.1 got in
-    next-timed c.args.question.now.share c.args.ended c.loop-symbol_records.place c.in-Some.symbol_records c.in-Some-symbol_at.symbol.now c.in_ok-symbol_trades.symbol_trades c.args.question.now.checks c.any.result c.deref.result.now
-    next c.any.ensures (c.deref.ensures.value ∙ c.in_ok-times.ensures) c.in_ok-symbol_trades.ensures c.requires.fits_places
+    next-timed c.args.question.now.share c.args.ended c.loop-symbol_records.place c.in-Some.symbol_records c.in-Some-symbol_at.symbol.now c.in_ok-symbol_trades.symbol_trades c.args.question.now.checks c.any.result c.in_ok-times.times.items
+    next c.any.ensures c.in_ok-times.ensures c.in_ok-symbol_trades.ensures c.requires.fits_places
 
 pub judge_symbol-requires-clause-room : goal.judge_symbol-requires-clause-room
 judge_symbol-requires-clause-room c =
@@ -46,8 +46,8 @@ loop-symbol_records-preserved c =
     let next = next-at c.args.question.now.share c.args.ended c.loop-symbol_records.place c.in-Some.symbol_records c.in-Some-symbol_at.symbol.now c.loop-symbol_records.yielded c.next.new.self.rest.items all c.loop-symbol_records.invariant.1 got in (
       append_assoc c.loop-symbol_records.yielded (c.in-Some.symbol_records ∷ []) c.next.new.self.rest.items ∙ all,
       ap (λ (n : ℕ). n + 1) c.loop-symbol_records.invariant.1 ∙ sym (length-append c.loop-symbol_records.yielded (c.in-Some.symbol_records ∷ [])),
-      sessions-next c.args.question.now.phases.now c.args.question.now.table c.args.question.now.checks c.args.question.now.share c.args.ended c.loop-symbol_records.place c.in-Some.symbol_records c.in-Some-symbol_at.symbol.now c.in_ok-symbol_trades.symbol_trades c.any.result c.deref.result.now
-          c.loop-symbol_records.judged c.judge_symbol.new.judged next c.any.ensures (c.deref.ensures.value ∙ c.in_ok-times.ensures) c.in_ok-symbol_trades.ensures c.in_ok-judge_symbol.ensures c.loop-symbol_records.invariant.2,
+      sessions-next c.args.question.now.phases.now c.args.question.now.table c.args.question.now.checks c.args.question.now.share c.args.ended c.loop-symbol_records.place c.in-Some.symbol_records c.in-Some-symbol_at.symbol.now c.in_ok-symbol_trades.symbol_trades c.any.result c.in_ok-times.times.items
+          c.loop-symbol_records.judged c.judge_symbol.new.judged next c.any.ensures c.in_ok-times.ensures c.in_ok-symbol_trades.ensures c.in_ok-judge_symbol.ensures c.loop-symbol_records.invariant.2,
     )
 
 pub returns : goal.returns
