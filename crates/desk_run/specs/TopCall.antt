@@ -138,7 +138,8 @@ abbrev pub AnswersDayOfPhases : Option DeskRequest → Reading → SinkState →
     → Type 0
 AnswersDayOfPhases asked r old new status = (phases : List Phase) (table : Bool)
     (share : Option DayShare) (checks : FurtherChecks) (orders trades : Log)
-    → IsToJudgeDay (λ logs. Whole (Session phases logs table share checks false)) asked r orders trades
+    → IsToJudgeDay (λ logs. Whole (Session phases logs table share checks false)) asked r
+    orders trades
     → IsKnown r old → NothingFails r old new
     → WroteDay (WroteSessions phases table checks (share_or_whole share) old new status)
     orders trades old new status

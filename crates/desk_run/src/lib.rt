@@ -2,10 +2,10 @@
 //! answer, a status and a text.
 //!
 //! `running::run_desk` is the top call. It reads the words (`desk_words`), makes the whole answer
-//! of the command (`commands`, `days`, `offences`, `digests`, `converting`, `contents`) and hands it to
-//! `command_run`, which writes it, or one line, and says what follows for every command (`program`
-//! and `given_days` say what those of `desk` are). `plain` and `generated` write their text while
-//! they make it. A day is judged symbol by symbol, by a rule (`day_logs`) or by phases
+//! of the command (`commands`, `days`, `offences`, `digests`, `converting`, `contents`) and hands it
+//! to `command_run`, which writes it, or one line, and says what follows for every command
+//! (`program` and `given_days` say what those of `desk` are). `plain` and `generated` write their
+//! text while they make it. A day is judged symbol by symbol, by a rule (`day_logs`) or by phases
 //! (`day_sessions`), and each of its logs may have 34,359,738,368 bytes.
 //! Every offence of a symbol is told by `offences`, over `symbol_offences`.
 //! The digests of two logs are those of `log_digests`, whatever is in them. What is in two logs is

@@ -197,7 +197,8 @@ pub(crate) fn run_plain<F: Shelf, K: Sink>(
     ensures later { FaultsNeverFall (desk_reading F.Shelf shelf.old shelf.new) }
     ensures stays { SinkStays (K.state out.old) (K.state out.new) }
     ensures answers { AnswersCommand (desk_reading F.Shelf shelf.old shelf.new)
-        (desk_command_of (Early (Plain day.now dress.now))) (K.state out.old) (K.state out.new) result }
+        (desk_command_of (Early (Plain day.now dress.now)))
+        (K.state out.old) (K.state out.new) result }
     ensures too_long { AnswersTooLong (desk_reading F.Shelf shelf.old shelf.new) result }
 {
     match write_day(alloc, shelf, out, day, dress) {
