@@ -29,6 +29,7 @@ use Rattle.record_verdict.specs.BeforeRule.{IsBeforeRule, IsJudgeable}
 use Rattle.record_verdict.specs.Scopes.{finding_before_rule_in_scope, unadmitted_order_finding}
 use Rattle.symbol_offences.specs.declared.order_log.OrdersOfSymbol.{OrdersOfSymbol}
 use Rattle.symbol_offences.specs.declared.questions.Keeping.{Keeping}
+use Rattle.symbol_offences.specs.declared.reading.BegunSymbol.{BegunSymbol}
 use Rattle.symbol_offences.specs.declared.symbol_logs.QuotedRecords.{QuotedRecords}
 use Rattle.symbol_offences.specs.declared.symbol_logs.SymbolLogs.{SymbolLogs}
 use Rattle.symbol_offences.specs.OrderLog.{IsOrdersOfSymbol}
@@ -63,11 +64,11 @@ abbrev deals_with : List ℕ → List (ℕ × TradeRecord) → KeptDeals
 deals_with symbol trades = record { symbol = symbol; trades = trades }
 
 -- what two logs give where a report has no partner
-pub alone-logs : (scope : Scope) (keeping : Keeping) (entries : List OrderRecord) (begun : SymbolTrades) (records : KeptEntries) (finding : Finding) (logs : SymbolLogs) → IsBegunWith scope keeping begun records entries
-    → logs.given ≡ before_rule.Found (unwrap_or (finding_of_orders begun) finding) → logs.times.items ≡ [] → logs.quoted.orders ≡ records → logs.quoted.trades ≡ deals_with records.symbol []
+pub alone-logs : (scope : Scope) (keeping : Keeping) (entries : List OrderRecord) (begun : BegunSymbol) (finding : Finding) (logs : SymbolLogs) → IsBegunWith scope keeping begun entries
+    → logs.given ≡ before_rule.Found (unwrap_or (finding_of_orders begun.known) finding) → logs.times.items ≡ [] → logs.quoted.orders ≡ begun.records → logs.quoted.trades ≡ deals_with begun.records.symbol []
     → IsSymbolLogs scope keeping entries (Err finding) logs
-alone-logs scope keeping entries begun records finding logs is given times orders trades = record {
-  before = subst (λ (b : BeforeRule). IsBeforeRule scope entries (Err finding) b) (sym given) (alone-found scope entries begun finding is.known);
+alone-logs scope keeping entries begun finding logs is given times orders trades = record {
+  before = subst (λ (b : BeforeRule). IsBeforeRule scope entries (Err finding) b) (sym given) (alone-found scope entries begun.known finding is.known);
   times = times ∙ sym (no-times_kept keeping.times scope.symbol);
   quoted = λ i. record { orders = orders-are i; trades = trades-are i };
 }
@@ -75,7 +76,7 @@ alone-logs scope keeping entries begun records finding logs is given times order
     orders-are : logs.quoted.orders ≡ kept_history keeping.records scope.symbol entries
     orders-are = orders ∙ is.kept
 
-    symbol-is : records.symbol ≡ scope.symbol
+    symbol-is : begun.records.symbol ≡ scope.symbol
     symbol-is = ap (λ (k : KeptEntries). k.symbol) is.kept
 
     trades-are : logs.quoted.trades ≡ kept_trades keeping.records scope.symbol []
@@ -107,9 +108,9 @@ ready-of scope keeping entries paired logs is judgeable = record {
         ∙ ap length (sym before.deals)
 
 -- what is known of a symbol after its order log
-pub begun-with : {S : Type 0} (symbol : List ℕ) (keeps : Bool) (scope : Scope) (keeping : Keeping) (orders : OrdersOfSymbol S) (begun : SymbolTrades) (entries : List OrderRecord) → scope.symbol ≡ symbol → keeping.records ≡ keeps
-    → IsOrdersOfSymbol symbol keeps orders entries → IsSymbolTrades scope.admission entries [] symbol begun → IsBegunWith scope keeping begun orders.records entries
-begun-with symbol keeps scope keeping orders begun entries symbol_is keeps_is has known_is = record {
-  known = subst (λ (s : List ℕ). IsSymbolTrades scope.admission entries [] s begun) (sym symbol_is) known_is;
+pub begun-with : {S : Type 0} (symbol : List ℕ) (keeps : Bool) (scope : Scope) (keeping : Keeping) (orders : OrdersOfSymbol S) (after : SymbolTrades) (entries : List OrderRecord) → scope.symbol ≡ symbol → keeping.records ≡ keeps
+    → IsOrdersOfSymbol symbol keeps orders entries → IsSymbolTrades scope.admission entries [] symbol after → IsBegunWith scope keeping (record { known = after; records = orders.records }) entries
+begun-with symbol keeps scope keeping orders after entries symbol_is keeps_is has known_is = record {
+  known = subst (λ (s : List ℕ). IsSymbolTrades scope.admission entries [] s after) (sym symbol_is) known_is;
   kept = has.records_are ∙ (λ i. kept_history (sym keeps_is i) (sym symbol_is i) entries);
 }

@@ -12,6 +12,7 @@ use Rattle.day_records.specs.KeptOrders.{KeptEntries}
 use Rattle.day_records.specs.KeptTrades.{KeptDeals, with_trade}
 use Rattle.record_verdict.specs.declared.scopes.Scope.{Scope}
 use Rattle.symbol_offences.specs.declared.questions.Keeping.{Keeping}
+use Rattle.symbol_offences.specs.declared.reading.BegunSymbol.{BegunSymbol}
 use Rattle.symbol_offences.specs.declared.symbol_logs.SymbolLogs.{SymbolLogs}
 use Rattle.symbol_offences.specs.declared.trade_log.TradesOfSymbol.{TradesOfSymbol}
 use Rattle.symbol_offences.specs.Questions.{kept_if}
@@ -38,10 +39,10 @@ abbrev pub with_time_if : Bool → List Moment → Moment → List Moment
 with_time_if keeps times time = if keeps then times ++ time ∷ [] else times
 
 -- This is known of a symbol after these order records, and these are kept of them.
-pub record IsBegunWith (scope : Scope) (keeping : Keeping) (begun : SymbolTrades)
-    (records : KeptEntries) (entries : List OrderRecord) : Type 0 where
-  pub known : IsSymbolTrades scope.admission entries [] scope.symbol begun
-  pub kept : records ≡ kept_history keeping.records scope.symbol entries
+pub record IsBegunWith (scope : Scope) (keeping : Keeping) (begun : BegunSymbol)
+    (entries : List OrderRecord) : Type 0 where
+  pub known : IsSymbolTrades scope.admission entries [] scope.symbol begun.known
+  pub kept : begun.records ≡ kept_history keeping.records scope.symbol entries
 
 -- the finding about the orders of a symbol, if there is one
 abbrev pub finding_of_orders : SymbolTrades → Option Finding

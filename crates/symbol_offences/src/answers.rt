@@ -66,19 +66,10 @@ fn answer_sound(
         let told = IsAnswerBySome none question.now sound.now.history sound.now.deals.items in
         IfOk result (IsAnswerOfKind (told times.now quoted.now judged)) }
 {
-    let orders = sound.history.orders();
-    if orders.len() == 0 && sound.deals.is_empty() {
+    if sound.history.orders().len() == 0 && sound.deals.is_empty() {
         return absent_answer(alloc, &question.symbol);
     }
-    answer_by_verdict(
-        alloc,
-        question,
-        &orders,
-        &sound.deals,
-        times,
-        quoted,
-        judged,
-    )
+    answer_by_verdict(alloc, question, sound, times, quoted, judged)
 }
 
 /// The answer to what two logs give of the symbol.

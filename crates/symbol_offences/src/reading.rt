@@ -30,6 +30,14 @@ use record_verdict::scopes::Scope;
 use std::alloc::Global;
 use std::marker::Brand;
 
+/// What is known of a symbol when its trade log is begun, and the records of its order log that are
+/// kept.
+#[derive(Drop)]
+struct BegunSymbol {
+    known: SymbolTrades,
+    records: KeptOrders,
+}
+
 /// What is given of a symbol by a finding that decides, whatever its trades are: no trade is told,
 /// and these records of the order log.
 fn logs_of_finding(alloc: Global, finding: Finding, orders: KeptOrders) -> SymbolLogs
@@ -75,22 +83,20 @@ fn logs_alone(
     }
 }
 
-/// What both logs give of the symbol, where this is known of it after the order log: the trade log
-/// is read.
+/// What both logs give of the symbol, where the order log gave this: the trade log is read.
 fn read_trades<M: AskedTrades, F: Shelf>(
     alloc: Global,
     shelf: &mut F,
     scope: &Scope,
     keeping: Keeping,
     trades: &Source<'_>,
-    begun: SymbolTrades,
-    records: KeptOrders,
+    begun: BegunSymbol,
 ) -> Result<SymbolLogs, NoRecords>
     requires limit { trades.now.limit ≤ longest_read }
     requires scope { scope.now ≡ M.scope }
     requires keeping { keeping ≡ M.keeping }
     requires begun { (entries : List AnEntry) → M.may_have entries
-        → IsBegunWith M.scope M.keeping begun records entries }
+        → IsBegunWith M.scope M.keeping begun entries }
     requires some { (entries : List AnEntry) × M.may_have entries }
     ensures logs { KeepsShelfLogs F.Shelf shelf.old shelf.new }
     ensures only { TouchesOnly (reading_by trades.now F.Shelf shelf.old shelf.new) Which.Trades }
@@ -101,8 +107,9 @@ fn read_trades<M: AskedTrades, F: Shelf>(
     ensures within { ReadsWithinAt (reading_by trades.now F.Shelf shelf.old shelf.new)
         Which.Trades result }
 {
-    let of_orders = finding_of(&begun);
-    let kept = TradesOfSymbol::<M>::new(alloc, scope.symbol, keeping, begun);
+    let BegunSymbol { known, records } = begun;
+    let of_orders = finding_of(&known);
+    let kept = TradesOfSymbol::<M>::new(alloc, scope.symbol, keeping, known);
     match collect_trades::<F, TradesOfSymbol<M>>(alloc, shelf, trades, kept) {
         Ok(Collected::Trades(kept)) => Ok(kept.end(records)),
         Ok(Collected::Alone(finding)) => Ok(logs_alone(alloc, &of_orders, finding, records)),
@@ -137,8 +144,9 @@ fn after_orders<S: AskedOrders, F: Shelf>(
         records,
         ..
     } = orders;
-    let begun = SymbolTrades::of(alloc, trades.seed, scope.admission, history);
-    read_trades::<Brand, F>(alloc, shelf, scope, keeping, trades, begun, records)
+    let known = SymbolTrades::of(alloc, trades.seed, scope.admission, history);
+    let begun = BegunSymbol { known, records };
+    read_trades::<Brand, F>(alloc, shelf, scope, keeping, trades, begun)
 }
 
 /// What both logs give of the symbol, by its orders.

@@ -48,24 +48,30 @@ fn limit_part(life: Life, price: Price) -> LinePart<'static>
     }
 }
 
+/// Where a record is: its log, and its place in it.
+#[derive(Clone, Copy)]
+struct RecordPlace {
+    log: Which,
+    place: u32,
+}
+
 /// The line of a record: its fields before its time, the time, and its fields behind it.
 #[tactic(auto, using(crate::proofs::TextLemmas::line_in_parts))]
 fn append_record(
     alloc: Global,
-    log: Which,
-    place: u32,
+    at: RecordPlace,
     front: &[LinePart<'_>],
     time: Stamp,
     back: &[LinePart<'_>],
     out: &mut Vec<u8>,
 ) -> Result<(), NoMemory>
     ensures { let behind = stamp_text time ∷ map part_text back.now in
-        let line = record_line log place (map part_text front.now ++ behind) in
+        let line = record_line at.log at.place (map part_text front.now ++ behind) in
         OnOk result (out.new.items ≡ out.old.items ++ line) }
 {
     let head = [
-        LinePart::Word(log_word(log)),
-        LinePart::Number(u128::from(place)),
+        LinePart::Word(log_word(at.log)),
+        LinePart::Number(u128::from(at.place)),
     ];
     append_joined(alloc, b"record", &head, out)?;
     append_rest(alloc, front, out)?;
@@ -85,6 +91,10 @@ pub(crate) fn append_order_record(
     ensures { let line = record_line Orders place (csv.order_row entry.now) in
         OnOk result (out.new.items ≡ out.old.items ++ line) }
 {
+    let at = RecordPlace {
+        log: Which::Orders,
+        place,
+    };
     match entry {
         OrderRecord::New {
             key,
@@ -107,7 +117,7 @@ pub(crate) fn append_order_record(
                 limit_part(*life, *price),
                 LinePart::Word(b""),
             ];
-            append_record(alloc, Which::Orders, place, &front, *time, &back, out)
+            append_record(alloc, at, &front, *time, &back, out)
         }
         OrderRecord::Cancel {
             key,
@@ -127,7 +137,7 @@ pub(crate) fn append_order_record(
                 LinePart::Word(b""),
                 LinePart::Word(target.bytes()),
             ];
-            append_record(alloc, Which::Orders, place, &front, *time, &back, out)
+            append_record(alloc, at, &front, *time, &back, out)
         }
         OrderRecord::Replace {
             key,
@@ -150,7 +160,7 @@ pub(crate) fn append_order_record(
                 LinePart::Price(*price),
                 LinePart::Word(target.bytes()),
             ];
-            append_record(alloc, Which::Orders, place, &front, *time, &back, out)
+            append_record(alloc, at, &front, *time, &back, out)
         }
     }
 }
@@ -175,5 +185,9 @@ pub(crate) fn append_trade_record(
         LinePart::Number(u128::from(trade.quantity.value())),
         LinePart::Price(trade.price),
     ];
-    append_record(alloc, Which::Trades, place, &front, trade.time, &back, out)
+    let at = RecordPlace {
+        log: Which::Trades,
+        place,
+    };
+    append_record(alloc, at, &front, trade.time, &back, out)
 }

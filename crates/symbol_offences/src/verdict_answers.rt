@@ -31,6 +31,7 @@ use command_run::answers::{Answer, verdict_answer};
 use further_checks::checking::further_findings;
 use further_checks::findings::{FurtherChecks, FurtherFinding};
 use further_checks::texts::append_further_text;
+use matching_core::deals_draft::ResolvedTrades;
 use order_list::lists::OrderList;
 use record_verdict::verdicts::Judged;
 use std::alloc::Global;
@@ -107,58 +108,53 @@ fn answer_failing(
 fn answer_accepted(
     alloc: Global,
     checks: FurtherChecks,
-    orders: &OrderList<'_>,
-    deals: &[Deal],
+    sound: &ResolvedTrades,
     times: &[Stamp],
     quoted: &QuotedRecords,
     accepted: Accepted,
 ) -> Result<Answer, NoMemory>
-    requires deal_list { IsDealList orders.now deals.now }
-    requires timed { asks_further checks ≡ true → length times.now ≡ length deals.now }
+    requires deal_list { IsDealList sound.now.history sound.now.deals.items }
+    requires timed { asks_further checks ≡ true
+        → length times.now ≡ length sound.now.deals.items }
     requires in_order { AreInLogOrder quoted.now }
     requires in_range { IsVerdictInRange (verdict.Accepted accepted) }
-    ensures { let found = further_findings checks orders.now deals.now times.now in
+    ensures { let orders = sound.now.history in
+        let found = further_findings checks orders sound.now.deals.items times.now in
         IfOk result (IsAnswerOfKind (IsAnswerToAccepted quoted.now accepted found)) }
 {
     if !checks.any() {
         return verdict_answer(alloc, &Verdict::Accepted(accepted));
     }
-    let traded = totals_of(alloc, orders, deals)?;
-    let found = further_findings(alloc, checks, orders, deals, times, &traded)?;
+    let orders = sound.history.orders();
+    let traded = totals_of(alloc, &orders, &sound.deals)?;
+    let found = further_findings(alloc, checks, &orders, &sound.deals, times, &traded)?;
     answer_failing(alloc, quoted, accepted, &found)
 }
 
-/// The answer by the verdict of the rule on these orders and deals.
+/// The answer by the verdict of the rule on sound trades.
 pub(crate) fn answer_by_verdict(
     alloc: Global,
     question: &OffenceQuestion,
-    orders: &OrderList<'_>,
-    deals: &[Deal],
+    sound: &ResolvedTrades,
     times: &[Stamp],
     quoted: &QuotedRecords,
     judged: Judged,
 ) -> Result<Answer, NoMemory>
-    requires order_list { IsOrderList orders.now }
-    requires deal_list { IsDealList orders.now deals.now }
+    requires deal_list { IsDealList sound.now.history sound.now.deals.items }
     requires timed { asks_further question.now.checks ≡ true
-        → length times.now ≡ length deals.now }
+        → length times.now ≡ length sound.now.deals.items }
     requires in_order { AreInLogOrder quoted.now }
     requires in_range { IsJudgedInRange judged }
-    ensures { let told = IsAnswerByDeals question.now orders.now deals.now times.now quoted.now in
-        IfOk result (IsAnswerOfKind (told judged)) }
+    ensures { let told = IsAnswerByDeals question.now sound.now.history sound.now.deals.items in
+        IfOk result (IsAnswerOfKind (told times.now quoted.now judged)) }
 {
     match judged {
-        Judged::Accepted(accepted) => answer_accepted(
-            alloc,
-            question.checks,
-            orders,
-            deals,
-            times,
-            quoted,
-            accepted,
-        ),
+        Judged::Accepted(accepted) => {
+            answer_accepted(alloc, question.checks, sound, times, quoted, accepted)
+        }
         Judged::Rejected(first) => {
-            answer_rejected(alloc, question.rule, orders, deals, quoted, &first)
+            let orders = sound.history.orders();
+            answer_rejected(alloc, question.rule, &orders, &sound.deals, quoted, &first)
         }
     }
 }

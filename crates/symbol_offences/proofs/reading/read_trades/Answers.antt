@@ -23,27 +23,24 @@ end-requires-clause-begun g c = λ entries may. (c.requires.begun entries may).k
 pub returns-in-Ok-Trades-clause-decides : goal.returns-in-Ok-Trades-clause-decides
 returns-in-Ok-Trades-clause-decides g c = λ entries may.
     let read = rw c.in-Ok-Trades.field-0-is at c.in-Ok-Trades.ensures.read in
-    let ends = rw c.in-Ok-Trades.field-0-is at c.end.ensures.logs in
     trades-ended (reading_by c.args.trades.now g.F.Shelf c.args.shelf.now c.collect_trades.new.shelf) g.M.AskedTrades.scope g.M.AskedTrades.keeping c.args.trades.now entries
     (IsTradesOfSymbol g.M.AskedTrades.scope g.M.AskedTrades.keeping g.M.AskedTrades.may_have c.in-Ok-Trades.kept) c.end.result read
-    (λ ts has. ends entries ts may (c.requires.begun entries may).kept has)
+    (λ ts has. c.end.ensures.logs entries ts may (c.requires.begun entries may).kept has)
 
 pub returns-in-Ok-Alone-clause-decides : goal.returns-in-Ok-Alone-clause-decides
 returns-in-Ok-Alone-clause-decides g c = λ entries may.
     let read = rw c.in-Ok-Alone.field-0-is at c.in-Ok-Alone.ensures.read in
-    let given = rw c.in-Ok-Alone.field-0-is at c.logs_alone.ensures.given in
     trades-alone (reading_by c.args.trades.now g.F.Shelf c.args.shelf.now c.collect_trades.new.shelf) g.M.AskedTrades.scope g.M.AskedTrades.keeping c.args.trades.now entries
     c.in-Ok-Alone.finding c.logs_alone.result read
-    (alone-logs g.M.AskedTrades.scope g.M.AskedTrades.keeping entries c.args.begun c.args.records c.in-Ok-Alone.finding c.logs_alone.result (c.requires.begun entries may)
-    (given ∙ ap (λ (o : Option Finding). before_rule.Found (unwrap_or o c.in-Ok-Alone.finding)) c.finding_of-of_orders.ensures)
+    (alone-logs g.M.AskedTrades.scope g.M.AskedTrades.keeping entries c.args.begun c.in-Ok-Alone.finding c.logs_alone.result (c.requires.begun entries may)
+    (c.logs_alone.ensures.given ∙ ap (λ (o : Option Finding). before_rule.Found (unwrap_or o c.in-Ok-Alone.finding)) c.finding_of-of_orders.ensures)
     c.logs_alone.ensures.times c.logs_alone.ensures.orders c.logs_alone.ensures.trades)
 
 pub returns-in-Ok-Alone-clause-ready : goal.returns-in-Ok-Alone-clause-ready
 returns-in-Ok-Alone-clause-ready g c =
-    let told = rw c.in-Ok-Alone.field-0-is at c.logs_alone.ensures.given in
-    let given = told ∙ ap (λ (o : Option Finding). before_rule.Found (unwrap_or o c.in-Ok-Alone.finding)) c.finding_of-of_orders.ensures in
+    let given = c.logs_alone.ensures.given ∙ ap (λ (o : Option Finding). before_rule.Found (unwrap_or o c.in-Ok-Alone.finding)) c.finding_of-of_orders.ensures in
     ready-of g.M.AskedTrades.scope g.M.AskedTrades.keeping c.requires.some.0 (Err c.in-Ok-Alone.finding) c.logs_alone.result
-    (alone-logs g.M.AskedTrades.scope g.M.AskedTrades.keeping c.requires.some.0 c.args.begun c.args.records c.in-Ok-Alone.finding c.logs_alone.result (c.requires.begun c.requires.some.0 c.requires.some.1)
+    (alone-logs g.M.AskedTrades.scope g.M.AskedTrades.keeping c.requires.some.0 c.args.begun c.in-Ok-Alone.finding c.logs_alone.result (c.requires.begun c.requires.some.0 c.requires.some.1)
     given c.logs_alone.ensures.times c.logs_alone.ensures.orders c.logs_alone.ensures.trades)
     (subst (λ (b : BeforeRule). IsJudgeable b) (sym given) tt)
 

@@ -13,7 +13,7 @@ returns c =
     let front : List (List ℕ) = map part_text c.args.front.now in
     let time : List ℕ = stamp_text c.args.time in
     let back : List (List ℕ) = map part_text c.args.back.now in
-    let head : List (List ℕ) = log_word c.args.log ∷ decimal c.args.place ∷ [] in
+    let head : List (List ℕ) = log_word c.args.at.log ∷ decimal c.args.at.place ∷ [] in
     let before : c.append_rest-2.new.out.items ≡ ((((c.args.out.now.items ++ join_with_byte 44 (codes "record" ∷ head)) ++ later_parts_text front) ++ 44 ∷ []) ++ time) ++ later_parts_text back =
     c.in_ok-append_rest-2.ensures
     ∙ ap (λ (t : List ℕ). t ++ later_parts_text back) (c.in_ok-write_stamp.ensures.appended
