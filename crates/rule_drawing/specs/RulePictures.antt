@@ -1,5 +1,5 @@
 -- The picture of a rule.
-use Rattle.std.specs.Prelude.{ℕ, List, Option, None, Some, option_map, slice_get, MatchOption}
+use Rattle.std.specs.Prelude.{ℕ, List, Option, None, option_map, slice_get, MatchOption}
 use Rattle.audit_base.specs.declared.findings.Finding.{Finding}
 use Rattle.audit_base.specs.declared.orders.Deal.{Deal}
 use Rattle.audit_base.specs.declared.orders.Order.{Order}

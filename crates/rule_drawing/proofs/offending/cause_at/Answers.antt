@@ -1,4 +1,4 @@
-use Rattle.std.proofs.Common.{◌≡◌, ◌∙◌, ◌==◌, ap, sym, option_copied}
+use Rattle.std.proofs.Common.{◌∙◌, ◌==◌, ap, sym, option_copied}
 use Rattle.audit_base.specs.Deals.{NamesOrders}
 use Rattle.rule_drawing.proofs.FoundLemmas.{found-holds}
 use Rattle.rule_drawing.proofs.offending.cause_at.Goals as goal
