@@ -22,15 +22,16 @@ fn certified_answer(
     alloc: Global,
     question: &Question,
     resolved: &ResolvedTrades,
-    judged: Judged,
+    judged: &Judged,
 ) -> Result<Answer, NoMemory>
     requires rule { IsTrue (asks_for_greatest question.now.rule) }
     requires judgeable { AreResolvedTradesInRange resolved.now }
     requires judged { let sound = resolved.now in
         VerdictFollowsDeals question.now sound.history sound.deals.items sound.count
-        (as_verdict judged) }
+        (as_verdict judged.now) }
     ensures { IfOk result (IsAnswerOfKind
-        (IsVerdictAnswerWith (IsDealsCertificate question.now resolved.now) (as_verdict judged))) }
+        (IsVerdictAnswerWith (IsDealsCertificate question.now resolved.now)
+        (as_verdict judged.now))) }
 {
     match judged {
         Judged::Accepted(_) => Ok(done_answer(certify(
@@ -40,7 +41,7 @@ fn certified_answer(
             &resolved.history.orders(),
             &resolved.deals,
         )?)),
-        Judged::Rejected(finding) => finding_answer(alloc, finding),
+        Judged::Rejected(finding) => finding_answer(alloc, *finding),
     }
 }
 
@@ -57,6 +58,6 @@ pub(crate) fn certify_answer(
     let judged = verdict_after(alloc, question, given)?;
     match given {
         BeforeRule::Found(finding) => finding_answer(alloc, *finding),
-        BeforeRule::Sound(resolved) => certified_answer(alloc, question, resolved, judged),
+        BeforeRule::Sound(resolved) => certified_answer(alloc, question, resolved, &judged),
     }
 }

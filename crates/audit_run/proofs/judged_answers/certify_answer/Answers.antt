@@ -9,8 +9,8 @@ returns-in-Found c =
     (λ answer made. rw c.in-Found.is (found_certifies c.args.question.now c.in-Found.finding c.in_ok-judged.judged answer is made))
     c.finding_answer.ensures
 
-pub returns-in-Sound : goal.returns-in-Sound
-returns-in-Sound c =
+pub returns : goal.returns
+returns c =
     let is = rw c.in-Sound.is at c.in_ok-judged.ensures.verdict in
     ok-then c.certified_answer.result _ _
     (λ answer made. rw c.in-Sound.is (sound_certifies c.args.question.now c.in-Sound.resolved c.in_ok-judged.judged answer is made))
