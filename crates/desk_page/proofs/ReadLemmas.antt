@@ -9,17 +9,21 @@ use Rattle.audit_base.specs.declared.terms.Which.{Which}
 use Rattle.audit_base.specs.declared.terms.Which.TheVariants.{Orders, Trades}
 use Rattle.audit_report.specs.declared.verdicts.Verdict.TheVariants as verdict
 use Rattle.command_run.specs.declared.answers.Answer.{Answer}
-use Rattle.command_run.specs.Deciding.{IsAnswerOfKind}
+use Rattle.command_run.specs.Deciding.{DecidesWithout, IsAnswerOfKind}
 use Rattle.command_run.specs.VerdictAnswers.{IsVerdictAnswer}
+use Rattle.command_run.proofs.UnreadLemmas.{gives_unread, stays_unread}
 use Rattle.log_digests.specs.Digests.{digest_of}
 use Rattle.log_digests.specs.DigestShelves.{IsDigestAtEnd}
+use Rattle.log_source.specs.declared.shelf.Shelf.{Ghosts as Shelf}
 use Rattle.log_verdict.specs.declared.sources.Source.{Source}
-use Rattle.log_verdict.specs.BothLogs.{ReadsAfterOrders, ReadsLogs}
+use Rattle.log_verdict.specs.declared.stops.NoRecords.{NoRecords}
+use Rattle.log_verdict.specs.declared.stops.Stop.{Stop}
+use Rattle.log_verdict.specs.BothLogs.{IsUnreadOfTwoLogs, ReadsAfterOrders, ReadsLogs, ReadsWithin, StaysWithin}
 use Rattle.log_verdict.specs.LogVerdicts.{records_of_order_log, trades_of_trade_log}
-use Rattle.log_verdict.specs.Steps.{Reading}
+use Rattle.log_verdict.specs.Steps.{KeepsShelfLogs, Reading, reading_by}
 use Rattle.log_digests.specs.declared.digests.LogDigests.{LogDigests}
 use Rattle.desk_page.specs.declared.requests.PageRequest.{PageRequest}
-use Rattle.desk_page.specs.PageAnswers.{IsAnswerByPresence, IsAnswerToRecords, logs_in, page_question, Pictures}
+use Rattle.desk_page.specs.PageAnswers.{GivesPageOrStop, IsAnswerByPresence, IsAnswerToRecords, logs_in, page_question, Pictures}
 use Rattle.desk_page.specs.PageLogs.{AreDigestsOf}
 use Rattle.desk_page.specs.Telling.{IsDigestedAnswer, IsNamedByPresence}
 use Rattle.record_verdict.specs.declared.before_rule.BeforeRule.{BeforeRule}
@@ -67,3 +71,15 @@ module _ (is_picture : Pictures) (r : Reading) (request : PageRequest) (orders t
           of_trades = of-log r.tells tells (r.log_of Trades request.logs.trades) (log_of Trades request.logs.trades) digests.trades is-told (logs Trades request.logs.trades) (λ t. second t holds.read.started holds.read.at_end);
         }) entries (trades_of_trade_log trades.form holds.bytes) holds.holds;
       }
+
+-- Two logs of a shelf that were not read into records.
+module _ {S : Type 0} (orders : Source) (shelf : Shelf S) (old new : S) (keeps : KeepsShelfLogs shelf old new) (why : NoRecords) (result : Result Answer Stop) (decides : DecidesWithout why result) where
+  -- what is given
+  pub gives-unread : (is_picture : Pictures) (request : PageRequest) (trades : Source) → IsUnreadOfTwoLogs (reading_by orders shelf old new) orders trades why
+      → GivesPageOrStop is_picture (reading_by orders shelf old new) request orders trades result
+  gives-unread is_picture request trades is =
+      gives_unread (reading_by orders shelf old new) orders trades (λ entries paired answer. IsAnswerOfKind (IsAnswerToRecords is_picture (logs_in (reading_by orders shelf old new)) request entries paired) answer) why result is decides
+
+  -- and the slots stay within the limit as they did
+  pub stays-unread : {T : Type 0} (read : Result T NoRecords) → read ≡ Err why → ReadsWithin (reading_by orders shelf old new) read → StaysWithin (reading_by orders shelf old new) result
+  stays-unread read is within = stays_unread (reading_by orders shelf old new) why read result is within decides
