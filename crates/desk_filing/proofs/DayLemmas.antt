@@ -39,7 +39,8 @@ use Rattle.desk_filing.proofs.WritingLemmas.{ends_stopped}
 use Rattle.desk_filing.proofs.JudgeLemmas.{refuses}
 use Rattle.log_digests.specs.Digests.{digest_of}
 use Rattle.log_digests.specs.DigestShelves.{IsDigestAtEnd}
-use Rattle.log_verdict.specs.Steps.{Reading}
+use Rattle.log_source.specs.declared.shelf.Shelf.{Ghosts as Shelf}
+use Rattle.log_verdict.specs.Steps.{KeepsShelfLogs, Reading, reading_by}
 use Rattle.log_verdict.specs.declared.sources.Source.{Source}
 use Rattle.log_verdict.specs.declared.stops.NoRecords.{NoRecords}
 use Rattle.log_verdict.specs.declared.stops.NoRecords.TheVariants as norecords
@@ -178,3 +179,8 @@ pub ends_without : {S : Type 0} (r : Reading) (why : NoRecords) (read : Result S
 ends_without r (norecords.Malformed log bad) read (Ok made) is within judges = rw is at within
 ends_without r (norecords.Malformed log bad) read (Err why) is within judges = rw judges (rw is at within)
 ends_without {S = S} r (norecords.Stopped why) read result is within judges = rw judges (ends_stopped (Option S) Judged why (rw is at within))
+
+-- the same of two logs of a shelf
+pub ends_without_at : {S T : Type 0} (orders : Source) (shelf : Shelf T) (old new : T) → KeepsShelfLogs shelf old new → (why : NoRecords) (read : Result S NoRecords) (result : Result Judged Halt) → read ≡ Err why
+    → ReadsWithin (reading_by orders shelf old new) read → JudgesWithout why result → EndsWithinOrHalts (reading_by orders shelf old new) result
+ends_without_at orders shelf old new keeps why read result is within judges = ends_without (reading_by orders shelf old new) why read result is within judges

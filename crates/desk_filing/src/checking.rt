@@ -111,8 +111,9 @@ fn compared_audit(
     digests: &LogDigests,
     offence: Option<Offence>,
 ) -> Result<CaseAnswer, NoMemory>
-    ensures { let was = record { digests = filed.now.digests; offence = filed.now.case.offence } in
-        IfOk result (TellsFirst label.now was (record { digests = digests.now; offence = offence })) }
+    ensures { IfOk result (TellsFirst label.now
+        (record { digests = filed.now.digests; offence = filed.now.case.offence })
+        (record { digests = digests.now; offence = offence })) }
 {
     let before = AuditedLogs {
         digests: filed.digests,

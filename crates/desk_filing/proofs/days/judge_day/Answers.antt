@@ -1,4 +1,4 @@
-use Rattle.desk_filing.proofs.DayLemmas.{ends_without, judges_given, judges_without, takes_digests}
+use Rattle.desk_filing.proofs.DayLemmas.{ends_without_at, judges_given, judges_without, takes_digests}
 use Rattle.desk_filing.proofs.days.judge_day.Goals as goal
 
 pub returns-in_ok-judged_logs-in-Ok-clause-judges : goal.returns-in_ok-judged_logs-in-Ok-clause-judges
@@ -15,4 +15,4 @@ pub returns-in_ok-judged_logs-in-Ok-clause-within : goal.returns-in_ok-judged_lo
 returns-in_ok-judged_logs-in-Ok-clause-within g c = c.in-Ok.ensures.within
 
 pub returns-in-Err-clause-within : goal.returns-in-Err-clause-within
-returns-in-Err-clause-within g c = ends_without _ c.in-Err.why c.read_day.result c.judged_without.result c.in-Err.is c.read_day.ensures.within c.judged_without.ensures
+returns-in-Err-clause-within g c = ends_without_at c.args.orders.now _ _ _ c.in-Err.ensures.logs c.in-Err.why c.read_day.result c.judged_without.result c.in-Err.is c.read_day.ensures.within c.judged_without.ensures
