@@ -18,6 +18,7 @@ use command_words::requests::{Request, WordsFault, read_words};
 use log_source::shelf::Shelf;
 use log_source::sink::Sink;
 use log_verdict::laws::one_verdict;
+use log_verdict::runs::Ran;
 use seeded_hash::seed::HashSeed;
 use std::alloc::Global;
 
@@ -28,15 +29,15 @@ fn run_request<F: Shelf, K: Sink>(
     shelf: &mut F,
     out: &mut K,
     request: &Request,
-) -> Status
+) -> Ran<Status, ()>
     requires { MayBeAsked request.now }
     ensures logs { KeepsShelfLogs F.Shelf shelf.old shelf.new }
     ensures later { FaultsNeverFall (reading F.Shelf shelf.old shelf.new) }
     ensures stays { SinkStays (K.state out.old) (K.state out.new) }
     ensures answers { AnswersCommand (reading F.Shelf shelf.old shelf.new)
         (auditor_command_of request.now)
-        (K.state out.old) (K.state out.new) result }
-    ensures too_long { AnswersTooLong (reading F.Shelf shelf.old shelf.new) result }
+        (K.state out.old) (K.state out.new) result.status }
+    ensures too_long { AnswersTooLong (reading F.Shelf shelf.old shelf.new) result.status }
 {
     let decided = answer_request(alloc, seed, shelf, request);
     write_answer::<Auditor, K>(out, decided)
@@ -57,20 +58,21 @@ pub fn run<F: Shelf, K: Sink>(alloc: Global, words: &[String], shelf: &mut F, ou
     ensures { AuditorAnswers F.Shelf (request_of (map string_bytes words.now)) shelf.old shelf.new
         (K.state out.old) (K.state out.new) result }
 {
-    run_seeded(alloc, HashSeed::fixed(), words, shelf, out)
+    run_seeded(alloc, HashSeed::fixed(), words, shelf, out).status
 }
 
-/// The same as `run`, with hashes of this seed. No answer depends on the seed. One that nobody
-/// knows beforehand keeps who writes the logs from choosing names that hash alike.
+/// The same as `run`, with hashes of this seed, and with why there are no records of the logs,
+/// where there are none. No answer depends on the seed. One that nobody knows beforehand keeps who
+/// writes the logs from choosing names that hash alike.
 pub fn run_seeded<F: Shelf, K: Sink>(
     alloc: Global,
     seed: HashSeed,
     words: &[String],
     shelf: &mut F,
     out: &mut K,
-) -> Status
+) -> Ran<Status, ()>
     ensures { AuditorAnswers F.Shelf (request_of (map string_bytes words.now)) shelf.old shelf.new
-        (K.state out.old) (K.state out.new) result }
+        (K.state out.old) (K.state out.new) result.status }
 {
     // Laws that the answer rests on. They compute nothing.
     one_verdict();
@@ -78,7 +80,15 @@ pub fn run_seeded<F: Shelf, K: Sink>(
     memory_is_answered::<Auditor>();
     match read_words(alloc, words) {
         Ok(request) => run_request(alloc, seed, shelf, out, &request),
-        Err(WordsFault::Usage) => write_usage::<Auditor, K>(out),
-        Err(WordsFault::Memory) => Status::Memory,
+        Err(WordsFault::Usage) => Ran {
+            status: write_usage::<Auditor, K>(out),
+            stop: None,
+            back: (),
+        },
+        Err(WordsFault::Memory) => Ran {
+            status: Status::Memory,
+            stop: None,
+            back: (),
+        },
     }
 }

@@ -32,7 +32,11 @@ fn answer_of_session(session: Session) -> Answer
 {
     let status = session.status();
     let Session { text, .. } = session;
-    Answer { status, text }
+    Answer {
+        status,
+        text,
+        stop: None,
+    }
 }
 
 /// The answer to `session` over logs that give this before the phases are looked at.

@@ -62,6 +62,7 @@ fn refused_answer(alloc: Global, line: u32) -> Result<Answer, NoMemory>
     Ok(Answer {
         status: Status::Rejected,
         text,
+        stop: None,
     })
 }
 

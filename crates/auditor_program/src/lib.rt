@@ -21,14 +21,15 @@ use log_source::output::Output;
 use log_source::shelf::Shelf;
 use log_source::sink::Sink;
 use log_source::std_sink::StdSink;
+use log_verdict::runs::Ran;
+use log_verdict::stops::NoRecords;
 use std::io;
 use std::process::ExitCode;
 use std::random::RandomSource;
 use stderr_notes::command_line::CommandLine;
 use stderr_notes::log_notes::print_end;
 use stderr_notes::noted_shelf::NotedShelf;
-use stderr_notes::noted_sink::NotedSink;
-use stderr_notes::program_ends::{Ran, exit_code, noted_files, noted_output};
+use stderr_notes::program_ends::{UsedEnds, exit_code, fresh_output, noted_files};
 use stderr_notes::usage_notes::print_auditor_usage;
 
 /// Runs the command that the words of the command line ask for, with hashes of a random seed.
@@ -36,14 +37,18 @@ fn answer_words<R: CommandLine + AllocGlobal + RandomSource, F: Shelf, K: Sink>(
     rt: &R,
     shelf: &mut F,
     out: &mut K,
-) -> Status
+) -> Ran<Status, ()>
     ensures { AnswersCommandLine (AuditorAnswersWords F.Shelf) status.Memory (R.known_words rt.now)
         (record { shelf = shelf.old; sink = K.state out.old })
-        (record { shelf = shelf.new; sink = K.state out.new }) result }
+        (record { shelf = shelf.new; sink = K.state out.new }) result.status }
 {
     match rt.words() {
         Ok(words) => run_seeded(rt.alloc(), seed_of(rt), &words, shelf, out),
-        Err(_) => Status::Memory,
+        Err(_) => Ran {
+            status: Status::Memory,
+            stop: None,
+            back: (),
+        },
     }
 }
 
@@ -52,28 +57,37 @@ fn run_over<R: CommandLine + AllocGlobal + RandomSource, S: FileSystem + Drop, W
     rt: &R,
     files: S,
     output: W,
-) -> Ran<S, W>
+) -> Ran<Status, UsedEnds<S, W>>
     ensures { let shelf = ⟦<NotedShelf<FileShelf<S>> as Shelf>⟧ in
-        let state = ⟦<NotedSink<StdSink<W>> as Sink>⟧.state in
+        let state = ⟦<StdSink<W> as Sink>⟧.state in
         AnswersFrom (AuditorAnswersWords shelf) status.Memory (R.known_words rt.now)
         (BeginsOver shelf (S.tells files) (S.file_at files) (W.contents output))
-        (record { shelf = result.shelf; sink = state result.out }) result.status }
+        (record { shelf = result.back.shelf; sink = state result.back.out }) result.status }
 {
     let mut shelf = noted_files(rt.alloc(), files);
-    let mut out = noted_output(rt.alloc(), output);
-    let status = answer_words(rt, &mut shelf, &mut out);
-    Ran { status, shelf, out }
+    let mut out = fresh_output(output);
+    let ran = answer_words(rt, &mut shelf, &mut out);
+    Ran {
+        status: ran.status,
+        stop: ran.stop,
+        back: UsedEnds { shelf, out },
+    }
 }
 
 /// Says on standard error why a run ended above 1.
-fn tell<F: Shelf>(rt: &HostRuntime, status: Status, shelf: &NotedShelf<F>, last: &[u8]) {
+fn tell<F: Shelf>(
+    rt: &HostRuntime,
+    status: Status,
+    shelf: &NotedShelf<F>,
+    stop: &Option<NoRecords>,
+) {
     if status == Status::Usage {
         if let Ok(words) = rt.words() {
             print_auditor_usage(rt, &words);
         }
         return;
     }
-    print_end(rt, "auditor", LONGEST_LOG as u64, status, shelf, last);
+    print_end(rt, "auditor", LONGEST_LOG as u64, status, shelf, stop);
 }
 
 /// Runs the command over files and standard output.
@@ -84,9 +98,9 @@ fn answer(rt: HostRuntime) -> Status
     let Ok(files) = rt.clone() else {
         return Status::Memory;
     };
-    let Ran { status, shelf, out } = run_over(&rt, files, io::writer(&rt));
-    tell(&rt, status, &shelf, out.last());
-    status
+    let ran = run_over(&rt, files, io::writer(&rt));
+    tell(&rt, ran.status, &ran.back.shelf, &ran.stop);
+    ran.status
 }
 
 /// Runs the program, and gives the exit code of its process.

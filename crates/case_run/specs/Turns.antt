@@ -1,6 +1,8 @@
 -- One command of a run, as the functions that do it pass it on.
 use Rattle.std.specs.Prelude.{◌≡◌, ◌≤◌, ◌⊎◌, ℕ, true, false, Option, Some, Result, Ok, Err, List, MatchResult}
+use Rattle.audit_base.specs.declared.faults.BadPlace.{BadPlace}
 use Rattle.audit_base.specs.declared.terms.Which.{Which}
+use Rattle.audit_report.specs.Lines.{malformed_line}
 use Rattle.audit_report.specs.declared.verdicts.Verdict.{Verdict}
 use Rattle.audit_report.specs.declared.verdicts.Verdict.TheVariants as verdict
 use Rattle.log_verdict.specs.Steps.{Reading, BeginsWithin, EndsWithin, KeepsShelfLogs, FaultsNeverFall, reading}
@@ -120,6 +122,11 @@ pub record AnswersVerdictTurn (wanted : Filing) (the_verdict : Verdict) (old new
   pub known : (cases : List Case) → old.cases ≡ Some cases
       → AnswersAsTurn (verdict_turn cases wanted the_verdict) new answer
   pub status_is : HasVerdictStatus the_verdict answer.status
+
+-- The answer tells the first bad place of a log.
+pub record AnswersBadPlace (log : Which) (bad : BadPlace) (answer : CaseAnswer) : Type 0 where
+  pub status_is : answer.status ≡ status.Malformed
+  pub text_is : answer.text.items ≡ malformed_line log bad
 
 -- the keeper is asked only for a verdict on logs that are in their grammar
 abbrev pub AsksKeeperFor : Verdict → Halt → Type 0

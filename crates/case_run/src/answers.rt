@@ -1,14 +1,13 @@
 //! One command: its answer, the status and the text, is made whole, and then written.
 ghost use Rattle.std.specs.Prelude.{◌≡◌, ◌≤◌, ◌++◌, IfOk};
 ghost use Rattle.std.specs.List.{flat_map};
-ghost use Rattle.audit_report.specs.Lines.{malformed_line};
 ghost use Rattle.audit_report.specs.Texts.{IsVerdictInRange};
 ghost use Rattle.log_verdict.specs.Steps.{reading, KeepsShelfLogs, FaultsNeverFall};
 ghost use Rattle.case_run.specs.Lines.{case_line, known_line};
 ghost use Rattle.case_run.specs.Play as spec;
 ghost use Rattle.case_run.specs.Runs.{EndsWithinOrTooLong, known_logs, run_state};
-ghost use Rattle.case_run.specs.Turns.{AnswersCaseCommand, AnswersFromCasebook, EndsWithinOrHalts};
-ghost use Rattle.case_run.specs.Turns.{FilesVerdict, KeepsAll, TakesTurn};
+ghost use Rattle.case_run.specs.Turns.{AnswersBadPlace, AnswersCaseCommand, AnswersFromCasebook};
+ghost use Rattle.case_run.specs.Turns.{EndsWithinOrHalts, FilesVerdict, KeepsAll, TakesTurn};
 
 use super::commands::{CaseCommand, Filing};
 use super::halts::Halt;
@@ -27,14 +26,18 @@ use case_keeper::casebook::{Casebook, Filed};
 use case_keeper::keeper::Keeper;
 use log_source::shelf::Shelf;
 use log_source::sink::Sink;
+use log_verdict::runs::Ran;
+use log_verdict::stops::NoRecords;
 use seeded_hash::seed::HashSeed;
 use std::alloc::Global;
 
-/// What a command answers and writes.
+/// What a command answers and writes; and why there are no records of its logs, where the text says
+/// that.
 #[derive(Drop)]
 pub struct CaseAnswer {
     pub status: CaseStatus,
     pub text: Vec<u8>,
+    pub stop: Option<NoRecords>,
 }
 
 impl Filing {
@@ -129,10 +132,12 @@ fn file_case<B: Keeper>(
         Filed::Kept => Ok(CaseAnswer {
             status: CaseStatus::Done,
             text: line,
+            stop: None,
         }),
         Filed::Known(known) => Ok(CaseAnswer {
             status: CaseStatus::Refused,
             text: known_text(alloc, &known)?,
+            stop: None,
         }),
     }
 }
@@ -154,18 +159,20 @@ fn file_verdict<B: Keeper>(
         Verdict::Rejected(finding) => {
             file_case(alloc, &filing.case(Some(offence_of(finding))), book)
         }
-        Verdict::Malformed { log, bad } => Ok(CaseAnswer {
-            status: CaseStatus::Malformed,
-            text: malformed_text(alloc, *log, bad)?,
-        }),
+        Verdict::Malformed { log, bad } => Ok(malformed_answer(alloc, *log, bad)?),
     }
 }
 
-/// The line of a bad place.
-pub fn malformed_text(alloc: Global, log: Which, bad: &BadPlace) -> Result<Vec<u8>, NoMemory>
-    ensures { IfOk result (λ text. text.items ≡ malformed_line log bad.now) }
+/// The answer that a log is not in its grammar: the line of its first bad place.
+pub fn malformed_answer(alloc: Global, log: Which, bad: &BadPlace) -> Result<CaseAnswer, NoMemory>
+    ensures { IfOk result (AnswersBadPlace log bad.now) }
 {
-    report_text(alloc, &Verdict::Malformed { log, bad: *bad })
+    let text = report_text(alloc, &Verdict::Malformed { log, bad: *bad })?;
+    Ok(CaseAnswer {
+        status: CaseStatus::Malformed,
+        text,
+        stop: Some(NoRecords::Malformed { log, bad: *bad }),
+    })
 }
 
 /// Audits two logs and files the verdict.
@@ -204,6 +211,7 @@ fn list<B: Keeper>(
     Ok(CaseAnswer {
         status: CaseStatus::Done,
         text: list_text(alloc, cases.as_slice())?,
+        stop: None,
     })
 }
 
@@ -217,6 +225,7 @@ fn show<B: Keeper>(alloc: Global, label: &Name, book: &mut Casebook<B>) -> Resul
     Ok(CaseAnswer {
         status: shown_status(&found),
         text: shown_text(alloc, label, &found)?,
+        stop: None,
     })
 }
 
@@ -250,16 +259,25 @@ pub(crate) fn take_turn<F: Shelf, K: Sink, B: Keeper>(
     shelf: &mut F,
     out: &mut K,
     book: &mut Casebook<B>,
-) -> CaseStatus
+) -> Ran<CaseStatus, ()>
     ensures keeps { KeepsAll F.Shelf shelf.old shelf.new (K.state out.old) (K.state out.new)
         (B.state book.old) (B.state book.new) }
     ensures turn { TakesTurn (known_logs F.Shelf shelf.old)
         (run_state F.Shelf shelf.old (K.state out.old) (B.state book.old))
-        (run_state F.Shelf shelf.new (K.state out.new) (B.state book.new)) command.now result }
-    ensures length { EndsWithinOrTooLong (reading F.Shelf shelf.old shelf.new) result }
+        (run_state F.Shelf shelf.new (K.state out.new) (B.state book.new)) command.now
+        result.status }
+    ensures length { EndsWithinOrTooLong (reading F.Shelf shelf.old shelf.new) result.status }
 {
     match answer_to(alloc, seed, command, shelf, book) {
-        Ok(answer) => write_text(out, &answer.text, answer.status),
-        Err(halt) => write_halt(out, halt),
+        Ok(answer) => Ran {
+            status: write_text(out, &answer.text, answer.status),
+            stop: answer.stop,
+            back: (),
+        },
+        Err(halt) => Ran {
+            status: write_halt(out, halt),
+            stop: halt.stop(),
+            back: (),
+        },
     }
 }

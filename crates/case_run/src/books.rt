@@ -16,6 +16,7 @@ use super::writing::{write_halt, write_text};
 use case_keeper::casebook::Casebook;
 use log_source::shelf::Shelf;
 use log_source::sink::Sink;
+use log_verdict::runs::Ran;
 use seeded_hash::seed::HashSeed;
 use std::alloc::Global;
 
@@ -47,10 +48,15 @@ pub fn run_book<F: Shelf, K: Sink, O: Opener>(
         (map string_bytes words.now) (K.state out.old) (K.state out.new)
         (option_map O.Book.state result.book) result.status }
 {
-    run_book_seeded(alloc, HashSeed::fixed(), words, shelf, out, opener)
+    let ran = run_book_seeded(alloc, HashSeed::fixed(), words, shelf, out, opener);
+    Ended {
+        status: ran.status,
+        book: ran.back,
+    }
 }
 
-/// The same as `run_book`, with hashes of this seed. No answer depends on the seed.
+/// The same as `run_book`, with hashes of this seed, and with why there are no records of the logs
+/// of the last command, where there are none. No answer depends on the seed.
 pub fn run_book_seeded<F: Shelf, K: Sink, O: Opener>(
     alloc: Global,
     seed: HashSeed,
@@ -58,32 +64,35 @@ pub fn run_book_seeded<F: Shelf, K: Sink, O: Opener>(
     shelf: &mut F,
     out: &mut K,
     opener: &mut O,
-) -> Ended<O::Book>
+) -> Ran<CaseStatus, Option<Casebook<O::Book>>>
     ensures logs { KeepsShelfLogs F.Shelf shelf.old shelf.new }
     ensures sink { SinkStays (K.state out.old) (K.state out.new) }
     ensures books { KeepsCasebooks (O.state opener.old) (O.state opener.new) }
     ensures runs { RunsWords F.Shelf shelf.old shelf.new (O.state opener.old) (O.state opener.new)
         (map string_bytes words.now) (K.state out.old) (K.state out.new)
-        (option_map O.Book.state result.book) result.status }
+        (option_map O.Book.state result.back) result.status }
 {
     let Some((path, rest)) = words.split_first() else {
-        return Ended {
+        return Ran {
             status: write_text(out, usage_text(), CaseStatus::Usage),
-            book: None,
+            stop: None,
+            back: None,
         };
     };
     match opener.open_book(path.as_str()) {
         Ok(keeper) => {
             let mut book = Casebook::new(keeper);
-            let status = run_case_seeded(alloc, seed, rest, shelf, out, &mut book);
-            Ended {
-                status,
-                book: Some(book),
+            let ran = run_case_seeded(alloc, seed, rest, shelf, out, &mut book);
+            Ran {
+                status: ran.status,
+                stop: ran.stop,
+                back: Some(book),
             }
         }
-        Err(fault) => Ended {
+        Err(fault) => Ran {
             status: write_halt(out, Halt::from(fault)),
-            book: None,
+            stop: None,
+            back: None,
         },
     }
 }

@@ -2,7 +2,7 @@
 use audit_base::faults::NoMemory;
 use audit_base::terms::Which;
 use case_keeper::keeper::KeepFault;
-use log_verdict::stops::Stop;
+use log_verdict::stops::{NoRecords, Stop};
 
 /// Why a command has no answer. No case was changed.
 #[derive(Clone, Copy, Debug, PartialEq, Eq)]
@@ -14,6 +14,18 @@ pub enum Halt {
     Memory,
     /// The keeper of the cases failed.
     KeeperFault,
+}
+
+impl Halt {
+    /// Why there are no records of the logs of the command, where that is why it has no answer.
+    pub fn stop(self) -> Option<NoRecords> {
+        match self {
+            Halt::ReadFault(log) => Some(NoRecords::Stopped(Stop::ReadFault(log))),
+            Halt::TooLong(log) => Some(NoRecords::Stopped(Stop::TooLong(log))),
+            Halt::Memory => Some(NoRecords::Stopped(Stop::Memory)),
+            Halt::KeeperFault => None,
+        }
+    }
 }
 
 impl From<NoMemory> for Halt {

@@ -24,6 +24,7 @@ use case_keeper::keeper::Keeper;
 use command_words::requests::WordsFault;
 use log_source::shelf::Shelf;
 use log_source::sink::Sink;
+use log_verdict::runs::Ran;
 use seeded_hash::seed::HashSeed;
 use std::alloc::Global;
 
@@ -35,22 +36,27 @@ fn run_commands<F: Shelf, K: Sink, B: Keeper>(
     shelf: &mut F,
     out: &mut K,
     book: &mut Casebook<B>,
-) -> CaseStatus
+) -> Ran<CaseStatus, ()>
     ensures keeps { KeepsAll F.Shelf shelf.old shelf.new (K.state out.old) (K.state out.new)
         (B.state book.old) (B.state book.new) }
     ensures runs { RunsCommands (known_logs F.Shelf shelf.old)
         (run_state F.Shelf shelf.old (K.state out.old) (B.state book.old))
-        (run_state F.Shelf shelf.new (K.state out.new) (B.state book.new)) commands.now result }
-    ensures length { EndsWithinOrTooLong (reading F.Shelf shelf.old shelf.new) result }
+        (run_state F.Shelf shelf.new (K.state out.new) (B.state book.new)) commands.now
+        result.status }
+    ensures length { EndsWithinOrTooLong (reading F.Shelf shelf.old shelf.new) result.status }
 {
-    let mut status = CaseStatus::Done;
+    let mut ran = Ran {
+        status: CaseStatus::Done,
+        stop: None,
+        back: (),
+    };
     for command in commands {
-        status = take_turn(alloc, seed, command, shelf, out, book);
-        if status.ends_run() {
-            return status;
+        ran = take_turn(alloc, seed, command, shelf, out, book);
+        if ran.status.ends_run() {
+            return ran;
         }
     }
-    status
+    ran
 }
 
 /// Runs the commands that the words ask for over a casebook, and writes the text of each. The
@@ -81,11 +87,12 @@ pub fn run_case<F: Shelf, K: Sink, B: Keeper>(
         (K.state out.old) (K.state out.new) (B.state book.old) (B.state book.new) result }
     ensures one { OnePlay }
 {
-    run_case_seeded(alloc, HashSeed::fixed(), words, shelf, out, book)
+    run_case_seeded(alloc, HashSeed::fixed(), words, shelf, out, book).status
 }
 
-/// The same as `run_case`, with hashes of this seed. No answer depends on the seed. One that nobody
-/// knows beforehand keeps who writes the logs from choosing names that hash alike.
+/// The same as `run_case`, with hashes of this seed, and with why there are no records of the logs
+/// of the last command, where there are none. No answer depends on the seed. One that nobody knows
+/// beforehand keeps who writes the logs from choosing names that hash alike.
 pub fn run_case_seeded<F: Shelf, K: Sink, B: Keeper>(
     alloc: Global,
     seed: HashSeed,
@@ -93,15 +100,24 @@ pub fn run_case_seeded<F: Shelf, K: Sink, B: Keeper>(
     shelf: &mut F,
     out: &mut K,
     book: &mut Casebook<B>,
-) -> CaseStatus
+) -> Ran<CaseStatus, ()>
     ensures run { IsCaseRun F.Shelf (commands_of (map string_bytes words.now)) shelf.old shelf.new
-        (K.state out.old) (K.state out.new) (B.state book.old) (B.state book.new) result }
+        (K.state out.old) (K.state out.new) (B.state book.old) (B.state book.new)
+        result.status }
     ensures one { OnePlay }
 {
     one_play();
     match read_commands(alloc, words) {
         Ok(commands) => run_commands(alloc, seed, &commands, shelf, out, book),
-        Err(WordsFault::Usage) => write_text(out, usage_text(), CaseStatus::Usage),
-        Err(WordsFault::Memory) => CaseStatus::Memory,
+        Err(WordsFault::Usage) => Ran {
+            status: write_text(out, usage_text(), CaseStatus::Usage),
+            stop: None,
+            back: (),
+        },
+        Err(WordsFault::Memory) => Ran {
+            status: CaseStatus::Memory,
+            stop: None,
+            back: (),
+        },
     }
 }

@@ -23,7 +23,7 @@ fn run_words(rt: &HostRuntime, line: &str) -> Result<(CaseStatus, MemorySink), F
     let mut shelf = shelf_of(rt.alloc(), 0)?;
     let mut out = MemorySink::new(rt.alloc(), 4096, 4096, Vec::new(rt.alloc()))?;
     let mut opener = FileOpener::new(rt.clone()?);
-    let status = run_and_close(
+    let ran = run_and_close(
         rt.alloc(),
         HashSeed::fixed(),
         &words,
@@ -31,7 +31,7 @@ fn run_words(rt: &HostRuntime, line: &str) -> Result<(CaseStatus, MemorySink), F
         &mut out,
         &mut opener,
     );
-    Ok((status, out))
+    Ok((ran.status, out))
 }
 
 /// Whether the row's words have its status and its lines.

@@ -6,11 +6,12 @@ ghost use Rattle.std.specs.Prelude.{map};
 ghost use Rattle.std.specs.String.{string_bytes};
 ghost use Rattle.casebook_program.specs.ClosedRuns.{RunsThenCloses};
 
-use case_run::books::{Ended, run_book_seeded};
+use case_run::books::run_book_seeded;
 use case_run::opener::Opener;
 use case_run::statuses::CaseStatus;
 use log_source::shelf::Shelf;
 use log_source::sink::Sink;
+use log_verdict::runs::Ran;
 use seeded_hash::seed::HashSeed;
 use std::alloc::Global;
 
@@ -26,7 +27,7 @@ pub trait Closing: Opener {
 }
 
 /// Runs the commands over the casebook that the first word names, as `run_book_seeded` does,
-/// and closes it. The answer is that of the commands.
+/// and closes it. The status is that of the commands.
 pub fn run_and_close<F: Shelf, K: Sink, O: Closing>(
     alloc: Global,
     seed: HashSeed,
@@ -34,14 +35,18 @@ pub fn run_and_close<F: Shelf, K: Sink, O: Closing>(
     shelf: &mut F,
     out: &mut K,
     opener: &mut O,
-) -> CaseStatus
+) -> Ran<CaseStatus, ()>
     ensures { RunsThenCloses F.Shelf shelf.old shelf.new
         (O.state opener.old) (O.state opener.new) (map string_bytes words.now)
-        (K.state out.old) (K.state out.new) result }
+        (K.state out.old) (K.state out.new) result.status }
 {
-    let Ended { status, book } = run_book_seeded(alloc, seed, words, shelf, out, opener);
-    if let Some(book) = book {
+    let Ran { status, stop, back } = run_book_seeded(alloc, seed, words, shelf, out, opener);
+    if let Some(book) = back {
         opener.close(book.into_keeper());
     }
-    status
+    Ran {
+        status,
+        stop,
+        back: (),
+    }
 }

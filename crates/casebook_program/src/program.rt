@@ -12,6 +12,7 @@ ghost use Rattle.stderr_notes.specs.ProgramAnswers.{AnswersCommandLine, AnswersF
 
 use crate::closing::{Closing, run_and_close};
 use crate::file_opener::FileOpener;
+use audit_base::sizes::LONGEST_LOG;
 use case_run::statuses::CaseStatus;
 use command_words::arguments::seed_of;
 use log_source::file_shelf::FileShelf;
@@ -20,6 +21,8 @@ use log_source::output::Output;
 use log_source::shelf::Shelf;
 use log_source::sink::Sink;
 use log_source::std_sink::StdSink;
+use log_verdict::runs::Ran;
+use log_verdict::stops::NoRecords;
 use std::io;
 use std::process::ExitCode;
 use std::random::RandomSource;
@@ -27,10 +30,9 @@ use stderr_notes::command_line::CommandLine;
 use stderr_notes::database_notes::{
     is_database_missing, print_database_fault, print_listed_symbols, print_made_database,
 };
-use stderr_notes::log_notes::print_log_fault;
+use stderr_notes::log_notes::print_stop;
 use stderr_notes::noted_shelf::NotedShelf;
-use stderr_notes::noted_sink::NotedSink;
-use stderr_notes::program_ends::{noted_files, noted_output};
+use stderr_notes::program_ends::{UsedEnds, fresh_output, noted_files};
 use stderr_notes::usage_notes::print_casebook_usage;
 
 /// Runs the commands that the words of the command line ask for, with hashes of a random seed,
@@ -40,25 +42,20 @@ fn answer_words<R: CommandLine + AllocGlobal + RandomSource, F: Shelf, K: Sink, 
     shelf: &mut F,
     out: &mut K,
     opener: &mut O,
-) -> CaseStatus
+) -> Ran<CaseStatus, ()>
     ensures { AnswersCommandLine (CasebookAnswers F.Shelf) status.Memory (R.known_words rt.now)
         (record { shelf = shelf.old; opener = O.state opener.old; sink = K.state out.old })
         (record { shelf = shelf.new; opener = O.state opener.new; sink = K.state out.new })
-        result }
+        result.status }
 {
     match rt.words() {
         Ok(words) => run_and_close(rt.alloc(), seed_of(rt), &words, shelf, out, opener),
-        Err(_) => CaseStatus::Memory,
+        Err(_) => Ran {
+            status: CaseStatus::Memory,
+            stop: None,
+            back: (),
+        },
     }
-}
-
-/// What a run leaves: its status, the files that it read and the output that it wrote, with
-/// what was noted of both.
-#[derive(Drop)]
-struct RunEnds<S: FileSystem, W> {
-    status: CaseStatus,
-    shelf: NotedShelf<FileShelf<S>>,
-    out: NotedSink<StdSink<W>>,
 }
 
 /// Runs the commands that the words of the command line ask for over these files, this output
@@ -68,19 +65,23 @@ fn run_over<
     S: FileSystem + Drop,
     W: Output + Drop,
     O: Closing,
->(rt: &R, files: S, output: W, opener: &mut O) -> RunEnds<S, W>
+>(rt: &R, files: S, output: W, opener: &mut O) -> Ran<CaseStatus, UsedEnds<S, W>>
     ensures { let shelf = ⟦<NotedShelf<FileShelf<S>> as Shelf>⟧ in
-        let state = ⟦<NotedSink<StdSink<W>> as Sink>⟧.state in
+        let state = ⟦<StdSink<W> as Sink>⟧.state in
         AnswersFrom (CasebookAnswers shelf) status.Memory (R.known_words rt.now)
         (CasebookBegins shelf (S.tells files) (S.file_at files) (W.contents output)
         (O.state opener.old))
-        (record { shelf = result.shelf; opener = O.state opener.new; sink = state result.out })
-        result.status }
+        (record { shelf = result.back.shelf; opener = O.state opener.new;
+        sink = state result.back.out }) result.status }
 {
     let mut shelf = noted_files(rt.alloc(), files);
-    let mut out = noted_output(rt.alloc(), output);
-    let status = answer_words(rt, &mut shelf, &mut out, opener);
-    RunEnds { status, shelf, out }
+    let mut out = fresh_output(output);
+    let ran = answer_words(rt, &mut shelf, &mut out, opener);
+    Ran {
+        status: ran.status,
+        stop: ran.stop,
+        back: UsedEnds { shelf, out },
+    }
 }
 
 /// Says on standard error why a run ended above 1, or of which symbol a list is that may be
@@ -90,7 +91,7 @@ fn tell<F: Shelf>(
     status: CaseStatus,
     words: &[String],
     shelf: &NotedShelf<F>,
-    last: &[u8],
+    stop: &Option<NoRecords>,
 ) {
     match status {
         CaseStatus::Usage => print_casebook_usage(rt, words),
@@ -106,7 +107,9 @@ fn tell<F: Shelf>(
             let _told = eprintln!(rt; "casebook: standard output could not be written");
         }
         CaseStatus::Malformed | CaseStatus::ReadFault | CaseStatus::TooLong => {
-            print_log_fault(rt, "casebook", shelf, last);
+            if let Some(stop) = stop {
+                print_stop(rt, "casebook", LONGEST_LOG as u64, shelf, stop);
+            }
         }
         CaseStatus::Done | CaseStatus::Refused => print_listed_symbols(rt, words),
     }
@@ -132,12 +135,12 @@ fn answer(rt: HostRuntime) -> CaseStatus
         None => false,
     };
     let mut opener = FileOpener::new(databases);
-    let RunEnds { status, shelf, out } = run_over(&rt, files, io::writer(&rt), &mut opener);
+    let ran = run_over(&rt, files, io::writer(&rt), &mut opener);
     if let Some(path) = words.first() {
         print_made_database(&rt, "casebook", path.as_str(), was_missing);
     }
-    tell(&rt, status, &words, &shelf, out.last());
-    status
+    tell(&rt, ran.status, &words, &ran.back.shelf, &ran.stop);
+    ran.status
 }
 
 /// The exit code of a status: its number.

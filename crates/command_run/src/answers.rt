@@ -15,11 +15,24 @@ use log_verdict::reading::Unread;
 use log_verdict::stops::{NoRecords, Stop};
 use std::alloc::Global;
 
-/// What a command answers: the status, and the text that is written.
+/// What a command answers: the status, and the text that is written; and why there are no records
+/// of its logs, where the text says that.
 #[derive(Drop)]
 pub struct Answer {
     pub status: Status,
     pub text: Vec<u8>,
+    pub stop: Option<NoRecords>,
+}
+
+/// Why there are no records of two logs, where this is their verdict.
+fn stop_in(verdict: &Verdict) -> Option<NoRecords> {
+    match verdict {
+        Verdict::Malformed { log, bad } => Some(NoRecords::Malformed {
+            log: *log,
+            bad: *bad,
+        }),
+        Verdict::Accepted(_) | Verdict::Rejected(_) => None,
+    }
 }
 
 /// The answer of a verdict: its status and its text.
@@ -31,6 +44,7 @@ pub fn verdict_answer(alloc: Global, verdict: &Verdict) -> Result<Answer, NoMemo
     Ok(Answer {
         status: status_of(verdict),
         text,
+        stop: stop_in(verdict),
     })
 }
 
@@ -56,6 +70,7 @@ pub fn done_answer(text: Vec<u8>) -> Answer
     Answer {
         status: Status::Accepted,
         text,
+        stop: None,
     }
 }
 

@@ -13,7 +13,8 @@ use audit_report::reports::{read_fault_text, too_long_text};
 use audit_report::statuses::Status;
 use log_source::put::put_all;
 use log_source::sink::Sink;
-use log_verdict::stops::Stop;
+use log_verdict::runs::Ran;
+use log_verdict::stops::{NoRecords, Stop};
 
 /// Writes the text and answers the status, or `WriteFault` where the sink fails.
 fn write_text<K: Sink>(out: &mut K, text: &[u8], status: Status) -> Status
@@ -40,24 +41,37 @@ fn write_stop<K: Sink>(out: &mut K, stop: Stop) -> Status
 
 /// Writes the text of an answer, or the line of a stop, and answers the status. Whatever command
 /// of the program and whatever reading decided that, the status has its cause in them; and where
-/// a log that was read is too long, the status says so, unless the sink failed.
+/// a log that was read is too long, the status says so, unless the sink failed. Why there are no
+/// records of the logs, where there are none, is handed on for whoever tells it.
 ///
 /// A command that writes while it reads has written a front of its text by then. What is decided
 /// is the rest of it, and the status is that of the whole.
-pub fn write_answer<P: Program, K: Sink>(out: &mut K, decided: Result<Answer, Stop>) -> Status
+pub fn write_answer<P: Program, K: Sink>(
+    out: &mut K,
+    decided: Result<Answer, Stop>,
+) -> Ran<Status, ()>
     ensures answers { (request : P.Request) (r : Reading)
         → DecidesAnswer r (P.command request) decided
-        → AnswersCommand r (P.command request) (K.state out.old) (K.state out.new) result }
+        → AnswersCommand r (P.command request) (K.state out.old) (K.state out.new)
+        result.status }
     ensures rest { (request : P.Request) (r : Reading) (before : SinkState) (early : List ℕ)
         → (P.command request).writes_early ≡ true → HasWritten before (K.state out.old) early
         → DecidesRest r (P.command request) early decided
-        → AnswersCommand r (P.command request) before (K.state out.new) result }
-    ensures too_long { (r : Reading) → StaysWithin r decided → AnswersTooLong r result }
+        → AnswersCommand r (P.command request) before (K.state out.new) result.status }
+    ensures too_long { (r : Reading) → StaysWithin r decided → AnswersTooLong r result.status }
     ensures stays { SinkStays (K.state out.old) (K.state out.new) }
 {
     match decided {
-        Ok(answer) => write_text(out, &answer.text, answer.status),
-        Err(stop) => write_stop(out, stop),
+        Ok(answer) => Ran {
+            status: write_text(out, &answer.text, answer.status),
+            stop: answer.stop,
+            back: (),
+        },
+        Err(stop) => Ran {
+            status: write_stop(out, stop),
+            stop: Some(NoRecords::Stopped(stop)),
+            back: (),
+        },
     }
 }
 

@@ -17,7 +17,7 @@ use offence_list::offences::ListedOffence;
 use order_arrivals::arrivals::Arrivals;
 use order_arrivals::dealt_orders::DealtOrders;
 use order_arrivals::resting::rests;
-use order_arrivals::totals::RunningTotals;
+use order_arrivals::totals::TradedSoFar;
 use order_list::listed::is_within;
 use order_list::lists::OrderList;
 
@@ -91,7 +91,7 @@ pub(crate) fn first_deal_offence(
     arrivals: &Arrivals,
     before: &[u128],
     order: usize,
-    running: &mut RunningTotals,
+    running: &mut TradedSoFar,
 ) -> Option<ListedOffence>
     requires market { IsMarket market.now }
     requires order { order < length market.now.orders.now }

@@ -20,15 +20,15 @@ use audit_base::faults::NoMemory;
 use offence_list::offences::ListedOffence;
 use order_arrivals::arrivals::Arrivals;
 use order_arrivals::dealt_orders::DealtOrders;
-use order_arrivals::totals::RunningTotals;
+use order_arrivals::totals::TradedSoFar;
 use std::alloc::Global;
 
 /// What the orders have traded, and which of them may rest.
 #[derive(Drop)]
 pub(crate) struct ListingState {
     /// What each order has traded before the place of an order, and after its deals.
-    before: RunningTotals,
-    after: RunningTotals,
+    before: TradedSoFar,
+    after: TradedSoFar,
     books: RestingBooks,
 }
 
@@ -102,8 +102,8 @@ impl ListingState {
     {
         let count = market.orders.len();
         Ok(ListingState {
-            before: RunningTotals::new(alloc, count)?,
-            after: RunningTotals::new(alloc, count)?,
+            before: TradedSoFar::new(alloc, count)?,
+            after: TradedSoFar::new(alloc, count)?,
             books: RestingBooks::new(alloc),
         })
     }

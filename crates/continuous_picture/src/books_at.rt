@@ -13,7 +13,7 @@ use audit_base::terms::Side;
 use matching_core::totals::left_of;
 use order_arrivals::dealt_orders::DealtOrders;
 use order_arrivals::resting::rests;
-use order_arrivals::totals::RunningTotals;
+use order_arrivals::totals::TradedSoFar;
 use order_book::books::{Book, Resting};
 use order_list::lists::OrderList;
 use std::alloc::Global;
@@ -44,13 +44,13 @@ fn totals_before(
     alloc: Global,
     market: &DealtOrders<'_>,
     place: u64,
-) -> Result<RunningTotals, NoMemory>
+) -> Result<TradedSoFar, NoMemory>
     requires { IsMarket market.now }
     ensures { IfOk result (λ totals. AreTradedBefore market.now.orders.now market.now.deals.now
         place totals.traded.items) }
 {
     let orders = market.orders;
-    let mut totals = RunningTotals::new(alloc, orders.len())?;
+    let mut totals = TradedSoFar::new(alloc, orders.len())?;
     for order in 0..orders.len() {
         if is_from(orders, order, place) {
             return Ok(totals);

@@ -14,7 +14,7 @@ use audit_base::faults::NoMemory;
 use audit_base::numbers::Price;
 use audit_base::terms::Side;
 use order_arrivals::dealt_orders::DealtOrders;
-use order_arrivals::totals::RunningTotals;
+use order_arrivals::totals::TradedSoFar;
 use order_book::books::Book;
 use std::alloc::Global;
 
@@ -24,7 +24,7 @@ pub(crate) struct Walk {
     /// The orders that may be active. What is left of them is not kept there.
     bids: Book,
     asks: Book,
-    totals: RunningTotals,
+    totals: TradedSoFar,
     /// The index of the first order that has not come.
     next: usize,
 }
@@ -59,7 +59,7 @@ impl Walk {
         Ok(Walk {
             bids: Book::new(alloc, Side::Buy),
             asks: Book::new(alloc, Side::Sell),
-            totals: RunningTotals::new(alloc, market.orders.len())?,
+            totals: TradedSoFar::new(alloc, market.orders.len())?,
             next: 0,
         })
     }

@@ -5,7 +5,7 @@ ghost use Rattle.audit_base.specs.declared.terms.Which.{Which};
 
 use audit_base::faults::NoMemory;
 use desk_filing::memory_opener::MemoryDigestOpener;
-use desk_filing::running::{FilingEnd, run_filing};
+use desk_filing::running::run_filing;
 use desk_page::running::run_page;
 use desk_program::pictures::RulePictures;
 use desk_run::running::run_desk;
@@ -39,8 +39,8 @@ pub(crate) fn make_call<F: Shelf + Drop>(
     let mut out = MemorySink::new(alloc, ROOM, ROOM, Vec::new(alloc))?;
     if asks_filing(words) {
         let mut opener = MemoryDigestOpener::new(alloc, *kept, Vec::new(alloc), Vec::new(alloc));
-        let FilingEnd { status, book, .. } = run_filing(alloc, words, shelf, &mut out, &mut opener);
-        let status = status.number();
+        let ran = run_filing(alloc, words, shelf, &mut out, &mut opener);
+        let (status, book) = (ran.status.number(), ran.back.book);
         return Ok(Came { status, out, book });
     }
     let status = call_without_database(alloc, words, shelf, &mut out);
@@ -58,8 +58,8 @@ fn call_without_database<F: Shelf + Drop>(
     requires fresh { (which : Which) → (F.slot shelf which).started ≡ false }
 {
     if asks_page(words) {
-        let end = run_page::<RulePictures, F, MemorySink>(alloc, words, shelf, out);
-        return end.status.number();
+        let ran = run_page::<RulePictures, F, MemorySink>(alloc, words, shelf, out);
+        return ran.status.number();
     }
     let mut shelf = shelf;
     run_desk(alloc, words, &mut shelf, out).number()

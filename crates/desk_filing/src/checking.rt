@@ -100,6 +100,7 @@ fn comparison(
     Ok(CaseAnswer {
         status: comparison_status(difference),
         text: comparison_text(alloc, label, difference)?,
+        stop: None,
     })
 }
 
@@ -212,6 +213,7 @@ fn check_kept<'a, F: Shelf>(
         None => Ok(CaseAnswer {
             status: CaseStatus::Refused,
             text: no_digest_text(alloc, &request.label)?,
+            stop: None,
         }),
     }
 }
@@ -245,6 +247,7 @@ pub(crate) fn check_in<'a, F: Shelf, B: DigestKeeper>(
         Ok(None) => Ok(CaseAnswer {
             status: CaseStatus::Refused,
             text: no_case_text(alloc, &request.label)?,
+            stop: None,
         }),
         Err(fault) => Err(Halt::from(fault)),
     }

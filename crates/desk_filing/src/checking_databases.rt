@@ -19,6 +19,7 @@ use case_run::halts::Halt;
 use log_digests::digest_shelf::DigestShelf;
 use log_source::shelf::Shelf;
 use log_source::sink::Sink;
+use log_verdict::runs::Ran;
 use log_verdict::sources::LogSources;
 use std::alloc::Global;
 
@@ -30,7 +31,7 @@ fn check_database<'a, F: Shelf, K: Sink, O: DigestOpener>(
     logs: &LogSources<'_>,
     out: &mut K,
     opener: &mut O,
-) -> Ended<O::Book>
+) -> Ran<CaseStatus, Option<O::Book>>
     requires limit { HaveOneLimit logs.now.orders logs.now.trades }
     requires names { NamesLogs request.now.logs logs.now.orders logs.now.trades }
     requires asked { request.now.command ≡ Check }
@@ -41,7 +42,7 @@ fn check_database<'a, F: Shelf, K: Sink, O: DigestOpener>(
         let second = reading_by logs.now.orders shelves shelf.old shelf.new in (first : Reading)
         → GoesOn first second → ReadsRecords first request.now.logs AnyRecords
         → RunsRequest (filing_call (both_readings first second) (O.state opener.old)
-        (O.state opener.new) (option_map O.Book.state result.book)) request.now
+        (O.state opener.new) (option_map O.Book.state result.back)) request.now
         (K.state out.old) (K.state out.new) result.status }
     ensures length { let shelves = ⟦<DigestShelf<'a, F> as Shelf>⟧ in
         let second = reading_by logs.now.orders shelves shelf.old shelf.new in
@@ -52,9 +53,11 @@ fn check_database<'a, F: Shelf, K: Sink, O: DigestOpener>(
     match opener.open(request.database.as_str(), Missing::Refuse) {
         Ok(mut book) => {
             let answer = check_in(alloc, shelf, request, &logs.orders, &logs.trades, &mut book);
-            Ended {
-                status: write_decided(out, answer),
-                book: Some(book),
+            let ran = write_decided(out, answer);
+            Ran {
+                status: ran.status,
+                stop: ran.stop,
+                back: Some(book),
             }
         }
         Err(fault) => end_unopened(out, Err(Halt::from(fault))),
@@ -69,7 +72,7 @@ pub(crate) fn check<'a, F: Shelf, K: Sink, O: DigestOpener>(
     logs: &LogSources<'_>,
     out: &mut K,
     opener: &mut O,
-) -> Ended<O::Book>
+) -> Ran<CaseStatus, Option<O::Book>>
     requires limit { HaveOneLimit logs.now.orders logs.now.trades }
     requires names { NamesLogs request.now.logs logs.now.orders logs.now.trades }
     requires asked { request.now.command ≡ Check }
@@ -78,7 +81,7 @@ pub(crate) fn check<'a, F: Shelf, K: Sink, O: DigestOpener>(
     ensures runs { let shelves = ⟦<DigestShelf<'a, F> as Shelf>⟧ in
         let r = reading_by logs.now.orders shelves shelf.old shelf.new in
         RunsRequest (filing_call r (O.state opener.old) (O.state opener.new)
-        (option_map O.Book.state result.book)) request.now (K.state out.old) (K.state out.new)
+        (option_map O.Book.state result.back)) request.now (K.state out.old) (K.state out.new)
         result.status }
     ensures length { let shelves = ⟦<DigestShelf<'a, F> as Shelf>⟧ in
         EndsWithinOrAnswers (reading_by logs.now.orders shelves shelf.old shelf.new) result.status }

@@ -22,28 +22,27 @@ use case_run::halts::Halt;
 use case_run::statuses::CaseStatus;
 use digest_keeper::digested::DigestedCase;
 use log_source::sink::Sink;
+use log_verdict::runs::Ran;
 use std::alloc::Global;
 
-/// How a command ended: its status, and what is on file, where the database was opened.
-#[derive(Drop)]
-pub(crate) struct Ended<B> {
-    pub(crate) status: CaseStatus,
-    pub(crate) book: Option<B>,
-}
-
-/// How a command ends that opens no database.
-pub(crate) fn end_unopened<K: Sink, B>(out: &mut K, decided: Result<CaseAnswer, Halt>) -> Ended<B>
+/// What a command leaves that opens no database: it hands back none.
+pub(crate) fn end_unopened<K: Sink, B>(
+    out: &mut K,
+    decided: Result<CaseAnswer, Halt>,
+) -> Ran<CaseStatus, Option<B>>
     ensures runs { (call : FilingCall) (request : ARequest)
         → DecidesRequest call request decided
         → RunsRequest call request (K.state out.old) (K.state out.new) result.status }
     ensures length { (r : Reading) → EndsWithinOrHalts r decided
         → EndsWithinOrAnswers r result.status }
     ensures stays { SinkStays (K.state out.old) (K.state out.new) }
-    ensures unopened { result.book ≡ None }
+    ensures unopened { result.back ≡ None }
 {
-    Ended {
-        status: write_decided(out, decided),
-        book: None,
+    let ran = write_decided(out, decided);
+    Ran {
+        status: ran.status,
+        stop: ran.stop,
+        back: None,
     }
 }
 
@@ -55,11 +54,11 @@ fn file_with_text<K: Sink, O: DigestOpener>(
     text: Vec<u8>,
     out: &mut K,
     opener: &mut O,
-) -> Ended<O::Book>
+) -> Ran<CaseStatus, Option<O::Book>>
     requires text { text.items ≡ case_lines cases.now }
     requires made { missing_database request.now.command ≡ Missing.Make }
     ensures runs { (r : Reading) → ReadsCases r request.now cases.now → RunsRequest
-        (filing_call r (O.state opener.old) (O.state opener.new) (option_map O.Book.state result.book))
+        (filing_call r (O.state opener.old) (O.state opener.new) (option_map O.Book.state result.back))
         request.now (K.state out.old) (K.state out.new) result.status }
     ensures opener { KeepsDatabases (O.state opener.old) (O.state opener.new) }
     ensures stays { SinkStays (K.state out.old) (K.state out.new) }
@@ -67,9 +66,11 @@ fn file_with_text<K: Sink, O: DigestOpener>(
     match opener.open(request.database.as_str(), Missing::Make) {
         Ok(mut book) => {
             let answer = file_in(alloc, cases, text, &mut book);
-            Ended {
-                status: write_decided(out, answer),
-                book: Some(book),
+            let ran = write_decided(out, answer);
+            Ran {
+                status: ran.status,
+                stop: ran.stop,
+                back: Some(book),
             }
         }
         Err(fault) => end_unopened(out, Err(Halt::from(fault))),
@@ -83,10 +84,10 @@ fn file_cases<K: Sink, O: DigestOpener>(
     cases: &[DigestedCase],
     out: &mut K,
     opener: &mut O,
-) -> Ended<O::Book>
+) -> Ran<CaseStatus, Option<O::Book>>
     requires made { missing_database request.now.command ≡ Missing.Make }
     ensures runs { (r : Reading) → ReadsCases r request.now cases.now → RunsRequest
-        (filing_call r (O.state opener.old) (O.state opener.new) (option_map O.Book.state result.book))
+        (filing_call r (O.state opener.old) (O.state opener.new) (option_map O.Book.state result.back))
         request.now (K.state out.old) (K.state out.new) result.status }
     ensures opener { KeepsDatabases (O.state opener.old) (O.state opener.new) }
     ensures stays { SinkStays (K.state out.old) (K.state out.new) }
@@ -104,10 +105,10 @@ pub(crate) fn file_judged<K: Sink, O: DigestOpener>(
     judged: Result<Judged, Halt>,
     out: &mut K,
     opener: &mut O,
-) -> Ended<O::Book>
+) -> Ran<CaseStatus, Option<O::Book>>
     requires made { missing_database request.now.command ≡ Missing.Make }
     ensures runs { (r : Reading) → JudgesLogs r request.now judged → RunsRequest
-        (filing_call r (O.state opener.old) (O.state opener.new) (option_map O.Book.state result.book))
+        (filing_call r (O.state opener.old) (O.state opener.new) (option_map O.Book.state result.back))
         request.now (K.state out.old) (K.state out.new) result.status }
     ensures length { (r : Reading) → EndsWithinOrHalts r judged
         → EndsWithinOrAnswers r result.status }

@@ -140,6 +140,7 @@ fn judged_cases(alloc: Global, day: DayCases) -> Result<Judged, NoMemory>
         Some(symbol) => Ok(Judged::Refused(CaseAnswer {
             status: CaseStatus::Refused,
             text: long_label_text(alloc, &symbol)?,
+            stop: None,
         })),
         None => Ok(Judged::Cases(cases)),
     }
@@ -168,6 +169,7 @@ fn unpaired_answer(alloc: Global, finding: &Finding) -> Result<CaseAnswer, NoMem
     Ok(CaseAnswer {
         status: CaseStatus::Refused,
         text: finding_text(alloc, finding)?,
+        stop: None,
     })
 }
 

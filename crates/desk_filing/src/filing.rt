@@ -42,12 +42,14 @@ pub(crate) fn file_in<B: DigestKeeper>(
         Some(known) => Ok(CaseAnswer {
             status: CaseStatus::Refused,
             text: known_text(alloc, &known.case)?,
+            stop: None,
         }),
         None => {
             book.file_all(cases)?;
             Ok(CaseAnswer {
                 status: CaseStatus::Done,
                 text,
+                stop: None,
             })
         }
     }

@@ -18,9 +18,8 @@ use audit_base::names::Name;
 use audit_base::terms::{Rule, Which};
 use audit_report::verdicts::Verdict;
 use case_keeper::case::{Case, Offence};
-use case_run::answers::{CaseAnswer, malformed_text, offence_of};
+use case_run::answers::{self, CaseAnswer, offence_of};
 use case_run::halts::Halt;
-use case_run::statuses::CaseStatus;
 use digest_keeper::digested::DigestedCase;
 use log_digests::digest_shelf::DigestShelf;
 use log_digests::digests::LogDigests;
@@ -69,10 +68,7 @@ pub(crate) fn malformed_answer(
 ) -> Result<CaseAnswer, NoMemory>
     ensures { IfOk result (TellsBadPlace (Verdict.Malformed log bad.now)) }
 {
-    Ok(CaseAnswer {
-        status: CaseStatus::Malformed,
-        text: malformed_text(alloc, log, bad)?,
-    })
+    Ok(answers::malformed_answer(alloc, log, bad)?)
 }
 
 /// The case of an audit that ended so, alone.

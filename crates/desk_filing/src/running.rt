@@ -14,7 +14,7 @@ ghost use Rattle.log_source.specs.Sources.{longest_read};
 ghost use Rattle.log_verdict.specs.Steps.{reading_within};
 
 use crate::checking_databases::check;
-use crate::databases::{Ended, file_judged};
+use crate::databases::file_judged;
 use crate::days::judge_day;
 use crate::judging::judge_symbol;
 use crate::laws::one_filing_turn;
@@ -28,16 +28,16 @@ use desk_words::texts::desk_usage_text;
 use log_digests::digest_shelf::DigestShelf;
 use log_source::shelf::Shelf;
 use log_source::sink::Sink;
+use log_verdict::runs::Ran;
 use log_verdict::sources::{LogSources, Source};
 use record_verdict::questions::Question;
 use seeded_hash::seed::HashSeed;
 use std::alloc::Global;
 
-/// How a call ended: its status; the shelf that its logs were read from; and the keeper of what is
-/// on file, where the database was opened.
+/// What a call hands back: the shelf that its logs were read from; and the keeper of what is on
+/// file, where the database was opened.
 #[derive(Drop)]
-pub struct FilingEnd<F, B> {
-    pub status: CaseStatus,
+pub struct HandedBack<F, B> {
     pub shelf: F,
     pub book: Option<B>,
 }
@@ -61,11 +61,11 @@ fn run_over<'a, F: Shelf, K: Sink, O: DigestOpener>(
     shelf: &mut DigestShelf<'a, F>,
     out: &mut K,
     opener: &mut O,
-) -> Ended<O::Book>
+) -> Ran<CaseStatus, Option<O::Book>>
     ensures files { let shelves = ⟦<DigestShelf<'a, F> as Shelf>⟧ in
         let r = reading_within longest_read shelves shelf.old shelf.new in
         FilesRequest (filing_call r (O.state opener.old) (O.state opener.new)
-        (option_map O.Book.state result.book)) request.now (K.state out.old) (K.state out.new)
+        (option_map O.Book.state result.back)) request.now (K.state out.old) (K.state out.new)
         result.status }
     ensures opener { KeepsDatabases (O.state opener.old) (O.state opener.new) }
     ensures stays { SinkStays (K.state out.old) (K.state out.new) }
@@ -102,22 +102,25 @@ fn run_request<F: Shelf, K: Sink, O: DigestOpener>(
     shelf: F,
     out: &mut K,
     opener: &mut O,
-) -> FilingEnd<F, O::Book>
+) -> Ran<CaseStatus, HandedBack<F, O::Book>>
     requires fresh { (which : Which) → (F.slot shelf which).started ≡ false }
-    ensures files { let r = filing_reading F.Shelf request.now.logs shelf result.shelf in
+    ensures files { let r = filing_reading F.Shelf request.now.logs shelf result.back.shelf in
         FilesRequest (filing_call r (O.state opener.old) (O.state opener.new)
-        (option_map O.Book.state result.book)) request.now (K.state out.old) (K.state out.new)
+        (option_map O.Book.state result.back.book)) request.now (K.state out.old) (K.state out.new)
         result.status }
     ensures opener { KeepsDatabases (O.state opener.old) (O.state opener.new) }
     ensures stays { SinkStays (K.state out.old) (K.state out.new) }
 {
     let (orders, trades) = (request.logs.orders.as_str(), request.logs.trades.as_str());
     let mut taking = DigestShelf::over(shelf, orders, trades);
-    let Ended { status, book } = run_over(alloc, seed, request, &mut taking, out, opener);
-    FilingEnd {
-        status,
-        shelf: taking.into_shelf(),
-        book,
+    let ran = run_over(alloc, seed, request, &mut taking, out, opener);
+    Ran {
+        status: ran.status,
+        stop: ran.stop,
+        back: HandedBack {
+            shelf: taking.into_shelf(),
+            book: ran.back,
+        },
     }
 }
 
@@ -144,11 +147,11 @@ pub fn run_filing<F: Shelf, K: Sink, O: DigestOpener>(
     shelf: F,
     out: &mut K,
     opener: &mut O,
-) -> FilingEnd<F, O::Book>
+) -> Ran<CaseStatus, HandedBack<F, O::Book>>
     requires fresh { (which : Which) → (F.slot shelf which).started ≡ false }
-    ensures files { FilesAsked F.Shelf shelf result.shelf
+    ensures files { FilesAsked F.Shelf shelf result.back.shelf
         (filing_request_of (map string_bytes words.now)) (O.state opener.old) (O.state opener.new)
-        (option_map O.Book.state result.book) (K.state out.old) (K.state out.new) result.status }
+        (option_map O.Book.state result.back.book) (K.state out.old) (K.state out.new) result.status }
     ensures opener { KeepsDatabases (O.state opener.old) (O.state opener.new) }
     ensures sink { SinkStays (K.state out.old) (K.state out.new) }
     ensures one { OneFilingTurn }
@@ -164,11 +167,11 @@ pub fn run_filing_seeded<F: Shelf, K: Sink, O: DigestOpener>(
     shelf: F,
     out: &mut K,
     opener: &mut O,
-) -> FilingEnd<F, O::Book>
+) -> Ran<CaseStatus, HandedBack<F, O::Book>>
     requires fresh { (which : Which) → (F.slot shelf which).started ≡ false }
-    ensures files { FilesAsked F.Shelf shelf result.shelf
+    ensures files { FilesAsked F.Shelf shelf result.back.shelf
         (filing_request_of (map string_bytes words.now)) (O.state opener.old) (O.state opener.new)
-        (option_map O.Book.state result.book) (K.state out.old) (K.state out.new) result.status }
+        (option_map O.Book.state result.back.book) (K.state out.old) (K.state out.new) result.status }
     ensures opener { KeepsDatabases (O.state opener.old) (O.state opener.new) }
     ensures sink { SinkStays (K.state out.old) (K.state out.new) }
     ensures one { OneFilingTurn }
@@ -176,10 +179,10 @@ pub fn run_filing_seeded<F: Shelf, K: Sink, O: DigestOpener>(
     one_filing_turn();
     match read_filing_words(alloc, words) {
         Ok(request) => run_request(alloc, seed, &request, shelf, out, opener),
-        Err(fault) => FilingEnd {
+        Err(fault) => Ran {
             status: refuse_words(out, fault),
-            shelf,
-            book: None,
+            stop: None,
+            back: HandedBack { shelf, book: None },
         },
     }
 }

@@ -64,6 +64,7 @@ fn answer_found(
     Ok(Answer {
         status: Status::Rejected,
         text,
+        stop: None,
     })
 }
 
@@ -86,6 +87,7 @@ fn answer_market<D: Drawing>(
     Ok(Answer {
         status: judged.status(),
         text,
+        stop: None,
     })
 }
 

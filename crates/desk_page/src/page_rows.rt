@@ -4,7 +4,7 @@ ghost use Rattle.audit_base.specs.declared.terms.Which.{Which};
 ghost use Rattle.log_source.specs.MemoryShelves.{memory_slot};
 
 use crate::drawings::Drawing;
-use crate::running::{PageEnd, run_page};
+use crate::running::run_page;
 use audit_base::faults::NoMemory;
 use audit_base::findings::Finding;
 use audit_base::orders::Deal;
@@ -89,13 +89,9 @@ fn shelf_of(alloc: Global) -> Result<MemoryShelf, NoMemory>
 fn make_call(alloc: Global, line: &str) -> Result<(Status, MemorySink), NoMemory> {
     let words = split_words(alloc, line)?;
     let mut out = MemorySink::new(alloc, 65536, 4096, Vec::new(alloc))?;
-    let PageEnd { status, .. } = run_page::<NoPicture, MemoryShelf, MemorySink>(
-        alloc,
-        &words,
-        shelf_of(alloc)?,
-        &mut out,
-    );
-    Ok((status, out))
+    let shelf = shelf_of(alloc)?;
+    let ran = run_page::<NoPicture, MemoryShelf, MemorySink>(alloc, &words, shelf, &mut out);
+    Ok((ran.status, out))
 }
 
 /// How the page of a verdict ends, from its heading to the digests, which `sha256sum` gave.

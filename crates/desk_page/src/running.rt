@@ -26,18 +26,12 @@ use command_words::requests::WordsFault;
 use log_digests::digest_shelf::DigestShelf;
 use log_source::shelf::Shelf;
 use log_source::sink::Sink;
+use log_verdict::runs::Ran;
 use log_verdict::sources::Source;
 use log_verdict::stops::Stop;
 use seeded_hash::seed::HashSeed;
 use std::alloc::Global;
 use std::marker::Brand;
-
-/// How a call ended: its status, and the shelf that its logs were read from.
-#[derive(Drop)]
-pub struct PageEnd<F> {
-    pub status: Status,
-    pub shelf: F,
-}
 
 /// The answer to a request over a shelf that takes the digests of what is read from it.
 fn answer_page<'a, D: Drawing, W: KnownLogs, F: Shelf>(
@@ -71,12 +65,12 @@ fn run_over<'a, D: Drawing, W: KnownLogs, F: Shelf, K: Sink>(
     request: &PageRequest,
     shelf: &mut DigestShelf<'a, F>,
     out: &mut K,
-) -> Status
+) -> Ran<Status, ()>
     requires { let shelves = ⟦<DigestShelf<'a, F> as Shelf>⟧ in
         W.shelf ≡ logs_in (reading_within longest_read shelves shelf.old shelf.old) }
     ensures answers { let shelves = ⟦<DigestShelf<'a, F> as Shelf>⟧ in
         AnswersPage D.is_picture (reading_within longest_read shelves shelf.old shelf.new)
-        request.now (K.state out.old) (K.state out.new) result }
+        request.now (K.state out.old) (K.state out.new) result.status }
     ensures stays { SinkStays (K.state out.old) (K.state out.new) }
 {
     // A law that the answer rests on. It computes nothing.
@@ -92,20 +86,21 @@ fn run_known<D: Drawing, W: KnownLogs, F: Shelf, K: Sink>(
     request: &PageRequest,
     shelf: F,
     out: &mut K,
-) -> PageEnd<F>
+) -> Ran<Status, F>
     requires fresh { (which : Which) → (F.slot shelf which).started ≡ false }
     requires known { W.shelf ≡ logs_in (page_reading F.Shelf request.now.logs shelf shelf) }
     ensures answers { AnswersPage D.is_picture
-        (page_reading F.Shelf request.now.logs shelf result.shelf)
+        (page_reading F.Shelf request.now.logs shelf result.back)
         request.now (K.state out.old) (K.state out.new) result.status }
     ensures stays { SinkStays (K.state out.old) (K.state out.new) }
 {
     let (orders, trades) = (request.logs.orders.as_str(), request.logs.trades.as_str());
     let mut taking = DigestShelf::over(shelf, orders, trades);
-    let status = run_over::<D, W, F, K>(alloc, seed, request, &mut taking, out);
-    PageEnd {
-        status,
-        shelf: taking.into_shelf(),
+    let ran = run_over::<D, W, F, K>(alloc, seed, request, &mut taking, out);
+    Ran {
+        status: ran.status,
+        stop: ran.stop,
+        back: taking.into_shelf(),
     }
 }
 
@@ -116,10 +111,10 @@ fn run_request<D: Drawing, F: Shelf, K: Sink>(
     request: &PageRequest,
     shelf: F,
     out: &mut K,
-) -> PageEnd<F>
+) -> Ran<Status, F>
     requires { (which : Which) → (F.slot shelf which).started ≡ false }
     ensures answers { AnswersPage D.is_picture
-        (page_reading F.Shelf request.now.logs shelf result.shelf)
+        (page_reading F.Shelf request.now.logs shelf result.back)
         request.now (K.state out.old) (K.state out.new) result.status }
     ensures stays { SinkStays (K.state out.old) (K.state out.new) }
 {
@@ -158,10 +153,10 @@ pub fn run_page<D: Drawing, F: Shelf, K: Sink>(
     words: &[String],
     shelf: F,
     out: &mut K,
-) -> PageEnd<F>
+) -> Ran<Status, F>
     requires fresh { (which : Which) → (F.slot shelf which).started ≡ false }
     ensures answers { AnswersPageWords D.is_picture F.Shelf
-        (page_request_of (map string_bytes words.now)) shelf result.shelf
+        (page_request_of (map string_bytes words.now)) shelf result.back
         (K.state out.old) (K.state out.new) result.status }
     ensures sink { SinkStays (K.state out.old) (K.state out.new) }
 {
@@ -175,18 +170,19 @@ pub fn run_page_seeded<D: Drawing, F: Shelf, K: Sink>(
     words: &[String],
     shelf: F,
     out: &mut K,
-) -> PageEnd<F>
+) -> Ran<Status, F>
     requires fresh { (which : Which) → (F.slot shelf which).started ≡ false }
     ensures answers { AnswersPageWords D.is_picture F.Shelf
-        (page_request_of (map string_bytes words.now)) shelf result.shelf
+        (page_request_of (map string_bytes words.now)) shelf result.back
         (K.state out.old) (K.state out.new) result.status }
     ensures sink { SinkStays (K.state out.old) (K.state out.new) }
 {
     match read_page_words(alloc, words) {
         Ok(request) => run_request::<D, F, K>(alloc, seed, &request, shelf, out),
-        Err(fault) => PageEnd {
+        Err(fault) => Ran {
             status: refuse_words::<D, K>(out, fault),
-            shelf,
+            stop: None,
+            back: shelf,
         },
     }
 }

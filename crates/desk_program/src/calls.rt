@@ -7,23 +7,17 @@ ghost use Rattle.desk_program.specs.Answers.{DeskAnswersWords};
 
 use crate::ends::DeskEnd;
 use crate::pictures::RulePictures;
-use desk_page::running::{PageEnd, run_page_seeded};
+use desk_page::running::run_page_seeded;
 use desk_run::running::run_desk_seeded;
 use desk_words::commands::{asks_filing, asks_page};
-use digest_files::closing::{ClosedEnd, ClosingDigests, file_and_close};
+use digest_files::closing::{ClosingDigests, file_and_close};
 use log_source::shelf::Shelf;
 use log_source::sink::Sink;
+use log_verdict::runs::Ran;
 use seeded_hash::seed::HashSeed;
 use std::alloc::Global;
 
-/// How a call ended, and the shelf that its logs were read from.
-#[derive(Drop)]
-pub(crate) struct EndedCall<F> {
-    pub(crate) end: DeskEnd,
-    pub(crate) shelf: F,
-}
-
-/// Asks the call that the first word is for.
+/// Asks the call that the first word is for. The shelf that its logs were read from is handed back.
 pub(crate) fn ask_call<F: Shelf, K: Sink, O: ClosingDigests>(
     alloc: Global,
     seed: HashSeed,
@@ -31,33 +25,34 @@ pub(crate) fn ask_call<F: Shelf, K: Sink, O: ClosingDigests>(
     shelf: F,
     out: &mut K,
     opener: &mut O,
-) -> EndedCall<F>
+) -> Ran<DeskEnd, F>
     requires fresh { (which : Which) → (F.slot shelf which).started ≡ false }
     ensures { DeskAnswersWords F.Shelf (map string_bytes words.now)
         (record { shelf = shelf; opener = O.state opener.old; sink = K.state out.old })
-        (record { shelf = result.shelf; opener = O.state opener.new; sink = K.state out.new })
-        result.end }
+        (record { shelf = result.back; opener = O.state opener.new; sink = K.state out.new })
+        result.status }
 {
     if asks_filing(words) {
-        let ClosedEnd { status, shelf } = file_and_close(alloc, seed, words, shelf, out, opener);
-        return EndedCall {
-            end: DeskEnd::Filed(status),
-            shelf,
+        let filed = file_and_close(alloc, seed, words, shelf, out, opener);
+        return Ran {
+            status: DeskEnd::Filed(filed.status),
+            stop: filed.stop,
+            back: filed.back,
         };
     }
     if asks_page(words) {
-        let PageEnd { status, shelf } = run_page_seeded::<RulePictures, F, K>(
-            alloc, seed, words, shelf, out,
-        );
-        return EndedCall {
-            end: DeskEnd::Run(status),
-            shelf,
+        let page = run_page_seeded::<RulePictures, F, K>(alloc, seed, words, shelf, out);
+        return Ran {
+            status: DeskEnd::Run(page.status),
+            stop: page.stop,
+            back: page.back,
         };
     }
     let mut shelf = shelf;
-    let status = run_desk_seeded(alloc, seed, words, &mut shelf, out);
-    EndedCall {
-        end: DeskEnd::Run(status),
-        shelf,
+    let ran = run_desk_seeded(alloc, seed, words, &mut shelf, out);
+    Ran {
+        status: DeskEnd::Run(ran.status),
+        stop: ran.stop,
+        back: shelf,
     }
 }

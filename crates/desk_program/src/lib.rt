@@ -17,7 +17,7 @@ pub mod ends;
 mod notes;
 pub mod pictures;
 
-use crate::calls::{EndedCall, ask_call};
+use crate::calls::ask_call;
 use crate::ends::{DeskEnd, exit_code};
 use crate::notes::{names_missing_database, tell, tell_made_database};
 use audit_report::statuses::Status;
@@ -30,13 +30,13 @@ use log_source::output::Output;
 use log_source::shelf::Shelf;
 use log_source::sink::Sink;
 use log_source::std_sink::StdSink;
+use log_verdict::runs::Ran;
 use std::io;
 use std::process::ExitCode;
 use std::random::RandomSource;
 use stderr_notes::command_line::CommandLine;
 use stderr_notes::noted_shelf::NotedShelf;
-use stderr_notes::noted_sink::NotedSink;
-use stderr_notes::program_ends::{noted_files, noted_output};
+use stderr_notes::program_ends::{UsedEnds, fresh_output, noted_files};
 
 /// Runs the command that the words of the command line ask for, with hashes of a random seed.
 fn answer_words<R: CommandLine + AllocGlobal + RandomSource, F: Shelf, K: Sink, O: ClosingDigests>(
@@ -44,30 +44,22 @@ fn answer_words<R: CommandLine + AllocGlobal + RandomSource, F: Shelf, K: Sink, 
     shelf: F,
     out: &mut K,
     opener: &mut O,
-) -> EndedCall<F>
+) -> Ran<DeskEnd, F>
     requires fresh { (which : Which) → (F.slot shelf which).started ≡ false }
     ensures { AnswersCommandLine (DeskAnswersWords F.Shelf) (ended.Run status.Memory)
         (R.known_words rt.now)
         (record { shelf = shelf; opener = O.state opener.old; sink = K.state out.old })
-        (record { shelf = result.shelf; opener = O.state opener.new; sink = K.state out.new })
-        result.end }
+        (record { shelf = result.back; opener = O.state opener.new; sink = K.state out.new })
+        result.status }
 {
     match rt.words() {
         Ok(words) => ask_call(rt.alloc(), seed_of(rt), &words, shelf, out, opener),
-        Err(_) => EndedCall {
-            end: DeskEnd::Run(Status::Memory),
-            shelf,
+        Err(_) => Ran {
+            status: DeskEnd::Run(Status::Memory),
+            stop: None,
+            back: shelf,
         },
     }
-}
-
-/// What a run leaves: how it ended, the files that it read and the output that it wrote, with what
-/// was noted of both.
-#[derive(Drop)]
-struct DeskRan<S: FileSystem, W> {
-    end: DeskEnd,
-    shelf: NotedShelf<FileShelf<S>>,
-    out: NotedSink<StdSink<W>>,
 }
 
 /// Runs the command that the words of the command line ask for over these files, this output and
@@ -77,19 +69,26 @@ fn run_over<
     S: FileSystem + Drop,
     W: Output + Drop,
     O: ClosingDigests,
->(rt: &R, files: S, output: W, opener: &mut O) -> DeskRan<S, W>
+>(rt: &R, files: S, output: W, opener: &mut O) -> Ran<DeskEnd, UsedEnds<S, W>>
     ensures { let shelf = ⟦<NotedShelf<FileShelf<S>> as Shelf>⟧ in
-        let state = ⟦<NotedSink<StdSink<W>> as Sink>⟧.state in
+        let state = ⟦<StdSink<W> as Sink>⟧.state in
         AnswersFrom (DeskAnswersWords shelf) (ended.Run status.Memory) (R.known_words rt.now)
         (DeskBegins shelf (S.tells files) (S.file_at files) (W.contents output)
         (O.state opener.old))
-        (record { shelf = result.shelf; opener = O.state opener.new; sink = state result.out })
-        result.end }
+        (record { shelf = result.back.shelf; opener = O.state opener.new;
+        sink = state result.back.out }) result.status }
 {
     let shelf = noted_files(rt.alloc(), files);
-    let mut out = noted_output(rt.alloc(), output);
-    let EndedCall { end, shelf } = answer_words(rt, shelf, &mut out, opener);
-    DeskRan { end, shelf, out }
+    let mut out = fresh_output(output);
+    let ran = answer_words(rt, shelf, &mut out, opener);
+    Ran {
+        status: ran.status,
+        stop: ran.stop,
+        back: UsedEnds {
+            shelf: ran.back,
+            out,
+        },
+    }
 }
 
 /// Runs the command over files and standard output.
@@ -109,10 +108,10 @@ fn answer(rt: HostRuntime) -> DeskEnd
     };
     let was_missing = names_missing_database(&rt, &words);
     let mut opener = FileDigestOpener::new(databases);
-    let DeskRan { end, shelf, out } = run_over(&rt, files, io::writer(&rt), &mut opener);
+    let ran = run_over(&rt, files, io::writer(&rt), &mut opener);
     tell_made_database(&rt, &words, was_missing);
-    tell(&rt, end, &words, &shelf, out.last());
-    end
+    tell(&rt, ran.status, &words, &ran.back.shelf, &ran.stop);
+    ran.status
 }
 
 /// Runs the program, and gives the exit code of its process.

@@ -5,6 +5,7 @@ use case_run::statuses::CaseStatus;
 use desk_words::commands::asks_filing;
 use log_source::limits::LONGEST_READ;
 use log_source::shelf::Shelf;
+use log_verdict::stops::NoRecords;
 use stderr_notes::database_notes::{
     is_database_missing, print_database_fault, print_made_database,
 };
@@ -57,7 +58,7 @@ pub(crate) fn tell<F: Shelf>(
     end: DeskEnd,
     words: &[String],
     shelf: &NotedShelf<F>,
-    last: &[u8],
+    stop: &Option<NoRecords>,
 ) {
     let status = match end {
         DeskEnd::Run(Status::Usage) | DeskEnd::Filed(CaseStatus::Usage) => {
@@ -74,6 +75,6 @@ pub(crate) fn tell<F: Shelf>(
         DeskEnd::Filed(status) => status_of_logs(status),
     };
     if let Some(status) = status {
-        print_end(rt, "desk", LONGEST_READ, status, shelf, last);
+        print_end(rt, "desk", LONGEST_READ, status, shelf, stop);
     }
 }

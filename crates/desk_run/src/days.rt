@@ -21,7 +21,7 @@ use day_sessions::answers::sessions_on;
 use day_sessions::questions::SessionQuestion;
 use log_source::shelf::Shelf;
 use log_verdict::sources::Source;
-use log_verdict::stops::Stop;
+use log_verdict::stops::{NoRecords, Stop};
 use session_audit::phases::Phase;
 use session_audit::texts::append_phases;
 use std::alloc::Global;
@@ -56,6 +56,17 @@ fn written_of_day(
     }
 }
 
+/// Why there are no records of the logs of a day, where this is the answer to them.
+fn stop_in_day(day: &DayAnswer) -> Option<NoRecords> {
+    match day {
+        DayAnswer::Malformed { log, bad } => Some(NoRecords::Malformed {
+            log: *log,
+            bad: *bad,
+        }),
+        DayAnswer::Unpaired(_) | DayAnswer::Judged(_) => None,
+    }
+}
+
 /// The answer that a day is, with what its symbols were judged by.
 fn day_answer(
     alloc: Global,
@@ -69,6 +80,7 @@ fn day_answer(
     Ok(Answer {
         status: status_of_day(day),
         text,
+        stop: stop_in_day(day),
     })
 }
 

@@ -36,6 +36,7 @@ use log_source::limits::LONGEST_READ;
 use log_source::shelf::Shelf;
 use log_source::sink::Sink;
 use log_source::take::TakeFault;
+use log_verdict::runs::Ran;
 use log_verdict::stops::Stop;
 use plain_logs::day_ends::{DayEnd, PlainFault};
 use plain_logs::logs::{DaySource, write_framed, write_on_lines};
@@ -67,6 +68,7 @@ fn end_answer(alloc: Global, end: DayEnd) -> Result<Answer, NoMemory>
             Ok(Answer {
                 status: line.status,
                 text,
+                stop: line.stop,
             })
         }
     }
@@ -191,21 +193,26 @@ pub(crate) fn run_plain<F: Shelf, K: Sink>(
     out: &mut K,
     day: &PathText,
     dress: &DayDress,
-) -> Status
+) -> Ran<Status, ()>
     requires { HasSohWord dress.now }
     ensures logs { KeepsShelfLogs F.Shelf shelf.old shelf.new }
     ensures later { FaultsNeverFall (desk_reading F.Shelf shelf.old shelf.new) }
     ensures stays { SinkStays (K.state out.old) (K.state out.new) }
     ensures answers { AnswersCommand (desk_reading F.Shelf shelf.old shelf.new)
         (desk_command_of (Early (Plain day.now dress.now)))
-        (K.state out.old) (K.state out.new) result }
-    ensures too_long { AnswersTooLong (desk_reading F.Shelf shelf.old shelf.new) result }
+        (K.state out.old) (K.state out.new) result.status }
+    ensures too_long { AnswersTooLong (desk_reading F.Shelf shelf.old shelf.new)
+        result.status }
 {
     match write_day(alloc, shelf, out, day, dress) {
         Ok(end) => write_answer::<Desk, K>(out, end_or_stop(alloc, end)),
         Err(PlainFault::Log(fault)) => {
             write_answer::<Desk, K>(out, Err(stop_of_take(Which::Orders, fault)))
         }
-        Err(PlainFault::Sink) => Status::WriteFault,
+        Err(PlainFault::Sink) => Ran {
+            status: Status::WriteFault,
+            stop: None,
+            back: (),
+        },
     }
 }

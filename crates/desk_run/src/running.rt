@@ -21,6 +21,7 @@ use command_words::requests::WordsFault;
 use desk_words::requests::{DeskRequest, EarlyRequest, WholeRequest, read_desk_words};
 use log_source::shelf::Shelf;
 use log_source::sink::Sink;
+use log_verdict::runs::Ran;
 use seeded_hash::seed::HashSeed;
 use std::alloc::Global;
 
@@ -31,14 +32,16 @@ fn run_whole<F: Shelf, K: Sink>(
     shelf: &mut F,
     out: &mut K,
     request: &WholeRequest,
-) -> Status
+) -> Ran<Status, ()>
     requires { MayBeAskedWhole request.now }
     ensures logs { KeepsShelfLogs F.Shelf shelf.old shelf.new }
     ensures later { FaultsNeverFall (desk_reading F.Shelf shelf.old shelf.new) }
     ensures stays { SinkStays (K.state out.old) (K.state out.new) }
     ensures answers { AnswersCommand (desk_reading F.Shelf shelf.old shelf.new)
-        (desk_command_of (Whole request.now)) (K.state out.old) (K.state out.new) result }
-    ensures too_long { AnswersTooLong (desk_reading F.Shelf shelf.old shelf.new) result }
+        (desk_command_of (Whole request.now)) (K.state out.old) (K.state out.new)
+        result.status }
+    ensures too_long { AnswersTooLong (desk_reading F.Shelf shelf.old shelf.new)
+        result.status }
 {
     let decided = answer_whole(alloc, seed, shelf, request);
     write_answer::<Desk, K>(out, decided)
@@ -50,19 +53,23 @@ fn run_early<F: Shelf, K: Sink>(
     shelf: &mut F,
     out: &mut K,
     request: &EarlyRequest,
-) -> Status
+) -> Ran<Status, ()>
     requires { MayBeAskedEarly request.now }
     ensures logs { KeepsShelfLogs F.Shelf shelf.old shelf.new }
     ensures later { FaultsNeverFall (desk_reading F.Shelf shelf.old shelf.new) }
     ensures stays { SinkStays (K.state out.old) (K.state out.new) }
     ensures answers { AnswersCommand (desk_reading F.Shelf shelf.old shelf.new)
-        (desk_command_of (Early request.now)) (K.state out.old) (K.state out.new) result }
-    ensures too_long { AnswersTooLong (desk_reading F.Shelf shelf.old shelf.new) result }
+        (desk_command_of (Early request.now)) (K.state out.old) (K.state out.new)
+        result.status }
+    ensures too_long { AnswersTooLong (desk_reading F.Shelf shelf.old shelf.new)
+        result.status }
 {
     match request {
-        EarlyRequest::Orders { start, count, form } => {
-            run_orders(alloc, out, *start, *count, *form)
-        }
+        EarlyRequest::Orders { start, count, form } => Ran {
+            status: run_orders(alloc, out, *start, *count, *form),
+            stop: None,
+            back: (),
+        },
         EarlyRequest::Plain { day, dress } => run_plain(alloc, shelf, out, day, dress),
     }
 }
@@ -74,14 +81,16 @@ fn run_request<F: Shelf, K: Sink>(
     shelf: &mut F,
     out: &mut K,
     request: &DeskRequest,
-) -> Status
+) -> Ran<Status, ()>
     requires { MayBeAskedOfDesk request.now }
     ensures logs { KeepsShelfLogs F.Shelf shelf.old shelf.new }
     ensures later { FaultsNeverFall (desk_reading F.Shelf shelf.old shelf.new) }
     ensures stays { SinkStays (K.state out.old) (K.state out.new) }
     ensures answers { AnswersCommand (desk_reading F.Shelf shelf.old shelf.new)
-        (desk_command_of request.now) (K.state out.old) (K.state out.new) result }
-    ensures too_long { AnswersTooLong (desk_reading F.Shelf shelf.old shelf.new) result }
+        (desk_command_of request.now) (K.state out.old) (K.state out.new)
+        result.status }
+    ensures too_long { AnswersTooLong (desk_reading F.Shelf shelf.old shelf.new)
+        result.status }
 {
     match request {
         DeskRequest::Whole(asked) => run_whole(alloc, seed, shelf, out, asked),
@@ -111,27 +120,36 @@ pub fn run_desk<F: Shelf, K: Sink>(
     ensures { DeskAnswers F.Shelf (desk_request_of (map string_bytes words.now))
         shelf.old shelf.new (K.state out.old) (K.state out.new) result }
 {
-    run_desk_seeded(alloc, HashSeed::fixed(), words, shelf, out)
+    run_desk_seeded(alloc, HashSeed::fixed(), words, shelf, out).status
 }
 
-/// The same as `run_desk`, with hashes of this seed. No answer depends on the seed. One that nobody
-/// knows beforehand keeps who writes the logs from choosing names that hash alike.
+/// The same as `run_desk`, with hashes of this seed, and with why there are no records of the logs,
+/// where there are none. No answer depends on the seed. One that nobody knows beforehand keeps who
+/// writes the logs from choosing names that hash alike.
 pub fn run_desk_seeded<F: Shelf, K: Sink>(
     alloc: Global,
     seed: HashSeed,
     words: &[String],
     shelf: &mut F,
     out: &mut K,
-) -> Status
+) -> Ran<Status, ()>
     ensures { DeskAnswers F.Shelf (desk_request_of (map string_bytes words.now))
-        shelf.old shelf.new (K.state out.old) (K.state out.new) result }
+        shelf.old shelf.new (K.state out.old) (K.state out.new) result.status }
 {
     // Laws that the answer rests on. They compute nothing.
     held_logs_are_answered::<Desk>();
     memory_is_answered::<Desk>();
     match read_desk_words(alloc, words) {
         Ok(request) => run_request(alloc, seed, shelf, out, &request),
-        Err(WordsFault::Usage) => write_usage::<Desk, K>(out),
-        Err(WordsFault::Memory) => Status::Memory,
+        Err(WordsFault::Usage) => Ran {
+            status: write_usage::<Desk, K>(out),
+            stop: None,
+            back: (),
+        },
+        Err(WordsFault::Memory) => Ran {
+            status: Status::Memory,
+            stop: None,
+            back: (),
+        },
     }
 }

@@ -6,9 +6,10 @@ ghost use Rattle.digest_files.specs.ClosedFilings.{FilesThenCloses};
 
 use case_run::statuses::CaseStatus;
 use desk_filing::opener::DigestOpener;
-use desk_filing::running::{FilingEnd, run_filing_seeded};
+use desk_filing::running::run_filing_seeded;
 use log_source::shelf::Shelf;
 use log_source::sink::Sink;
+use log_verdict::runs::Ran;
 use seeded_hash::seed::HashSeed;
 use std::alloc::Global;
 
@@ -22,16 +23,8 @@ pub trait ClosingDigests: DigestOpener {
     fn close(&self, keeper: Self::Book);
 }
 
-/// How a call ended whose database is closed: its status, and the shelf that its logs were read
-/// from.
-#[derive(Drop)]
-pub struct ClosedEnd<F> {
-    pub status: CaseStatus,
-    pub shelf: F,
-}
-
 /// Does what the words ask for, as `run_filing_seeded` does, and closes the database, where it was
-/// opened.
+/// opened. The shelf is handed back.
 pub fn file_and_close<F: Shelf, K: Sink, O: ClosingDigests>(
     alloc: Global,
     seed: HashSeed,
@@ -39,18 +32,18 @@ pub fn file_and_close<F: Shelf, K: Sink, O: ClosingDigests>(
     shelf: F,
     out: &mut K,
     opener: &mut O,
-) -> ClosedEnd<F>
+) -> Ran<CaseStatus, F>
     requires fresh { (which : Which) → (F.slot shelf which).started ≡ false }
-    ensures { FilesThenCloses F.Shelf shelf result.shelf (O.state opener.old) (O.state opener.new)
+    ensures { FilesThenCloses F.Shelf shelf result.back (O.state opener.old) (O.state opener.new)
         (map string_bytes words.now) (K.state out.old) (K.state out.new) result.status }
 {
-    let FilingEnd {
-        status,
-        shelf,
-        book,
-    } = run_filing_seeded(alloc, seed, words, shelf, out, opener);
-    if let Some(keeper) = book {
+    let Ran { status, stop, back } = run_filing_seeded(alloc, seed, words, shelf, out, opener);
+    if let Some(keeper) = back.book {
         opener.close(keeper);
     }
-    ClosedEnd { status, shelf }
+    Ran {
+        status,
+        stop,
+        back: back.shelf,
+    }
 }

@@ -8,7 +8,7 @@ use case_run::running::run_case;
 use case_run::statuses::CaseStatus;
 use casebook_program::closing::{Closing, run_and_close};
 use desk_filing::opener::DigestOpener;
-use desk_filing::running::{FilingEnd, run_filing};
+use desk_filing::running::run_filing;
 use digest_files::closing::{ClosingDigests, file_and_close};
 use log_source::memory_sink::MemorySink;
 use seeded_hash::seed::HashSeed;
@@ -75,8 +75,8 @@ pub(crate) fn say_by_casebook<O: Closing>(
     let mut out = empty_sink(alloc)?;
     let mut shelf = shelf_of_logs(alloc)?;
     let seed = HashSeed::fixed();
-    let status = run_and_close(alloc, seed, &words, &mut shelf, &mut out, opener);
-    said_of(alloc, status, &out)
+    let ran = run_and_close(alloc, seed, &words, &mut shelf, &mut out, opener);
+    said_of(alloc, ran.status, &out)
 }
 
 /// What `desk` says to these words of a filing, and then closes.
@@ -88,8 +88,8 @@ pub(crate) fn say_by_desk<O: ClosingDigests>(
     let words = split_words(alloc, line)?;
     let mut out = empty_sink(alloc)?;
     let shelf = shelf_of_logs(alloc)?;
-    let ended = file_and_close(alloc, HashSeed::fixed(), &words, shelf, &mut out, opener);
-    said_of(alloc, ended.status, &out)
+    let ran = file_and_close(alloc, HashSeed::fixed(), &words, shelf, &mut out, opener);
+    said_of(alloc, ran.status, &out)
 }
 
 /// What `desk` says to the words of a filing, and the keeper of what is on file, if it was opened.
@@ -107,10 +107,10 @@ fn try_filing<O: DigestOpener>(
     let words = split_words(alloc, line)?;
     let mut out = empty_sink(alloc)?;
     let shelf = shelf_of_logs(alloc)?;
-    let FilingEnd { status, book, .. } = run_filing(alloc, &words, shelf, &mut out, opener);
+    let ran = run_filing(alloc, &words, shelf, &mut out, opener);
     Ok(Filed {
-        said: said_of(alloc, status, &out),
-        book,
+        said: said_of(alloc, ran.status, &out),
+        book: ran.back.book,
     })
 }
 

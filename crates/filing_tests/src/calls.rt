@@ -7,7 +7,7 @@ use audit_base::faults::NoMemory;
 use audit_base::names::read_name;
 use case_run::statuses::CaseStatus;
 use desk_filing::memory_opener::MemoryDigestOpener;
-use desk_filing::running::{FilingEnd, run_filing};
+use desk_filing::running::run_filing;
 use digest_keeper::digested::KeptCase;
 use digest_keeper::keeper::DigestKeeper;
 use digest_keeper::memory_keeper::MemoryDigestKeeper;
@@ -158,7 +158,8 @@ pub(crate) fn make_call(alloc: Global, call: &Call) -> Result<Came, NoMemory> {
     let opener_fails = Vec::from_slice(alloc, &[call.opener_fails])?;
     let keeper_fails = Vec::from_slice(alloc, &[call.keeper_fails])?;
     let mut opener = MemoryDigestOpener::new(alloc, call.kept, opener_fails, keeper_fails);
-    let FilingEnd { status, book, .. } = run_filing(alloc, &words, shelf, &mut out, &mut opener);
+    let ran = run_filing(alloc, &words, shelf, &mut out, &mut opener);
+    let (status, book) = (ran.status, ran.back.book);
     Ok(Came { status, out, book })
 }
 

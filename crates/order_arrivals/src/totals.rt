@@ -10,20 +10,20 @@ use std::alloc::Global;
 
 /// What each order has traded in the first of the incoming deals.
 #[derive(Drop)]
-pub struct RunningTotals {
+pub struct TradedSoFar {
     pub traded: Vec<u128>,
     /// How many of the incoming deals are added.
     pub added: usize,
 }
 
-impl RunningTotals {
+impl TradedSoFar {
     /// Nothing traded by any of this many orders.
-    pub fn new(alloc: Global, count: usize) -> Result<RunningTotals, NoMemory>
+    pub fn new(alloc: Global, count: usize) -> Result<TradedSoFar, NoMemory>
         ensures traded { IfOk result (λ t. t.traded.items ≡ replicate count 0) }
         ensures added { IfOk result (λ t. t.added ≡ 0) }
     {
         let traded = zeros(alloc, count)?;
-        Ok(RunningTotals { traded, added: 0 })
+        Ok(TradedSoFar { traded, added: 0 })
     }
 
     /// Adds the deals of the order at `order`, where those of the orders before it are added.

@@ -4,16 +4,15 @@
 //! which file could not be read and why, at which byte a log is malformed.
 //!
 //! No contract speaks of these lines, and no program reads them: standard output has what the
-//! contracts say, and nothing else. What they say is taken from the words of the command line
-//! and from what passed through the shelf and the sink of the run (`noted_shelf`,
-//! `noted_sink`), so that nothing below knows of it.
+//! contracts say, and nothing else. What they say is taken from the words of the command line, from
+//! what the run hands on of how it stopped (`log_verdict::runs`), and from the names that its shelf
+//! was asked for (`noted_shelf`).
 #![tactic(auto)]
 
 pub mod command_line;
 pub mod database_notes;
 pub mod log_notes;
 pub mod noted_shelf;
-pub mod noted_sink;
 pub mod program_ends;
 pub mod usage_notes;
 mod word_parts;

@@ -3,10 +3,12 @@
 //! Why a file could not be read is asked of the system once more, so what has changed meanwhile is
 //! shown as it is now. A pipe is not asked again.
 use crate::noted_shelf::NotedShelf;
-use audit_base::sizes::LONGEST_LOG;
+use audit_base::columns::column_name;
+use audit_base::faults::{BadPlace, Reason};
 use audit_base::terms::Which;
 use audit_report::statuses::Status;
 use log_source::shelf::Shelf;
+use log_verdict::stops::{NoRecords, Stop};
 use std::io::{self, Read};
 use std::{fs, str};
 
@@ -31,68 +33,91 @@ fn print_unread_log(rt: &HostRuntime, program: &str, path: &str) {
     };
 }
 
-/// The log that a word of a report names.
-fn log_named(word: &str) -> Option<Which> {
-    if word == "orders" {
-        Some(Which::Orders)
-    } else if word == "trades" {
-        Some(Which::Trades)
-    } else {
-        None
+/// The word for the reason of a bad place, as a report has it.
+fn reason_word(reason: Reason) -> &'static str {
+    match reason {
+        Reason::Header => "header",
+        Reason::Break => "break",
+        Reason::Columns => "columns",
+        Reason::Column(_) | Reason::Value(_) => "value",
+        Reason::Begin => "begin",
+        Reason::Length => "length",
+        Reason::Truncated => "truncated",
+        Reason::Trailer => "trailer",
+        Reason::Checksum => "checksum",
+        Reason::Field(_) => "field",
+        Reason::MsgType => "msgtype",
+        Reason::Missing(_) => "missing",
+        Reason::Repeated(_) => "repeated",
+        Reason::Unsupported(_) => "unsupported",
     }
 }
 
-/// The last of these lines. Before the line of a fault a command may have written others, of any
-/// bytes.
-fn last_line(text: &[u8]) -> &[u8] {
-    let mut start = 0;
-    for index in 1..text.len() {
-        if text[index - 1] == b'\n' {
-            start = index;
+/// The tag that the reason of a bad place is said of, or the byte of the body; or none.
+fn reason_number(reason: Reason) -> Option<u32> {
+    match reason {
+        Reason::Field(byte) => Some(byte),
+        Reason::Missing(tag) => Some(tag),
+        Reason::Repeated(tag) => Some(tag),
+        Reason::Value(tag) => Some(tag),
+        Reason::Unsupported(tag) => Some(tag),
+        _ => None,
+    }
+}
+
+/// The name of the column that the reason of a bad place is said of, or none.
+fn reason_column(log: Which, reason: Reason) -> Option<&'static str> {
+    match reason {
+        Reason::Column(column) => str::from_utf8(column_name(log, column)).ok(),
+        _ => None,
+    }
+}
+
+/// The note on a log that is not in its grammar, with its first bad place.
+fn print_malformed_log(rt: &HostRuntime, program: &str, path: &str, log: Which, bad: &BadPlace) {
+    let (offset, word) = (bad.offset, reason_word(bad.reason));
+    let _written = match (reason_number(bad.reason), reason_column(log, bad.reason)) {
+        (Some(number), _) => {
+            eprintln!(rt; "{program}: {path}: malformed at byte {offset}: {word}:{number}")
         }
+        (None, Some(column)) => {
+            eprintln!(rt; "{program}: {path}: malformed at byte {offset}: {word}:{column}")
+        }
+        (None, None) => eprintln!(rt; "{program}: {path}: malformed at byte {offset}: {word}"),
+    };
+}
+
+/// The log at which a run stopped, if it was one.
+fn log_of_stop(stop: &NoRecords) -> Option<Which> {
+    match stop {
+        NoRecords::Malformed { log, .. } => Some(*log),
+        NoRecords::Stopped(Stop::ReadFault(log)) => Some(*log),
+        NoRecords::Stopped(Stop::TooLong(log)) => Some(*log),
+        NoRecords::Stopped(Stop::Memory) => None,
     }
-    &text[start..]
 }
 
-/// Says what is wrong with the log that a line of a fault names:
-/// `malformed,LOG,PLACE,OFFSET,REASON`, `readfault,LOG` or `toolong,LOG`. Of any other line it
-/// says nothing.
-pub fn print_log_fault<F: Shelf>(
-    rt: &HostRuntime,
-    program: &str,
-    shelf: &NotedShelf<F>,
-    line: &[u8],
-) {
-    print_fault_within(rt, program, LONGEST_LOG as u64, shelf, line);
-}
-
-/// The same where a log may have as many bytes as `limit` says.
-fn print_fault_within<F: Shelf>(
+/// Says what is wrong with the log at which a run stopped, of those that may have as many bytes as
+/// `limit` says. Where it stopped at none, it says nothing.
+pub fn print_stop<F: Shelf>(
     rt: &HostRuntime,
     program: &str,
     limit: u64,
     shelf: &NotedShelf<F>,
-    line: &[u8],
+    stop: &NoRecords,
 ) {
-    let Ok(text) = str::from_utf8(last_line(line)) else {
+    let Some(path) = log_of_stop(stop).and_then(|log| shelf.name_of(log)) else {
         return;
     };
-    let mut parts = text.trim_end().split(',');
-    let (Some(kind), Some(log)) = (parts.next(), parts.next()) else {
-        return;
-    };
-    let Some(path) = log_named(log).and_then(|which| shelf.name_of(which)) else {
-        return;
-    };
-    if kind == "readfault" {
-        print_unread_log(rt, program, path.as_str());
-    } else if kind == "toolong" {
-        let _written = eprintln!(rt; "{program}: {path}: it has more than {limit} bytes");
-    } else if kind == "malformed" {
-        let _place = parts.next();
-        if let (Some(offset), Some(reason)) = (parts.next(), parts.next()) {
-            let _written = eprintln!(rt; "{program}: {path}: malformed at byte {offset}: {reason}");
+    match stop {
+        NoRecords::Malformed { log, bad } => {
+            print_malformed_log(rt, program, path.as_str(), *log, bad);
         }
+        NoRecords::Stopped(Stop::ReadFault(_)) => print_unread_log(rt, program, path.as_str()),
+        NoRecords::Stopped(Stop::TooLong(_)) => {
+            let _written = eprintln!(rt; "{program}: {path}: it has more than {limit} bytes");
+        }
+        NoRecords::Stopped(Stop::Memory) => {}
     }
 }
 
@@ -104,18 +129,18 @@ pub fn print_end<F: Shelf>(
     limit: u64,
     status: Status,
     shelf: &NotedShelf<F>,
-    last: &[u8],
+    stop: &Option<NoRecords>,
 ) {
-    match status {
-        Status::Memory => {
+    match (status, stop) {
+        (Status::Memory, _) => {
             let _written = eprintln!(rt; "{program}: memory ran out");
         }
-        Status::WriteFault => {
+        (Status::WriteFault, _) => {
             let _written = eprintln!(rt; "{program}: standard output could not be written");
         }
-        Status::Malformed | Status::ReadFault | Status::TooLong => {
-            print_fault_within(rt, program, limit, shelf, last);
+        (Status::Malformed | Status::ReadFault | Status::TooLong, Some(stop)) => {
+            print_stop(rt, program, limit, shelf, stop);
         }
-        Status::Accepted | Status::Rejected | Status::Usage => {}
+        _ => {}
     }
 }

@@ -1,4 +1,4 @@
-//! What a program reads from and writes to: files and an output, with what is noted of both; and
+//! What a program reads from and writes to: files, with what is noted of them, and an output; and
 //! what it ends with.
 ghost use Rattle.std.specs.Prelude.{◌≡◌};
 ghost use Rattle.std.specs.Process.{exit_status};
@@ -6,7 +6,6 @@ ghost use Rattle.audit_report.specs.Statuses.{status_number};
 ghost use Rattle.stderr_notes.specs.FreshEnds.{IsFreshOver, fresh_sink};
 
 use crate::noted_shelf::NotedShelf;
-use crate::noted_sink::NotedSink;
 use audit_report::statuses::Status;
 use log_source::file_shelf::FileShelf;
 use log_source::file_system::FileSystem;
@@ -26,21 +25,19 @@ pub fn noted_files<S: FileSystem + Drop>(alloc: Global, files: S) -> NotedShelf<
     NotedShelf::new(alloc, FileShelf::new(files))
 }
 
-/// A sink over this output that remembers the last piece, with no fault counted. Takes no memory.
-pub fn noted_output<W: Output>(alloc: Global, output: W) -> NotedSink<StdSink<W>>
-    ensures { let state = ⟦<NotedSink<StdSink<W>> as Sink>⟧.state in
-        state result ≡ fresh_sink (W.contents output) }
+/// A sink over this output, with no fault counted. Takes no memory.
+pub fn fresh_output<W: Output>(output: W) -> StdSink<W>
+    ensures { ⟦<StdSink<W> as Sink>⟧.state result ≡ fresh_sink (W.contents output) }
 {
-    NotedSink::new(alloc, StdSink::new(output))
+    StdSink::new(output)
 }
 
-/// What a run leaves: its status, the files that it read and the output that it wrote, with what
-/// was noted of both.
+/// What a program hands back after its run: the files that it read, with the names that were noted,
+/// and the output that it wrote.
 #[derive(Drop)]
-pub struct Ran<S: FileSystem, W> {
-    pub status: Status,
+pub struct UsedEnds<S: FileSystem, W> {
     pub shelf: NotedShelf<FileShelf<S>>,
-    pub out: NotedSink<StdSink<W>>,
+    pub out: StdSink<W>,
 }
 
 /// The exit code of a status: its number.

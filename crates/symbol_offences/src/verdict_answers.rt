@@ -43,6 +43,7 @@ pub(crate) fn rejecting(text: Vec<u8>) -> Answer
     Answer {
         status: Status::Rejected,
         text,
+        stop: None,
     }
 }
 

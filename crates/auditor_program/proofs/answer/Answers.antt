@@ -3,4 +3,4 @@ use Rattle.std.proofs.Common.{inr}
 use Rattle.auditor_program.proofs.answer.Goals as goal
 
 pub returns : goal.returns
-returns c = inr (_, c.run_over-status.ensures)
+returns c = inr (_, c.run_over-ran.ensures)

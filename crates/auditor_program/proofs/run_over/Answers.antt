@@ -3,4 +3,4 @@ use Rattle.auditor_program.proofs.run_over.Goals as goal
 
 pub returns : goal.returns
 returns g c =
-    (_, (c.noted_files-shelf.ensures, c.noted_output-out.ensures), c.answer_words-status.ensures)
+    (_, (c.noted_files-shelf.ensures, c.fresh_output-out.ensures), c.answer_words-ran.ensures)

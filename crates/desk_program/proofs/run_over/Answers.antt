@@ -4,4 +4,4 @@ use Rattle.desk_program.proofs.run_over.Goals as goal
 
 pub returns : goal.returns
 returns g c =
-    (_, (c.noted_files-shelf.ensures, refl, c.noted_output-out.ensures), c.answer_words-end.ensures)
+    (_, (c.noted_files-shelf.ensures, refl, c.fresh_output-out.ensures), c.answer_words-ran.ensures)

@@ -7,7 +7,7 @@ use Rattle.case_run.proofs.running.run_case_seeded.Goals as goal
 
 pub returns-in-Ok-clause-run : goal.returns-in-Ok-clause-run
 returns-in-Ok-clause-run g c =
-    case_run g.F.Shelf (commands_of (map string_bytes c.args.words.now)) c.in-Ok.commands.items c.args.shelf.now c.run_commands.new.shelf _ _ _ _ c.run_commands.result
+    case_run g.F.Shelf (commands_of (map string_bytes c.args.words.now)) c.in-Ok.commands.items c.args.shelf.now c.run_commands.new.shelf _ _ _ _ c.run_commands.result.status
     c.in-Ok.ensures.commands c.run_commands.ensures.keeps (rw c.deref.ensures.value at c.run_commands.ensures.runs) c.run_commands.ensures.length
 
 pub returns-in-Err-Usage-clause-run : goal.returns-in-Err-Usage-clause-run

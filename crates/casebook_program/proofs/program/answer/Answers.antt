@@ -5,5 +5,5 @@ use Rattle.casebook_program.proofs.program.answer.Goals as goal
 
 pub returns : goal.returns
 returns c =
-    let ran = c.run_over-status.ensures in
+    let ran = c.run_over-ran.ensures in
     inr (_, (ran.0, (ran.1.0, ran.1.1 ∙ c.new-opener.ensures, ran.1.2), ran.2))

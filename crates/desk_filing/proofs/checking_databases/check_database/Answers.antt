@@ -13,7 +13,7 @@ returns-in-Ok-clause-runs g c = λ first on reads.
     (c.check_in-answer.ensures.checks first on reads))
 
 pub returns-in-Ok-clause-length : goal.returns-in-Ok-clause-length
-returns-in-Ok-clause-length g c = ends_at c.args.logs.now.orders _ _ _ c.check_in-answer.ensures.logs c.check_in-answer.result c.write_decided.result c.write_decided.ensures.length c.check_in-answer.ensures.within
+returns-in-Ok-clause-length g c = ends_at c.args.logs.now.orders _ _ _ c.check_in-answer.ensures.logs c.check_in-answer.result c.write_decided.result.status c.write_decided.ensures.length c.check_in-answer.ensures.within
 
 pub returns-in-Err-clause-runs : goal.returns-in-Err-clause-runs
 returns-in-Err-clause-runs g c = λ first on reads.

@@ -4,6 +4,6 @@ use Rattle.desk_filing.proofs.running.run_request.Goals as goal
 
 pub returns-clause-files : goal.returns-clause-files
 returns-clause-files g c =
-    files_below _ _ _ _ _ c.args.request.now _ _ c.run_over-status.result.status c.run_over-status.ensures.files refl c.over-taking.ensures.tells
+    files_below _ _ _ _ _ c.args.request.now _ _ c.run_over-ran.result.status c.run_over-ran.ensures.files refl c.over-taking.ensures.tells
     (λ log name. c.over-taking.ensures.logs log name ∙ ap (g.F.Shelf.log_of c.args.shelf log) (named_log c.args.request.now.logs _ _ c.as_str-orders.ensures c.as_str-trades.ensures log))
     c.over-taking.ensures.slots (λ log. sym (c.into_shelf.ensures log))

@@ -14,10 +14,10 @@ pub returns-in-Ok : goal.returns-in-Ok
 returns-in-Ok g c =
     let asked = desk_request_of (map string_bytes c.args.words.now) in
     let r = desk_reading g.F.Shelf c.args.shelf.now c.run_request.new.shelf in
-    let commands : AnswersHeldLogs desk_command_of asked r (g.K.Sink.state c.args.out.now) (g.K.Sink.state c.run_request.new.out) c.run_request.result =
-    rw c.in-Ok.ensures.request (λ logs ready. c.held_logs_are_answered.ensures.written c.in-Ok.request r logs _ _ c.run_request.result ready c.run_request.ensures.answers) in
+    let commands : AnswersHeldLogs desk_command_of asked r (g.K.Sink.state c.args.out.now) (g.K.Sink.state c.run_request.new.out) c.run_request.result.status =
+    rw c.in-Ok.ensures.request (λ logs ready. c.held_logs_are_answered.ensures.written c.in-Ok.request r logs _ _ c.run_request.result.status ready c.run_request.ensures.answers) in
     record {
-      headline = answers_day asked r _ _ c.run_request.result commands;
+      headline = answers_day asked r _ _ c.run_request.result.status commands;
       commands = commands;
       causes = rw c.in-Ok.ensures.request c.run_request.ensures.answers;
       too_long = c.run_request.ensures.too_long;

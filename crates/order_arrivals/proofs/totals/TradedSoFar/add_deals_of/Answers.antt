@@ -3,7 +3,7 @@ use Rattle.std.proofs.lemmas.Bool.{cases_eq}
 use Rattle.continuous_audit.specs.Scans.{incoming_order_at}
 use Rattle.continuous_audit.proofs.ScanLemmas.{running-read}
 use Rattle.order_arrivals.proofs.SplitLemmas.{split-next}
-use Rattle.order_arrivals.proofs.totals.RunningTotals.add_deals_of.Goals as goal
+use Rattle.order_arrivals.proofs.totals.TradedSoFar.add_deals_of.Goals as goal
 
 pub loop-self-preserved : goal.loop-self-preserved
 loop-self-preserved c =

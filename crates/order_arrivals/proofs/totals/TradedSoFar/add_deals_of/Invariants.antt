@@ -1,6 +1,6 @@
 use Rattle.std.proofs.Common.{◌≡◌, ◌≤◌, ◌<◌, ◌-◌, ℕ, length}
 use Rattle.continuous_audit.specs.Scans.{AreRunningTotals, incoming_order_at}
-use Rattle.order_arrivals.proofs.totals.RunningTotals.add_deals_of.Given as goal
+use Rattle.order_arrivals.proofs.totals.TradedSoFar.add_deals_of.Given as goal
 
 abbrev pub invariant-loop-self : goal.invariant-loop-self
 invariant-loop-self l = record {
