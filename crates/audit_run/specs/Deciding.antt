@@ -1,5 +1,5 @@
 -- What a command decides: its answer, or why there is none; and what is asked of two logs.
-use Rattle.std.specs.Prelude.{ℕ, Bool, List, Result}
+use Rattle.std.specs.Prelude.{ℕ, List, Result}
 use Rattle.audit_base.specs.declared.terms.Rule.{Rule}
 use Rattle.command_run.specs.declared.answers.Answer.{Answer}
 use Rattle.command_run.specs.Deciding as deciding
@@ -9,7 +9,7 @@ use Rattle.log_verdict.specs.declared.sources.Source.{Source}
 use Rattle.log_verdict.specs.declared.stops.Stop.{Stop}
 use Rattle.log_verdict.specs.Steps.{Reading}
 use Rattle.record_verdict.specs.declared.questions.Question.{Question}
-use Rattle.session_audit.specs.declared.phases.Phase.{Phase}
+use Rattle.session_audit.specs.declared.questions.PhaseQuestion.{PhaseQuestion}
 use Rattle.audit_run.specs.Requests.{auditor_command_of}
 
 -- the answer to a request that the reading decides, or why there is none
@@ -33,6 +33,6 @@ request_to_verify symbol orders trades certificate =
     Verify symbol orders.name.now trades.name.now certificate orders.form trades.form
 
 -- the request to judge the session of these logs
-abbrev pub request_to_judge_session : List ℕ → List Phase → Bool → Source → Source → Request
-request_to_judge_session symbol phases table orders trades =
-    Session symbol phases orders.name.now trades.name.now orders.form trades.form table
+abbrev pub request_to_judge_session : PhaseQuestion → Source → Source → Request
+request_to_judge_session q orders trades =
+    Session q.symbol q.phases.now orders.name.now trades.name.now orders.form trades.form q.table

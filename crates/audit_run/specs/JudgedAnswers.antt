@@ -1,8 +1,8 @@
 -- What is answered to two logs, by what they give before the rule is looked at.
-use Rattle.std.specs.Prelude.{◌≡◌, List, ℕ, Bool}
+use Rattle.std.specs.Prelude.{◌≡◌, List, ℕ}
 use Rattle.audit_certificate.specs.Agreement.{AgreesUnder, IsCertificateUnder}
 use Rattle.audit_report.specs.declared.statuses.Status.{Status}
-use Rattle.session_audit.specs.declared.phases.Phase.{Phase}
+use Rattle.session_audit.specs.declared.questions.PhaseQuestion.{PhaseQuestion}
 use Rattle.matching_core.specs.declared.deals_draft.ResolvedTrades.{ResolvedTrades}
 use Rattle.record_verdict.specs.declared.before_rule.BeforeRule.{BeforeRule}
 use Rattle.record_verdict.specs.declared.questions.Question.{Question}
@@ -32,11 +32,10 @@ IsVerifyAnswerOn symbol given certificate status text =
     → IsVerifyAnswer symbol orders trades certificate status text
 
 -- `session`, with these phases, answers this to whatever logs that give this before the rule
-abbrev pub IsSessionAnswerOn : List ℕ → List Phase → Bool → BeforeRule → Status → List ℕ
-    → Type 0
-IsSessionAnswerOn symbol phases table given status text =
-    (orders trades : Log) → LogsReach (session_scope symbol) orders trades given
-    → IsSessionAnswer symbol phases table orders trades status text
+abbrev pub IsSessionAnswerOn : PhaseQuestion → BeforeRule → Status → List ℕ → Type 0
+IsSessionAnswerOn q given status text =
+    (orders trades : Log) → LogsReach (session_scope q.symbol) orders trades given
+    → IsSessionAnswer q.symbol q.phases.now q.table orders trades status text
 
 -- The text is the certificate of these deals, which agrees.
 pub record IsDealsCertificate (q : Question) (resolved : ResolvedTrades)

@@ -28,6 +28,7 @@ use log_verdict::stops::Stop;
 use log_verdict::verdicts::verdict_on;
 use record_verdict::questions::Question;
 use seeded_hash::seed::HashSeed;
+use session_audit::questions::PhaseQuestion;
 use std::alloc::Global;
 
 /// The answer to `audit`.
@@ -173,17 +174,14 @@ pub(crate) fn answer_request<F: Shelf>(
             trades_form,
             table,
         } => {
+            let question = PhaseQuestion {
+                symbol: *symbol,
+                phases: phases.as_slice(),
+                table: *table,
+            };
             let orders = source_of(orders, *orders_form, seed);
             let trades = source_of(trades, *trades_form, seed);
-            answer_session(
-                alloc,
-                shelf,
-                symbol,
-                phases.as_slice(),
-                *table,
-                &orders,
-                &trades,
-            )
+            answer_session(alloc, shelf, &question, &orders, &trades)
         }
     }
 }

@@ -12,7 +12,6 @@ ghost use Rattle.session_audit.specs.SessionVerdicts.{session_status};
 use super::given_logs::GivenBeforeRule;
 use super::program::Auditor;
 use audit_base::faults::NoMemory;
-use audit_base::names::Name;
 use command_run::answers::{Answer, answer_without};
 use command_run::laws::both_logs_decide;
 use log_source::shelf::Shelf;
@@ -21,7 +20,7 @@ use log_verdict::sources::Source;
 use log_verdict::stops::Stop;
 use record_verdict::before_rule::BeforeRule;
 use record_verdict::scopes::{Admission, Scope};
-use session_audit::phases::Phase;
+use session_audit::questions::PhaseQuestion;
 use session_audit::verdicts::{Session, session_after};
 use std::alloc::Global;
 
@@ -42,17 +41,21 @@ fn answer_of_session(session: Session) -> Answer
 /// The answer to `session` over logs that give this before the phases are looked at.
 fn session_answer(
     alloc: Global,
-    symbol: &Name,
-    phases: &[Phase],
-    table: bool,
+    question: &PhaseQuestion<'_>,
     given: &BeforeRule,
 ) -> Result<Answer, NoMemory>
-    requires phases { ArePhases phases.now }
+    requires phases { ArePhases question.now.phases.now }
     requires judgeable { IsJudgeable given.now }
     ensures { IfOk result (IsAnswerOfKind
-        (IsSessionAnswerOn symbol.now phases.now table given.now)) }
+        (IsSessionAnswerOn question.now given.now)) }
 {
-    let session = session_after(alloc, symbol, phases, table, given)?;
+    let session = session_after(
+        alloc,
+        &question.symbol,
+        question.phases,
+        question.table,
+        given,
+    )?;
     Ok(answer_of_session(session))
 }
 
@@ -61,28 +64,26 @@ fn session_answer(
 pub(crate) fn answer_session<F: Shelf>(
     alloc: Global,
     shelf: &mut F,
-    symbol: &Name,
-    phases: &[Phase],
-    table: bool,
+    question: &PhaseQuestion<'_>,
     orders: &Source<'_>,
     trades: &Source<'_>,
 ) -> Result<Answer, Stop>
-    requires phases { ArePhases phases.now }
+    requires phases { ArePhases question.now.phases.now }
     requires limit { HaveOneLimit orders.now trades.now }
     ensures logs { KeepsShelfLogs F.Shelf shelf.old shelf.new }
     ensures later { FaultsNeverFall (reading_by orders.now F.Shelf shelf.old shelf.new) }
     ensures decides { DecidesAuditorAnswer (reading_by orders.now F.Shelf shelf.old shelf.new)
-        (request_to_judge_session symbol.now phases.now table orders.now trades.now) result }
+        (request_to_judge_session question.now orders.now trades.now) result }
     ensures within { StaysWithin (reading_by orders.now F.Shelf shelf.old shelf.new) result }
 {
     both_logs_decide::<Auditor, GivenBeforeRule>();
     let scope = Scope {
-        symbol: *symbol,
+        symbol: question.symbol,
         admission: Admission::All,
     };
     // A match and no `?`, as in `verdict_on`.
     match read_both(alloc, shelf, &scope, orders, trades) {
-        Ok(given) => Ok(session_answer(alloc, symbol, phases, table, &given)?),
+        Ok(given) => Ok(session_answer(alloc, question, &given)?),
         Err(why) => answer_without(alloc, why),
     }
 }

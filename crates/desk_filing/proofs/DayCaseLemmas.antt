@@ -17,7 +17,7 @@ use Rattle.log_digests.specs.declared.digests.LogDigests.{LogDigests}
 use Rattle.digest_keeper.specs.declared.digested.DigestedCase.{DigestedCase}
 use Rattle.desk_filing.specs.Days.{HasDayTaken, IsDayOf, IsJudgedAs, JudgesDay, KeepsCase, StaysOfDay, label_if_short}
 use Rattle.desk_filing.specs.Turns.{cases_of_day, digested_case, first_long, label_of_symbol}
-use Rattle.desk_filing.specs.declared.answers.Judged.{Judged}
+use Rattle.desk_filing.specs.declared.answers.FilingOutcome.{FilingOutcome}
 use Rattle.desk_filing.specs.declared.days.DayCases.{DayCases}
 
 -- each byte of a name is one that a name may hold
@@ -158,7 +158,7 @@ day_begins label the_rule digests day is = record {
 
 -- what the cases of all symbols come to is what the day comes to
 pub day_judges : (label : List ℕ) (the_rule : Rule) (digests : LogDigests) (ended : EndedTrades) (first day : DayCases) → IsDayOf label the_rule digests first [] [] → HasTakenShare (HasDayTaken first) the_rule whole_day ended day
-    → (made : Judged) → IsJudgedAs day made → JudgesDay label the_rule digests ended made
+    → (made : FilingOutcome) → IsJudgedAs day made → JudgesDay label the_rule digests ended made
 day_judges label the_rule digests ended first day begun taken made is = λ entries trades has.
     let after = taken entries trades has in
     record {

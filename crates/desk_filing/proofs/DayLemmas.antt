@@ -29,8 +29,8 @@ use Rattle.desk_filing.specs.Judging.{TellsBadPlace}
 use Rattle.desk_filing.specs.Steps.{JudgesLogs, NamesLogs, ReadsJudged, ReadsBadPlace, ReadsRecords, ReadsRefusal}
 use Rattle.desk_filing.specs.Turns.{FilesDayOrNone, FilingTurn, IsFilingTurn, IsTurnOfRecords, cases_of_day, day_turn, filed_turn, symbols_of_whole_day, unfiled_turn}
 use Rattle.case_run.specs.declared.answers.CaseAnswer.{CaseAnswer}
-use Rattle.desk_filing.specs.declared.answers.Judged.{Judged}
-use Rattle.desk_filing.specs.declared.answers.Judged.TheVariants as judged
+use Rattle.desk_filing.specs.declared.answers.FilingOutcome.{FilingOutcome}
+use Rattle.desk_filing.specs.declared.answers.FilingOutcome.TheVariants as judged
 use Rattle.desk_filing.specs.declared.requests.FilingCommand.{FilingCommand}
 use Rattle.desk_filing.specs.declared.requests.FilingCommand.TheVariants as command
 use Rattle.desk_filing.specs.declared.requests.FilingRequest.{FilingRequest}
@@ -93,7 +93,7 @@ module _ (r : Reading) (request : FilingRequest) (orders trades : Source) (names
         ap₂ {C = LogDigests} (λ a b. record { orders = a; trades = b }) first second
 
     -- the cases of the records that the day has
-    by_records : (given : Judged) → JudgesDay request.label the_rule digests ended given → (records : List TradeRecord) → reads.paired ≡ Ok records → HasTradesOf whole_day (admission_of the_rule) reads.entries ended records → ReadsJudged r request given
+    by_records : (given : FilingOutcome) → JudgesDay request.label the_rule digests ended given → (records : List TradeRecord) → reads.paired ≡ Ok records → HasTradesOf whole_day (admission_of the_rule) reads.entries ended records → ReadsJudged r request given
     by_records (judged.Cases cases) judges records same has =
         let is = judges reads.entries records has in
         record {
@@ -122,12 +122,12 @@ module _ (r : Reading) (request : FilingRequest) (orders trades : Source) (names
               });
         }
 
-    by_paired : (given : Judged) → JudgesDay request.label the_rule digests ended given → (paired : Result (List TradeRecord) Finding) → reads.paired ≡ paired → IsOkAnd paired (HasTradesOf whole_day (admission_of the_rule) reads.entries ended) → ReadsJudged r request given
+    by_paired : (given : FilingOutcome) → JudgesDay request.label the_rule digests ended given → (paired : Result (List TradeRecord) Finding) → reads.paired ≡ paired → IsOkAnd paired (HasTradesOf whole_day (admission_of the_rule) reads.entries ended) → ReadsJudged r request given
     by_paired given judges (Ok records) same has = by_records given judges records same has
     by_paired given judges (Err finding) same has = absurd has
 
   -- the verdicts on its symbols
-  judges_read : (ended : EndedTrades) (digests : LogDigests) → TakesDigests r request.logs digests → (given : Judged) → JudgesDay request.label the_rule digests ended given
+  judges_read : (ended : EndedTrades) (digests : LogDigests) → TakesDigests r request.logs digests → (given : FilingOutcome) → JudgesDay request.label the_rule digests ended given
       → AreRead (before_rule.Read ended) → ReadsJudged r request given
   judges_read ended digests takes given judges reads = ⊎_elim
       (λ records. by_paired ended records digests takes given judges records.paired refl records.holds)
@@ -161,26 +161,26 @@ module _ (r : Reading) (request : FilingRequest) (orders trades : Source) (names
       (reads_either r request.logs orders trades names (λ entries paired. ⊥) (λ which place. (which ≡ log) × (place ≡ bad)) reads)
 
   -- what the logs come to
-  pub judges_given : (given : DayBeforeRule) (digests : LogDigests) → TakesDigests r request.logs digests → (made : Judged) → JudgesGiven request.label the_rule digests given made → AreRead given
+  pub judges_given : (given : DayBeforeRule) (digests : LogDigests) → TakesDigests r request.logs digests → (made : FilingOutcome) → JudgesGiven request.label the_rule digests given made → AreRead given
       → ReadsJudged r request made
   judges_given (before_rule.Read ended) digests takes made judges reads = judges_read ended digests takes made judges reads
   judges_given (before_rule.Unpaired finding) digests takes (judged.Cases cases) judges reads = absurd judges
   judges_given (before_rule.Unpaired finding) digests takes (judged.Refused answer) judges reads = judges_unpaired finding answer judges reads
 
   -- the same of logs that were not read into records
-  pub judges_without : (why : NoRecords) (result : Result Judged Halt) → JudgesWithout why result → IsUnreadOfTwoLogs r orders trades why → JudgesLogs r request result
+  pub judges_without : (why : NoRecords) (result : Result FilingOutcome Halt) → JudgesWithout why result → IsUnreadOfTwoLogs r orders trades why → JudgesLogs r request result
   judges_without (norecords.Malformed log bad) (Ok (judged.Cases cases)) judges is = absurd judges
   judges_without (norecords.Malformed log bad) (Ok (judged.Refused answer)) judges is = judges_bad log bad answer judges is
   judges_without (norecords.Malformed log bad) (Err why) judges is = rw judges (stops_reading r request.logs orders trades names request refl stop.Memory tt)
   judges_without (norecords.Stopped why) result judges is = rw judges (stops_reading r request.logs orders trades names request refl why is)
 
 -- and the slots end as they did
-pub ends_without : {S : Type 0} (r : Reading) (why : NoRecords) (read : Result S NoRecords) (result : Result Judged Halt) → read ≡ Err why → ReadsWithin r read → JudgesWithout why result → EndsWithinOrHalts r result
+pub ends_without : {S : Type 0} (r : Reading) (why : NoRecords) (read : Result S NoRecords) (result : Result FilingOutcome Halt) → read ≡ Err why → ReadsWithin r read → JudgesWithout why result → EndsWithinOrHalts r result
 ends_without r (norecords.Malformed log bad) read (Ok made) is within judges = rw is at within
 ends_without r (norecords.Malformed log bad) read (Err why) is within judges = rw judges (rw is at within)
-ends_without {S = S} r (norecords.Stopped why) read result is within judges = rw judges (ends_stopped (Option S) Judged why (rw is at within))
+ends_without {S = S} r (norecords.Stopped why) read result is within judges = rw judges (ends_stopped (Option S) FilingOutcome why (rw is at within))
 
 -- the same of two logs of a shelf
-pub ends_without_at : {S T : Type 0} (orders : Source) (shelf : Shelf T) (old new : T) → KeepsShelfLogs shelf old new → (why : NoRecords) (read : Result S NoRecords) (result : Result Judged Halt) → read ≡ Err why
+pub ends_without_at : {S T : Type 0} (orders : Source) (shelf : Shelf T) (old new : T) → KeepsShelfLogs shelf old new → (why : NoRecords) (read : Result S NoRecords) (result : Result FilingOutcome Halt) → read ≡ Err why
     → ReadsWithin (reading_by orders shelf old new) read → JudgesWithout why result → EndsWithinOrHalts (reading_by orders shelf old new) result
 ends_without_at orders shelf old new keeps why read result is within judges = ends_without (reading_by orders shelf old new) why read result is within judges

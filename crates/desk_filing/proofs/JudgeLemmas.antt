@@ -29,8 +29,8 @@ use Rattle.desk_filing.specs.Judging.{IsComparedVerdict, IsJudgedVerdict, IsRefu
 use Rattle.desk_filing.specs.Steps.{AnyRecords, LooksAtLogs, NamesLogs, ReadsBadPlace, ReadsJudged, ReadsRecords, ReadsRefusal, TellsOfKept}
 use Rattle.desk_filing.specs.Turns.{ChecksCase, FilingTurn, IsFilingTurn, IsFirstDifference, IsTurnOfRecords, comparison_status, digested_case, filed_turn, offence_in, unfiled_turn}
 use Rattle.case_run.specs.declared.answers.CaseAnswer.{CaseAnswer}
-use Rattle.desk_filing.specs.declared.answers.Judged.{Judged}
-use Rattle.desk_filing.specs.declared.answers.Judged.TheVariants as judged
+use Rattle.desk_filing.specs.declared.answers.FilingOutcome.{FilingOutcome}
+use Rattle.desk_filing.specs.declared.answers.FilingOutcome.TheVariants as judged
 use Rattle.desk_filing.specs.declared.differences.CaseDifference.{CaseDifference}
 use Rattle.desk_filing.specs.declared.requests.FilingCommand.{FilingCommand}
 use Rattle.desk_filing.specs.declared.requests.FilingCommand.TheVariants as command
@@ -101,7 +101,7 @@ module _ (r : Reading) (request : FilingRequest) (orders trades : Source) (names
     plain entries paired v is = subst (λ (t : Bool). IsRecordVerdict (question q.rule q.symbol t) entries paired v) table is
 
     -- `file`: a case, or a refusal
-    pub judges_symbol : request.command ≡ command.File q.rule q.symbol → (made : DigestedVerdict) (given : Judged) → ReadsVerdict r q orders trades made.verdict → HasDigestsOfLogs r.tells r.log_of orders trades made
+    pub judges_symbol : request.command ≡ command.File q.rule q.symbol → (made : DigestedVerdict) (given : FilingOutcome) → ReadsVerdict r q orders trades made.verdict → HasDigestsOfLogs r.tells r.log_of orders trades made
         → IsJudgedVerdict made.digests request.label q made.verdict given → ReadsJudged r request given
     judges_symbol asked made (judged.Cases cases) reads has is = ⊎_elim
         (λ records. record {

@@ -17,7 +17,7 @@ use Rattle.desk_filing.specs.Causes.{day_log_name}
 use Rattle.desk_filing.specs.DigestOpeners.{DigestOpenerState}
 use Rattle.desk_filing.specs.Runs.{EndsWithinOrAnswers, FilesAsked, FilesRequest, RunsRequest, filing_call, filing_reading}
 use Rattle.desk_filing.specs.Steps.{RefusesWords}
-use Rattle.desk_filing.specs.declared.answers.Judged.{Judged}
+use Rattle.desk_filing.specs.declared.answers.FilingOutcome.{FilingOutcome}
 use Rattle.desk_filing.specs.declared.requests.FilingRequest.{FilingRequest}
 use Rattle.desk_filing.proofs.ReadyLemmas.{files_request}
 use Rattle.log_digests.specs.DigestShelves.{name_of_log}
@@ -38,7 +38,7 @@ files_within r s a b keeper request x y answer runs ends never same is =
     never)
 
 -- the same of what two logs came to
-pub files_judged : (r s : Reading) (a b : DigestOpenerState) (keeper : Option DigestKeeperState) (request : FilingRequest) (x y : SinkState) (answer : CaseStatus) (judged : Result Judged Halt)
+pub files_judged : (r s : Reading) (a b : DigestOpenerState) (keeper : Option DigestKeeperState) (request : FilingRequest) (x y : SinkState) (answer : CaseStatus) (judged : Result FilingOutcome Halt)
     → RunsRequest (filing_call r a b keeper) request x y answer → ((q : Reading) → EndsWithinOrHalts q judged → EndsWithinOrAnswers q answer) → EndsWithinOrHalts r judged → FaultsNeverFall r → r.limit ≡ longest_read → s ≡ record r { limit = longest_read }
     → FilesRequest (filing_call s a b keeper) request x y answer
 files_judged r s a b keeper request x y answer judged runs each within never same is =

@@ -23,8 +23,8 @@ use Rattle.desk_filing.specs.Judging.{TellsBadPlace}
 use Rattle.desk_filing.specs.Lines.{long_label_line}
 use Rattle.desk_filing.specs.Turns.{cases_of_day, digested_case, first_long, label_of_symbol}
 use Rattle.case_run.specs.declared.answers.CaseAnswer.{CaseAnswer}
-use Rattle.desk_filing.specs.declared.answers.Judged.{Judged}
-use Rattle.desk_filing.specs.declared.answers.Judged.TheVariants as judged
+use Rattle.desk_filing.specs.declared.answers.FilingOutcome.{FilingOutcome}
+use Rattle.desk_filing.specs.declared.answers.FilingOutcome.TheVariants as judged
 use Rattle.desk_filing.specs.declared.days.DayCases.{DayCases}
 use Rattle.log_verdict.specs.declared.stops.NoRecords.{NoRecords}
 use Rattle.log_verdict.specs.declared.stops.NoRecords.TheVariants as norecords
@@ -74,7 +74,7 @@ pub record TellsLongLabel (long : Option (List ℕ)) (answer : CaseAnswer) : Typ
   pub text_is : answer.text.items ≡ long_label_line symbol
 
 -- what the symbols of a day with these verdicts come to: their cases, or that a label is too long
-abbrev pub IsJudgedDayOf : List ℕ → Rule → LogDigests → List (List ℕ) → List Verdict → Judged
+abbrev pub IsJudgedDayOf : List ℕ → Rule → LogDigests → List (List ℕ) → List Verdict → FilingOutcome
     → Type 0
 IsJudgedDayOf label the_rule digests symbols verdicts (judged.Cases cases) =
     (first_long label symbols ≡ None)
@@ -83,7 +83,7 @@ IsJudgedDayOf label the_rule digests symbols verdicts (judged.Refused answer) =
     TellsLongLabel (first_long label symbols) answer
 
 -- whatever symbols and verdicts a day was handed, this is what they come to
-abbrev pub IsJudgedAs : DayCases → Judged → Type 0
+abbrev pub IsJudgedAs : DayCases → FilingOutcome → Type 0
 IsJudgedAs day judged = (label : List ℕ) (the_rule : Rule) (digests : LogDigests)
     (symbols : List (List ℕ)) (verdicts : List Verdict)
     → IsDayOf label the_rule digests day symbols verdicts
@@ -91,7 +91,7 @@ IsJudgedAs day judged = (label : List ℕ) (the_rule : Rule) (digests : LogDiges
 
 -- This is what a day of these records comes to.
 pub record JudgesRecords (label : List ℕ) (the_rule : Rule) (digests : LogDigests)
-    (entries : List OrderRecord) (trades : List TradeRecord) (judged : Judged) : Type 0 where
+    (entries : List OrderRecord) (trades : List TradeRecord) (judged : FilingOutcome) : Type 0 where
   pub verdicts : List Verdict
   pub are : AreVerdicts the_rule false entries trades
       (symbols_in whole_day (symbols_of_day entries trades)) verdicts
@@ -99,7 +99,7 @@ pub record JudgesRecords (label : List ℕ) (the_rule : Rule) (digests : LogDige
       (symbols_in whole_day (symbols_of_day entries trades)) verdicts judged
 
 -- whatever records the day has, this is what it comes to
-abbrev pub JudgesDay : List ℕ → Rule → LogDigests → EndedTrades → Judged → Type 0
+abbrev pub JudgesDay : List ℕ → Rule → LogDigests → EndedTrades → FilingOutcome → Type 0
 JudgesDay label the_rule digests ended judged =
     (entries : List OrderRecord) (trades : List TradeRecord)
     → HasTradesOf whole_day (admission_of the_rule) entries ended trades
@@ -111,12 +111,12 @@ pub record TellsUnpaired (finding : Finding) (answer : CaseAnswer) : Type 0 wher
   pub text_is : answer.text.items ≡ verdict_text (Rejected finding)
 
 -- nothing is filed, and this holds of the answer
-abbrev pub IsRefusedBy : (CaseAnswer → Type 0) → Judged → Type 0
+abbrev pub IsRefusedBy : (CaseAnswer → Type 0) → FilingOutcome → Type 0
 IsRefusedBy tells (judged.Cases cases) = ⊥
 IsRefusedBy tells (judged.Refused answer) = tells answer
 
 -- what two logs come to, by what their records give before the rule is looked at
-abbrev pub JudgesGiven : List ℕ → Rule → LogDigests → DayBeforeRule → Judged → Type 0
+abbrev pub JudgesGiven : List ℕ → Rule → LogDigests → DayBeforeRule → FilingOutcome → Type 0
 JudgesGiven label the_rule digests (before_rule.Read ended) judged =
     JudgesDay label the_rule digests ended judged
 JudgesGiven label the_rule digests (before_rule.Unpaired finding) judged =
@@ -124,7 +124,7 @@ JudgesGiven label the_rule digests (before_rule.Unpaired finding) judged =
 
 -- what two logs come to that were not read into records: the answer to their first bad place, or
 -- why there is none
-abbrev pub JudgesWithout : NoRecords → Result Judged Halt → Type 0
+abbrev pub JudgesWithout : NoRecords → Result FilingOutcome Halt → Type 0
 JudgesWithout (norecords.Malformed log bad) result =
     MatchResult result (IsRefusedBy (TellsBadPlace (Malformed log bad)))
     (λ why. why ≡ halt.Memory)

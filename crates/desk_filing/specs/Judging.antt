@@ -14,8 +14,8 @@ use Rattle.log_digests.specs.declared.digests.LogDigests.{LogDigests}
 use Rattle.desk_filing.specs.Lines.{comparison_line}
 use Rattle.desk_filing.specs.Turns.{IsFirstDifference, comparison_status, digested_case, offence_in}
 use Rattle.case_run.specs.declared.answers.CaseAnswer.{CaseAnswer}
-use Rattle.desk_filing.specs.declared.answers.Judged.{Judged}
-use Rattle.desk_filing.specs.declared.answers.Judged.TheVariants as judged
+use Rattle.desk_filing.specs.declared.answers.FilingOutcome.{FilingOutcome}
+use Rattle.desk_filing.specs.declared.answers.FilingOutcome.TheVariants as judged
 use Rattle.desk_filing.specs.declared.differences.AuditedLogs.{AuditedLogs}
 use Rattle.desk_filing.specs.declared.differences.CaseDifference.{CaseDifference}
 use Rattle.record_verdict.specs.declared.questions.Question.{Question}
@@ -45,7 +45,7 @@ case_that_ended label the_rule digests symbol offence = record {
 }
 
 -- what a verdict comes to: its case, or the answer that a log is not in its grammar
-abbrev pub IsJudgedVerdict : LogDigests → List ℕ → Question → Verdict → Judged → Type 0
+abbrev pub IsJudgedVerdict : LogDigests → List ℕ → Question → Verdict → FilingOutcome → Type 0
 IsJudgedVerdict digests label q v (judged.Cases cases) =
     (cases.items ≡ digested_case label q.rule digests q.symbol v ∷ []) × IsNoBadPlace v
 IsJudgedVerdict digests label q v (judged.Refused answer) = TellsBadPlace v answer

@@ -31,8 +31,8 @@ use Rattle.desk_filing.specs.Causes.{ReadsBadLog, ReadsGoodLogs, ReadsLogsFor, R
 use Rattle.desk_filing.specs.Runs.{AnswersRequest, FilingCall, HaltsRequest}
 use Rattle.desk_filing.specs.Turns.{FilingTurn, IsFilingTurn, filed_turn, first_known, unfiled_turn}
 use Rattle.case_run.specs.declared.answers.CaseAnswer.{CaseAnswer}
-use Rattle.desk_filing.specs.declared.answers.Judged.{Judged}
-use Rattle.desk_filing.specs.declared.answers.Judged.TheVariants as judged
+use Rattle.desk_filing.specs.declared.answers.FilingOutcome.{FilingOutcome}
+use Rattle.desk_filing.specs.declared.answers.FilingOutcome.TheVariants as judged
 use Rattle.desk_filing.specs.declared.requests.FilingRequest.{FilingRequest}
 use Rattle.log_source.specs.Sinks.{SinkState}
 use Rattle.log_source.specs.Sources.{RoseOrIsFull}
@@ -99,7 +99,7 @@ pub record ReadsRefusal (r : Reading) (request : FilingRequest) (answer : CaseAn
       → IsFilingTurn r.log_of kept request (unfiled_turn kept answer.status answer.text.items)
 
 -- what two logs come to
-abbrev pub ReadsJudged : Reading → FilingRequest → Judged → Type 0
+abbrev pub ReadsJudged : Reading → FilingRequest → FilingOutcome → Type 0
 ReadsJudged r request (judged.Cases cases) = ReadsCases r request cases.items
 ReadsJudged r request (judged.Refused answer) = ReadsRefusal r request answer
 
@@ -109,7 +109,7 @@ pub record StopsReading (r : Reading) (request : FilingRequest) (why : Halt) : T
   pub no_keeper : why ≢ halt.KeeperFault
 
 -- what two logs come to, or why that is not known
-abbrev pub JudgesLogs : Reading → FilingRequest → Result Judged Halt → Type 0
+abbrev pub JudgesLogs : Reading → FilingRequest → Result FilingOutcome Halt → Type 0
 JudgesLogs r request result = MatchResult result (ReadsJudged r request) (StopsReading r request)
 
 -- both logs are in their grammar, or this is the answer to them

@@ -4,7 +4,7 @@ use digest_keeper::digested::DigestedCase;
 
 /// What two logs come to.
 #[derive(Drop)]
-pub(crate) enum Judged {
+pub(crate) enum FilingOutcome {
     /// To cases that are to be filed, all of them or none.
     Cases(Vec<DigestedCase>),
     /// To an answer with which nothing is filed.

@@ -11,7 +11,7 @@ ghost use Rattle.desk_filing.specs.declared.requests.FilingRequest.{FilingReques
 ghost use Rattle.log_source.specs.Sinks.{SinkStays};
 ghost use Rattle.log_verdict.specs.Steps.{Reading};
 
-use crate::answers::Judged;
+use crate::answers::FilingOutcome;
 use crate::filing::file_in;
 use crate::lines::case_text;
 use crate::opener::{DigestOpener, Missing};
@@ -102,7 +102,7 @@ fn file_cases<K: Sink, O: DigestOpener>(
 pub(crate) fn file_judged<K: Sink, O: DigestOpener>(
     alloc: Global,
     request: &FilingRequest,
-    judged: Result<Judged, Halt>,
+    judged: Result<FilingOutcome, Halt>,
     out: &mut K,
     opener: &mut O,
 ) -> Ran<CaseStatus, Option<O::Book>>
@@ -116,8 +116,8 @@ pub(crate) fn file_judged<K: Sink, O: DigestOpener>(
     ensures stays { SinkStays (K.state out.old) (K.state out.new) }
 {
     match judged {
-        Ok(Judged::Cases(cases)) => file_cases(alloc, request, &cases, out, opener),
-        Ok(Judged::Refused(answer)) => end_unopened(out, Ok(answer)),
+        Ok(FilingOutcome::Cases(cases)) => file_cases(alloc, request, &cases, out, opener),
+        Ok(FilingOutcome::Refused(answer)) => end_unopened(out, Ok(answer)),
         Err(halt) => end_unopened(out, Err(halt)),
     }
 }

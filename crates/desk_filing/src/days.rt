@@ -16,7 +16,7 @@ ghost use Rattle.log_verdict.specs.Steps.{reading_by, FaultsNeverFall, KeepsShel
 ghost use Rattle.record_verdict.specs.Judged.{as_verdict};
 ghost use Rattle.record_verdict.specs.Scopes.{admission_of};
 
-use crate::answers::Judged;
+use crate::answers::FilingOutcome;
 use crate::judging::{digested_case, malformed_answer, offence_in};
 use crate::lines::{finding_text, long_label_text};
 use crate::requests::FilingRequest;
@@ -39,7 +39,7 @@ use log_source::shelf::Shelf;
 use log_verdict::sources::Source;
 use log_verdict::stops::NoRecords;
 use record_verdict::scopes::Admission;
-use record_verdict::verdicts as records;
+use record_verdict::verdicts::Judged;
 use std::alloc::Global;
 
 /// The text of the label of a symbol of a day, LABEL/SYMBOL.
@@ -92,12 +92,7 @@ impl DayCases {
     }
 
     /// One case more, under this label; or this symbol, where its label is too long.
-    fn keep(
-        &mut self,
-        label: Option<Name>,
-        symbol: &Name,
-        judged: &records::Judged,
-    ) -> Result<(), NoMemory>
+    fn keep(&mut self, label: Option<Name>, symbol: &Name, judged: &Judged) -> Result<(), NoMemory>
         requires { self.old.long ≡ None }
         ensures { OnOk result
             (KeepsCase self.old self.new label symbol.now (as_verdict judged.now)) }
@@ -122,7 +117,7 @@ impl VerdictList for DayCases {
 
     ghost has_taken = { HasDayTaken };
 
-    fn take(&mut self, symbol: &Name, judged: &records::Judged) -> Result<(), NoMemory> {
+    fn take(&mut self, symbol: &Name, judged: &Judged) -> Result<(), NoMemory> {
         if self.long.is_some() {
             return Ok(());
         }
@@ -132,17 +127,17 @@ impl VerdictList for DayCases {
 }
 
 /// What the cases of a day come to: all of them, or the answer that a label is too long.
-fn judged_cases(alloc: Global, day: DayCases) -> Result<Judged, NoMemory>
+fn judged_cases(alloc: Global, day: DayCases) -> Result<FilingOutcome, NoMemory>
     ensures { IfOk result (IsJudgedAs day) }
 {
     let DayCases { cases, long, .. } = day;
     match long {
-        Some(symbol) => Ok(Judged::Refused(CaseAnswer {
+        Some(symbol) => Ok(FilingOutcome::Refused(CaseAnswer {
             status: CaseStatus::Refused,
             text: long_label_text(alloc, &symbol)?,
             stop: None,
         })),
-        None => Ok(Judged::Cases(cases)),
+        None => Ok(FilingOutcome::Cases(cases)),
     }
 }
 
@@ -153,7 +148,7 @@ fn judged_day(
     rule: Rule,
     digests: &LogDigests,
     ended: EndedTrades,
-) -> Result<Judged, NoMemory>
+) -> Result<FilingOutcome, NoMemory>
     requires few { RuleTradesFitPlaces rule whole_day ended }
     ensures { IfOk result (JudgesDay label.now rule digests.now ended) }
 {
@@ -175,12 +170,12 @@ fn unpaired_answer(alloc: Global, finding: &Finding) -> Result<CaseAnswer, NoMem
 
 /// What two logs come to that were not read into records: the answer to their first bad place, or
 /// why there is none.
-fn judged_without(alloc: Global, why: NoRecords) -> Result<Judged, Halt>
+fn judged_without(alloc: Global, why: NoRecords) -> Result<FilingOutcome, Halt>
     ensures { JudgesWithout why result }
 {
     match why {
         NoRecords::Malformed { log, bad } => {
-            Ok(Judged::Refused(malformed_answer(alloc, log, &bad)?))
+            Ok(FilingOutcome::Refused(malformed_answer(alloc, log, &bad)?))
         }
         NoRecords::Stopped(stop) => Err(Halt::from(stop)),
     }
@@ -194,14 +189,14 @@ fn judged_logs(
     rule: Rule,
     digests: &LogDigests,
     given: DayBeforeRule,
-) -> Result<Judged, NoMemory>
+) -> Result<FilingOutcome, NoMemory>
     requires few { IsDayWithFewTrades whole_day (admission_of rule) given }
     ensures { IfOk result (JudgesGiven label.now rule digests.now given) }
 {
     match given {
         DayBeforeRule::Read(ended) => judged_day(alloc, label, rule, digests, ended),
         DayBeforeRule::Unpaired(finding) => {
-            Ok(Judged::Refused(unpaired_answer(alloc, &finding)?))
+            Ok(FilingOutcome::Refused(unpaired_answer(alloc, &finding)?))
         }
     }
 }
@@ -214,7 +209,7 @@ pub(crate) fn judge_day<'a, F: Shelf>(
     rule: Rule,
     orders: &Source<'_>,
     trades: &Source<'_>,
-) -> Result<Judged, Halt>
+) -> Result<FilingOutcome, Halt>
     requires limit { HaveOneLimit orders.now trades.now }
     requires names { NamesLogs request.now.logs orders.now trades.now }
     requires asked { request.now.command ≡ command.FileAll rule }

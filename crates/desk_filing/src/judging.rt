@@ -10,7 +10,7 @@ ghost use Rattle.log_verdict.specs.BothLogs.{HaveOneLimit};
 ghost use Rattle.log_verdict.specs.Steps.{reading_by, FaultsNeverFall, KeepsShelfLogs};
 ghost use Rattle.record_verdict.specs.Judged.{as_verdict};
 
-use crate::answers::Judged;
+use crate::answers::FilingOutcome;
 use crate::digested_verdicts::{DigestedVerdict, digested_verdict_on};
 use crate::requests::FilingRequest;
 use audit_base::faults::{BadPlace, NoMemory};
@@ -26,16 +26,16 @@ use log_digests::digests::LogDigests;
 use log_source::shelf::Shelf;
 use log_verdict::sources::Source;
 use record_verdict::questions::Question;
-use record_verdict::verdicts as records;
+use record_verdict::verdicts::Judged;
 use std::alloc::Global;
 
 /// How an audit ended with a verdict on records.
-pub(crate) fn offence_in(judged: &records::Judged) -> Option<Offence>
+pub(crate) fn offence_in(judged: &Judged) -> Option<Offence>
     ensures { result ≡ offence_in (as_verdict judged.now) }
 {
     match judged {
-        records::Judged::Accepted(_) => None,
-        records::Judged::Rejected(finding) => Some(offence_of(finding)),
+        Judged::Accepted(_) => None,
+        Judged::Rejected(finding) => Some(offence_of(finding)),
     }
 }
 
@@ -95,22 +95,22 @@ fn judged_verdict(
     label: &Name,
     question: &Question,
     made: &DigestedVerdict,
-) -> Result<Judged, NoMemory>
+) -> Result<FilingOutcome, NoMemory>
     ensures { IfOk result
         (IsJudgedVerdict made.now.digests label.now question.now made.now.verdict) }
 {
     match &made.verdict {
         Verdict::Accepted(_) => {
             let cases = case_alone(alloc, label, question, &made.digests, None)?;
-            Ok(Judged::Cases(cases))
+            Ok(FilingOutcome::Cases(cases))
         }
         Verdict::Rejected(finding) => {
             let offence = Some(offence_of(finding));
             let cases = case_alone(alloc, label, question, &made.digests, offence)?;
-            Ok(Judged::Cases(cases))
+            Ok(FilingOutcome::Cases(cases))
         }
         Verdict::Malformed { log, bad } => {
-            Ok(Judged::Refused(malformed_answer(alloc, *log, bad)?))
+            Ok(FilingOutcome::Refused(malformed_answer(alloc, *log, bad)?))
         }
     }
 }
@@ -123,7 +123,7 @@ pub(crate) fn judge_symbol<'a, F: Shelf>(
     question: &Question,
     orders: &Source<'_>,
     trades: &Source<'_>,
-) -> Result<Judged, Halt>
+) -> Result<FilingOutcome, Halt>
     requires limit { HaveOneLimit orders.now trades.now }
     requires names { NamesLogs request.now.logs orders.now trades.now }
     requires asked { request.now.command ≡ command.File question.now.rule question.now.symbol }

@@ -5,7 +5,7 @@ ghost use Rattle.audit_base.specs.Trades.{TradesInRange};
 ghost use Rattle.audit_base.specs.Verdicts as spec;
 ghost use Rattle.audit_base.specs.Verdicts.{paired_trades};
 ghost use Rattle.audit_report.specs.Texts.{IsVerdictInRange};
-ghost use Rattle.fix_messages.specs.Pairings.{result_of_paired};
+ghost use Rattle.trade_reports.specs.Pairings.{result_of_paired};
 ghost use Rattle.record_verdict.specs.Judged.{as_verdict, IsJudgedInRange};
 ghost use Rattle.record_verdict.specs.RecordVerdicts.{question, IsRecordVerdict};
 ghost use Rattle.record_verdict.specs.Stages.{VerdictFollowsRecords, VerdictFollowsHistory, VerdictFollowsTrades};
@@ -21,13 +21,13 @@ use audit_base::ranges::trades_in_range;
 use audit_base::records::{OrderRecord, TradeRecord};
 use audit_base::terms::Rule;
 use audit_report::verdicts::Verdict;
-use fix_messages::pairing::Paired;
 use instruction_history::faults::HistoryFault;
 use instruction_history::history::History;
 use matching_core::outcomes::CheckFault;
 use matching_core::resolving::resolve;
 use order_list::lists::OrderList;
 use std::alloc::Global;
+use trade_reports::pairing::Paired;
 
 /// The numbers of the trades of a log are in their ranges. Nothing is computed.
 fn paired_in_range(trades: &Paired)

@@ -10,6 +10,7 @@ use instruction_history::history::History;
 use session_audit::auditing::audit_session;
 use session_audit::days::Day;
 use session_audit::phases::{Phase, PhaseKind};
+use session_audit::questions::PhaseQuestion;
 use session_audit::texts::session_text;
 use std::process::Abort;
 
@@ -64,15 +65,12 @@ fn answer_over<R: AllocGlobal + Abort>(
     let orders = history.orders();
     match audit_session(rt.alloc(), &orders, phases, &deals, count) {
         Ok(Day::Conforms(totals)) => {
-            let Ok(text) = session_text(
-                rt.alloc(),
-                &symbol(rt),
+            let question = PhaseQuestion {
+                symbol: symbol(rt),
                 phases,
-                &orders,
-                &totals,
-                count,
-                true,
-            ) else {
+                table: true,
+            };
+            let Ok(text) = session_text(rt.alloc(), &question, &orders, &totals, count) else {
                 panic!(rt; "no memory");
             };
             Ok(text)

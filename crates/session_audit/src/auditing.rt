@@ -14,7 +14,9 @@ use super::days::Day;
 use super::dealing::{causes_of, deals_between};
 use super::instants::first_instant_of_day;
 use super::phases::Phase;
-use super::progress::{end_place, first_place, judge_phase, list_phase, phase_kind, start};
+use super::progress::{
+    EndedPhase, end_place, first_place, judge_phase, list_phase, phase_kind, start,
+};
 use audit_base::faults::NoMemory;
 use audit_base::orders::Deal;
 use audit_base::ranges::deals_in_range;
@@ -46,8 +48,9 @@ fn audit_phases(
         let dealt = deals_between(alloc, deals, &causes, first, last)?;
         let list = list_phase(alloc, orders, phases, index, &so_far)?;
         let kind = phase_kind(phases, index);
+        let phase = EndedPhase { kind, last };
         let own = list.list();
-        if let Some(finding) = judge_phase(alloc, kind, &own, &dealt, count, last, &mut so_far)? {
+        if let Some(finding) = judge_phase(alloc, phase, &own, &dealt, count, &mut so_far)? {
             return Ok(Day::Broken(finding));
         }
     }

@@ -36,6 +36,14 @@ pub struct SoFar {
     pub left: Vec<u64>,
 }
 
+/// A phase as it is judged, once its orders and its deals are known.
+#[derive(Clone, Copy, Debug)]
+pub struct EndedPhase {
+    pub kind: PhaseKind,
+    /// The place at which it ends.
+    pub last: u32,
+}
+
 /// Nothing, before the first phase. Err only out of memory.
 pub fn start(alloc: Global, count: usize) -> Result<SoFar, NoMemory>
     ensures traded { IfOk result (λ so_far. so_far.traded.items ≡ replicate count 0) }
@@ -144,31 +152,30 @@ pub fn add_totals(totals: &mut Vec<u128>, traded: &[u128])
 /// memory.
 pub fn judge_phase(
     alloc: Global,
-    kind: PhaseKind,
+    phase: EndedPhase,
     orders: &OrderList<'_>,
     deals: &[Deal],
     count: u32,
-    last: u32,
     so_far: &mut SoFar,
 ) -> Result<Option<Finding>, NoMemory>
     requires order_list { IsOrderList orders.now }
     requires regular { Regular orders.now }
     requires deal_list { IsDealList orders.now deals.now }
     requires trade_count_fits { count < 2 ^ 32 - 1 }
-    requires causes_end_by_last { EndsBy orders.now deals.now last }
+    requires causes_end_by_last { EndsBy orders.now deals.now phase.last }
     requires phase_totals_bounded { (i : ℕ) → traded deals.now i ≤ 2 ^ 72 }
     requires old_totals_bounded { AreBoundedTotals so_far.old.traded.items }
     requires one_total_per_order { length orders.now ≤ length so_far.old.traded.items }
     ensures found { (finding : AFinding) → result ≡ Ok (Some finding)
-        → IsBrokenPhase (spec.rule_of kind) orders.now deals.now count finding }
-    ensures passed { result ≡ Ok None → AddsPhase kind orders.now deals.now last
+        → IsBrokenPhase (spec.rule_of phase.kind) orders.now deals.now count finding }
+    ensures passed { result ≡ Ok None → AddsPhase phase.kind orders.now deals.now phase.last
         so_far.old.traded.items so_far.new.traded.items so_far.new.left.items }
 {
-    match audit_phase(alloc, kind, orders, deals, count)? {
+    match audit_phase(alloc, phase.kind, orders, deals, count)? {
         Outcome::Broken(finding) => Ok(Some(finding)),
         Outcome::Conforms(reached) => {
             let traded = reached.traded.as_slice();
-            so_far.left = leave_phase(alloc, kind, orders, traded, last)?;
+            so_far.left = leave_phase(alloc, phase.kind, orders, traded, phase.last)?;
             add_totals(&mut so_far.traded, traded);
             Ok(None)
         }

@@ -6,6 +6,7 @@ ghost use Rattle.session_audit.specs.Texts.{day_text};
 
 use super::days::DayTotals;
 use super::phases::Phase;
+use super::questions::PhaseQuestion;
 use audit_base::faults::NoMemory;
 use audit_base::names::Name;
 use audit_base::texts::write_number;
@@ -129,20 +130,18 @@ fn append_table(
 #[tactic(auto, using(std::proofs::Common::append_assoc))]
 pub fn session_text(
     alloc: Global,
-    symbol: &Name,
-    phases: &[Phase],
+    question: &PhaseQuestion<'_>,
     orders: &OrderList<'_>,
     totals: &DayTotals,
     trades: u32,
-    table: bool,
 ) -> Result<Vec<u8>, NoMemory>
     requires { length totals.now.0 ≡ length orders.now }
-    ensures { IfOk result (λ text. text.items
-        ≡ day_text symbol.now phases.now orders.now totals.now trades table) }
+    ensures { let q = question.now in IfOk result (λ text. text.items
+        ≡ day_text q.symbol q.phases.now orders.now totals.now trades q.table) }
 {
     let mut out = Vec::new(alloc);
-    append_session_line(alloc, symbol, phases, &mut out)?;
+    append_session_line(alloc, &question.symbol, question.phases, &mut out)?;
     append_totals_line(alloc, orders.len(), trades, totals.volume(), &mut out)?;
-    append_table(alloc, orders, totals.as_slice(), table, &mut out)?;
+    append_table(alloc, orders, totals.as_slice(), question.table, &mut out)?;
     Ok(out)
 }

@@ -14,6 +14,7 @@ use crate::auditing::audit_session;
 use crate::days::Day;
 use crate::laws::day_uniqueness;
 use crate::phases::Phase;
+use crate::questions::PhaseQuestion;
 use crate::texts::session_text;
 use audit_base::faults::NoMemory;
 use audit_base::findings::Finding;
@@ -88,7 +89,12 @@ fn session_of_deals(
         Day::Conforms(totals) => {
             only_of_day(&orders, phases, deals);
             let trades = deals.len() as u32;
-            let text = session_text(alloc, symbol, phases, &orders, &totals, trades, table)?;
+            let question = PhaseQuestion {
+                symbol: *symbol,
+                phases,
+                table,
+            };
+            let text = session_text(alloc, &question, &orders, &totals, trades)?;
             Ok(Session {
                 conforms: true,
                 text,

@@ -9,7 +9,7 @@ use Rattle.audit_run.proofs.sessions.answer_session.Goals as goal
 
 pub returns-in_ok-session_answer-in-Ok-clause-decides : goal.returns-in_ok-session_answer-in-Ok-clause-decides
 returns-in_ok-session_answer-in-Ok-clause-decides g c =
-    c.both_logs_decide.ensures.answers (request_to_judge_session c.args.symbol.now c.args.phases.now c.args.table c.args.orders.now c.args.trades.now) (session_scope c.args.symbol.now, c.in-Ok.given)
+    c.both_logs_decide.ensures.answers (request_to_judge_session c.args.question.now c.args.orders.now c.args.trades.now) (session_scope c.args.question.now.symbol, c.in-Ok.given)
     (reading_by c.args.orders.now g.F.Shelf c.args.shelf.now c.read_both.new.shelf) c.args.orders.now c.args.trades.now _ _ c.in-Ok.ensures.later
     (record {
       starts = record { first = refl; second = λ bytes. refl };
@@ -20,11 +20,11 @@ returns-in_ok-session_answer-in-Ok-clause-decides g c =
 
 pub returns-in-Err-clause-decides : goal.returns-in-Err-clause-decides
 returns-in-Err-clause-decides g c =
-    c.both_logs_decide.ensures.unread (request_to_judge_session c.args.symbol.now c.args.phases.now c.args.table c.args.orders.now c.args.trades.now) (reading_by c.args.orders.now g.F.Shelf c.args.shelf.now c.read_both.new.shelf) c.args.orders.now c.args.trades.now c.in-Err.why c.answer_without.result
+    c.both_logs_decide.ensures.unread (request_to_judge_session c.args.question.now c.args.orders.now c.args.trades.now) (reading_by c.args.orders.now g.F.Shelf c.args.shelf.now c.read_both.new.shelf) c.args.orders.now c.args.trades.now c.in-Err.why c.answer_without.result
     c.in-Err.ensures.later
     (record {
       starts = record { first = refl; second = λ bytes. refl };
-      answer = λ log bad the_status text made logs short come. bad_session _ _ _ _ _ log bad the_status text made come;
+      answer = λ log bad the_status text made logs short come. bad_session c.args.question.now _ _ log bad the_status text made come;
       ends = λ bad first second entries e said. refl;
     })
     c.in-Err.ensures.decides c.answer_without.ensures

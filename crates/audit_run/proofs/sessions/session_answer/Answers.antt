@@ -3,5 +3,5 @@ use Rattle.audit_run.proofs.sessions.session_answer.Goals as goal
 
 pub returns : goal.returns
 returns c =
-    session_answers c.args.symbol.now c.args.phases.now c.args.table c.answer_of_session.result c.args.given.now c.in_ok-session.session
+    session_answers c.args.question.now c.answer_of_session.result c.args.given.now c.in_ok-session.session
     c.in_ok-session.ensures c.answer_of_session.ensures.status c.answer_of_session.ensures.text

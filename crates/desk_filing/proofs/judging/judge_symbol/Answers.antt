@@ -1,6 +1,6 @@
 use Rattle.std.proofs.Common.{refl}
 use Rattle.desk_filing.specs.declared.digested_verdicts.DigestedVerdict.{DigestedVerdict}
-use Rattle.desk_filing.specs.declared.answers.Judged.{Judged}
+use Rattle.desk_filing.specs.declared.answers.FilingOutcome.{FilingOutcome}
 use Rattle.desk_filing.proofs.JudgeLemmas.{judges_symbol}
 use Rattle.desk_filing.proofs.LogLemmas.{stops_reading}
 use Rattle.desk_filing.proofs.WritingLemmas.{ends_stopped}
@@ -18,4 +18,4 @@ pub returns-in_ok-judged_verdict-in-Ok-clause-within : goal.returns-in_ok-judged
 returns-in_ok-judged_verdict-in-Ok-clause-within g c = c.in-Ok.ensures.within
 
 pub returns-in-Err-clause-within : goal.returns-in-Err-clause-within
-returns-in-Err-clause-within g c = rw c.from.ensures (ends_stopped DigestedVerdict Judged c.in-Err.stop c.in-Err.ensures.within)
+returns-in-Err-clause-within g c = rw c.from.ensures (ends_stopped DigestedVerdict FilingOutcome c.in-Err.stop c.in-Err.ensures.within)

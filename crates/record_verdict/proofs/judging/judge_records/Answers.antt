@@ -1,5 +1,5 @@
 use Rattle.std.proofs.Common.{◌∙◌, ap, Err}
-use Rattle.fix_messages.specs.Pairings.{result_of_paired}
+use Rattle.trade_reports.specs.Pairings.{result_of_paired}
 use Rattle.record_verdict.specs.declared.verdicts.Judged.{Judged}
 use Rattle.record_verdict.specs.Judged.{as_verdict, IsJudgedInRange}
 use Rattle.record_verdict.specs.Stages.{VerdictFollowsRecords, VerdictFollowsHistory}
