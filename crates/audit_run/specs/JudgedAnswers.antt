@@ -1,5 +1,5 @@
 -- What is answered to two logs, by what they give before the rule is looked at.
-use Rattle.std.specs.Prelude.{◌≡◌, List, ℕ}
+use Rattle.std.specs.Prelude.{List, ℕ}
 use Rattle.audit_certificate.specs.Agreement.{AgreesUnder, IsCertificateUnder}
 use Rattle.audit_report.specs.declared.statuses.Status.{Status}
 use Rattle.session_audit.specs.declared.questions.PhaseQuestion.{PhaseQuestion}

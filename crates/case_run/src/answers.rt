@@ -1,7 +1,6 @@
 //! One command: its answer, the status and the text, is made whole, and then written.
 ghost use Rattle.std.specs.Prelude.{◌≡◌, ◌≤◌, ◌++◌, IfOk};
 ghost use Rattle.std.specs.List.{flat_map};
-ghost use Rattle.audit_report.specs.Texts.{IsVerdictInRange};
 ghost use Rattle.log_verdict.specs.Steps.{reading, KeepsShelfLogs, FaultsNeverFall};
 ghost use Rattle.case_run.specs.Lines.{case_line, known_line};
 ghost use Rattle.case_run.specs.Play as spec;

@@ -1,5 +1,5 @@
 //! The top call: a run over the casebook that the first word names.
-ghost use Rattle.std.specs.Prelude.{◌≡◌, map};
+ghost use Rattle.std.specs.Prelude.{map};
 ghost use Rattle.std.specs.Option.{option_map};
 ghost use Rattle.std.specs.String.{string_bytes};
 ghost use Rattle.log_verdict.specs.Steps.{KeepsShelfLogs};

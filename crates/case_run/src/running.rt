@@ -3,7 +3,7 @@
 //! A run is a trace: one turn for each command that was done, begun where the one before left
 //! shelf, sink and keeper, and an ending. The turns so far are the invariant of the loop. That they
 //! are Play's is one induction.
-ghost use Rattle.std.specs.Prelude.{◌≡◌, ◌≤◌, map};
+ghost use Rattle.std.specs.Prelude.{map};
 ghost use Rattle.std.specs.String.{string_bytes};
 ghost use Rattle.log_verdict.specs.Steps.{reading};
 ghost use Rattle.case_run.specs.Commands.{commands_of};

@@ -1,5 +1,5 @@
 //! What is kept from one order to the next, whatever has been found.
-ghost use Rattle.std.specs.Prelude.{◌≡◌, ◌<◌, suc, OnOk, IfOk, length};
+ghost use Rattle.std.specs.Prelude.{◌<◌, suc, OnOk, IfOk, length};
 ghost use Rattle.continuous_audit.specs.Records.{priority_at};
 ghost use Rattle.offence_list.specs.ContinuousLists.{crossing_finding, offence_at_place};
 ghost use Rattle.audit_base.specs.Orders.{place_at};

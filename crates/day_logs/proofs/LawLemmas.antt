@@ -14,7 +14,7 @@ use Rattle.day_logs.specs.DayAnswers.{DayMeaning, IsAnswerToLogs, IsAnswerToReco
 use Rattle.day_logs.specs.DayAnswerTexts.{day_answer_status, day_answer_text}
 use Rattle.day_logs.specs.Laws.{AreWrittenAlike, OneDayAnswer, SharesHaveTheVerdicts}
 use Rattle.day_verdicts.specs.Laws.{OneDay, SayTheSame}
-use Rattle.day_verdicts.specs.declared.day_verdicts.JudgedSymbols.{JudgedSymbols}
+use Rattle.day_verdicts.specs.declared.judging.JudgedSymbols.{JudgedSymbols}
 use Rattle.log_verdict.specs.LogVerdicts.{Log, records_of_order_log, trades_of_trade_log}
 use Rattle.record_verdict.specs.RecordVerdicts.{question}
 use Rattle.record_verdict.specs.Laws.{RecordVerdictIsOne}

@@ -1,11 +1,9 @@
 -- The answer to two logs of a day: the verdicts on its symbols, finding 4 alone, or a first bad
 -- place.
-use Rattle.std.specs.Prelude.{◌≡◌, ◌≤◌, ℕ, true, List, Some, Result, Ok, Err, IsOkAnd, MatchResult, length}
+use Rattle.std.specs.Prelude.{◌≡◌, List, Result, Ok, Err, IsOkAnd, MatchResult}
 use Rattle.audit_base.specs.declared.findings.Finding.{Finding}
 use Rattle.audit_base.specs.declared.records.OrderRecord.{OrderRecord}
 use Rattle.audit_base.specs.declared.records.TradeRecord.{TradeRecord}
-use Rattle.audit_base.specs.declared.terms.Which.{Which}
-use Rattle.audit_base.specs.declared.terms.Which.TheVariants.{Orders, Trades}
 use Rattle.day_logs.specs.declared.answers.DayAnswer.{DayAnswer}
 use Rattle.day_logs.specs.declared.answers.DayAnswer.TheVariants as answer
 use Rattle.day_logs.specs.declared.answers.DayQuestion.{DayQuestion}
@@ -14,15 +12,13 @@ use Rattle.day_logs.specs.DayBeforeRule.{IsDayBeforeRule}
 use Rattle.day_symbols.specs.Shares.{DayShare, symbols_in}
 use Rattle.day_symbols.specs.Symbols.{symbols_of_day}
 use Rattle.day_verdicts.specs.DayVerdicts.{IsJudgedDay}
-use Rattle.day_verdicts.specs.declared.day_verdicts.JudgedSymbols.{JudgedSymbols}
-use Rattle.log_source.specs.Sources.{RoseOrIsFull}
+use Rattle.day_verdicts.specs.declared.judging.JudgedSymbols.{JudgedSymbols}
 use Rattle.log_verdict.specs.declared.sources.Source.{Source}
 use Rattle.log_verdict.specs.declared.stops.Stop.{Stop}
-use Rattle.log_verdict.specs.declared.stops.Stop.TheVariants as stop
 use Rattle.log_verdict.specs.declared.stops.NoRecords.{NoRecords}
 use Rattle.log_verdict.specs.declared.stops.NoRecords.TheVariants as norecords
 use Rattle.log_verdict.specs.BothLogs.{IsStopOfTwoLogs, ReadsLogs}
-use Rattle.log_verdict.specs.LogVerdicts.{Log, log_in, OfLogs}
+use Rattle.log_verdict.specs.LogVerdicts.{Log, OfLogs}
 use Rattle.log_verdict.specs.Steps.{Reading}
 use Rattle.record_verdict.specs.declared.scopes.Admission.{Admission}
 
@@ -64,27 +60,6 @@ abbrev pub GivesDayAnswerOrStop : Reading → DayMeaning → Source → Source �
     → Type 0
 GivesDayAnswerOrStop r meaning orders trades result =
     MatchResult result (ReadsDayAnswer r meaning orders trades) (IsStopOfTwoLogs r orders trades)
-
--- It is known what the shelf has, and it has both logs under their names, each within the limit;
--- and no fault of it was counted in the call, nor is a count of faults at its greatest value.
-pub record HoldsDay (r : Reading) (orders trades : Source) (orders_bytes trades_bytes : List ℕ)
-    : Type 0 where
-  pub tells : r.tells ≡ true
-  pub orders_there : r.log_of Orders orders.name.now ≡ Some orders_bytes
-  pub orders_short : length orders_bytes ≤ r.limit
-  pub trades_there : r.log_of Trades trades.name.now ≡ Some trades_bytes
-  pub trades_short : length trades_bytes ≤ r.limit
-  pub no_fault : (log : Which) → ¬ RoseOrIsFull (r.before log).faults (r.after log).faults
-
--- completeness: where the shelf has both logs and nothing fails, the answer is the one to these
--- logs, or memory ran out
-abbrev pub AnswersHeldDay : Reading → DayMeaning → Source → Source → Result DayAnswer Stop
-    → Type 0
-AnswersHeldDay r meaning orders trades result = (orders_bytes trades_bytes : List ℕ)
-    → HoldsDay r orders trades orders_bytes trades_bytes
-    → MatchResult result
-    (IsAnswerToLogs meaning (log_in orders.form orders_bytes) (log_in trades.form trades_bytes))
-    (λ why. why ≡ stop.Memory)
 
 -- What functions pass on.
 

@@ -3,7 +3,7 @@ ghost use Rattle.std.specs.Prelude.{◌≡◌, IfOk};
 ghost use Rattle.log_verdict.specs.BothLogs.{HaveOneLimit, StaysWithin};
 ghost use Rattle.log_verdict.specs.Steps.{reading_by, KeepsShelfLogs, FaultsNeverFall};
 ghost use Rattle.record_verdict.specs.Scopes.{admission_of};
-ghost use Rattle.day_logs.specs.DayAnswers.{AnswersHeldDay, GivesDayAnswerOrStop};
+ghost use Rattle.day_logs.specs.DayAnswers.{GivesDayAnswerOrStop};
 ghost use Rattle.day_logs.specs.DayAnswers.{day_without, IsAnswerUpToRule, AreVerdictsOfDay};
 ghost use Rattle.day_logs.specs.DayBeforeRule.{IsDayWithFewTrades};
 
@@ -13,7 +13,7 @@ use audit_base::faults::{BadPlace, NoMemory};
 use audit_base::findings::Finding;
 use audit_base::terms::{Rule, Which};
 use day_symbols::shares::DayShare;
-use day_verdicts::day_verdicts::{JudgedSymbols, judge_day};
+use day_verdicts::judging::{JudgedSymbols, judge_day};
 use further_checks::findings::FurtherChecks;
 use log_source::shelf::Shelf;
 use log_verdict::sources::Source;
@@ -81,28 +81,6 @@ fn answer_after(
     }
 }
 
-/// The answer to two logs, by what they give.
-fn answer_to<F: Shelf>(
-    alloc: Global,
-    shelf: &mut F,
-    question: &DayQuestion,
-    orders: &Source<'_>,
-    trades: &Source<'_>,
-) -> Result<DayAnswer, Stop>
-    requires limit { HaveOneLimit orders.now trades.now }
-    ensures logs { KeepsShelfLogs F.Shelf shelf.old shelf.new }
-    ensures later { FaultsNeverFall (reading_by orders.now F.Shelf shelf.old shelf.new) }
-    ensures decides { GivesDayAnswerOrStop (reading_by orders.now F.Shelf shelf.old shelf.new)
-        (AreVerdictsOfDay question.now) orders.now trades.now result }
-    ensures within { StaysWithin (reading_by orders.now F.Shelf shelf.old shelf.new) result }
-{
-    let admission = Admission::of(question.rule);
-    match read_day(alloc, shelf, question.share, admission, orders, trades) {
-        Ok(given) => Ok(answer_after(alloc, question, given)?),
-        Err(why) => day_without(why),
-    }
-}
-
 /// The verdicts on the symbols of a share of two logs, or why there are none. The order log is read
 /// first, piece by piece, and the trade log only where that is in its grammar; each is read once.
 /// What is kept is what a single audit keeps, of each symbol of the share, and of the others the
@@ -126,9 +104,11 @@ pub fn verdicts_on<F: Shelf>(
     ensures later { FaultsNeverFall (reading_by orders.now F.Shelf shelf.old shelf.new) }
     ensures decides { GivesDayAnswerOrStop (reading_by orders.now F.Shelf shelf.old shelf.new)
         (AreVerdictsOfDay question.now) orders.now trades.now result }
-    ensures complete { AnswersHeldDay (reading_by orders.now F.Shelf shelf.old shelf.new)
-        (AreVerdictsOfDay question.now) orders.now trades.now result }
     ensures within { StaysWithin (reading_by orders.now F.Shelf shelf.old shelf.new) result }
 {
-    answer_to(alloc, shelf, question, orders, trades)
+    let admission = Admission::of(question.rule);
+    match read_day(alloc, shelf, question.share, admission, orders, trades) {
+        Ok(given) => Ok(answer_after(alloc, question, given)?),
+        Err(why) => day_without(why),
+    }
 }

@@ -10,7 +10,7 @@ use Rattle.day_sessions.specs.JudgedSessions.{AreJudgedSessions, AreSessionsOfDa
 use Rattle.day_sessions.specs.Laws.{OneSessionAnswer}
 use Rattle.day_sessions.specs.SymbolSessions.{IsSymbolSession, session_told, told_by_session}
 use Rattle.day_symbols.specs.Kept.{AreForEach}
-use Rattle.day_verdicts.specs.declared.day_verdicts.JudgedSymbols.{JudgedSymbols}
+use Rattle.day_verdicts.specs.declared.judging.JudgedSymbols.{JudgedSymbols}
 use Rattle.day_verdicts.specs.CheckedSymbols.{after_checks}
 use Rattle.day_verdicts.specs.Laws.{SayTheSame as SayTheSameDay}
 use Rattle.day_verdicts.specs.ToldSymbols.{counts_of, day_lines_of, Told}

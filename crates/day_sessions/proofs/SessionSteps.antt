@@ -21,7 +21,7 @@ use Rattle.day_records.specs.declared.symbol_records.SymbolRecords.{SymbolRecord
 use Rattle.day_records.specs.declared.symbol_trades.SymbolTrades.{SymbolTrades}
 use Rattle.day_records.specs.SymbolRecords.{GivesSymbolTrades, HasFewSymbolRecords, times_if}
 use Rattle.day_records.specs.SymbolTrades.{HasFewOfSymbol}
-use Rattle.day_verdicts.specs.declared.day_verdicts.JudgedSymbols.{JudgedSymbols}
+use Rattle.day_verdicts.specs.declared.judging.JudgedSymbols.{JudgedSymbols}
 use Rattle.day_verdicts.specs.CheckedSymbols.{HasFewTimed}
 use Rattle.day_verdicts.specs.DayVerdicts.{HasRoomForOne}
 use Rattle.day_verdicts.proofs.TellLemmas.{room-for-one, tell-length, tells-more}

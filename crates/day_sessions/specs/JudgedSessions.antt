@@ -11,7 +11,7 @@ use Rattle.day_symbols.specs.Shares.{DayShare, symbols_in}
 use Rattle.day_symbols.specs.Symbols.{symbols_of_day}
 use Rattle.day_records.specs.declared.day_trades.EndedTrades.{EndedTrades}
 use Rattle.day_records.specs.DayTrades.{HasTradesOf}
-use Rattle.day_verdicts.specs.declared.day_verdicts.JudgedSymbols.{JudgedSymbols}
+use Rattle.day_verdicts.specs.declared.judging.JudgedSymbols.{JudgedSymbols}
 use Rattle.day_verdicts.specs.ToldSymbols.{tell_each, Told, TellsSymbols}
 use Rattle.further_checks.specs.declared.findings.FurtherChecks.{FurtherChecks}
 use Rattle.record_verdict.specs.declared.scopes.Admission.TheVariants as admission

@@ -1,7 +1,6 @@
 //! The sessions of the symbols of two logs of a shelf.
 ghost use Rattle.std.specs.Prelude.{IfOk};
-ghost use Rattle.day_logs.specs.DayAnswers.{AnswersHeldDay, GivesDayAnswerOrStop};
-ghost use Rattle.day_logs.specs.DayAnswers.{IsAnswerUpToRule};
+ghost use Rattle.day_logs.specs.DayAnswers.{GivesDayAnswerOrStop, IsAnswerUpToRule};
 ghost use Rattle.day_logs.specs.DayBeforeRule.{IsDayWithFewTrades};
 ghost use Rattle.day_sessions.specs.JudgedSessions.{AreSessionsAsked};
 ghost use Rattle.log_verdict.specs.BothLogs.{HaveOneLimit, StaysWithin};
@@ -41,8 +40,10 @@ fn sessions_after(
     }
 }
 
-/// The answer to two logs, by what they give.
-fn sessions_of_logs<F: Shelf>(
+/// The sessions of the symbols of a share of two logs, or why there are none, as `verdicts_on`
+/// answers for a rule, and behind them the checks that are asked for. The reading admits every
+/// order: whether a call admits its own orders is for the day to say.
+pub fn sessions_on<F: Shelf>(
     alloc: Global,
     shelf: &mut F,
     question: &SessionQuestion<'_>,
@@ -61,27 +62,4 @@ fn sessions_of_logs<F: Shelf>(
         Ok(given) => Ok(sessions_after(alloc, question, given)?),
         Err(why) => day_without(why),
     }
-}
-
-/// The sessions of the symbols of a share of two logs, or why there are none, as `verdicts_on`
-/// answers for a rule, and behind them the checks that are asked for. The reading admits every
-/// order: whether a call admits its own orders is for the day to say.
-pub fn sessions_on<F: Shelf>(
-    alloc: Global,
-    shelf: &mut F,
-    question: &SessionQuestion<'_>,
-    orders: &Source<'_>,
-    trades: &Source<'_>,
-) -> Result<DayAnswer, Stop>
-    requires phases { ArePhases question.now.phases.now }
-    requires limit { HaveOneLimit orders.now trades.now }
-    ensures logs { KeepsShelfLogs F.Shelf shelf.old shelf.new }
-    ensures later { FaultsNeverFall (reading_by orders.now F.Shelf shelf.old shelf.new) }
-    ensures decides { GivesDayAnswerOrStop (reading_by orders.now F.Shelf shelf.old shelf.new)
-        (AreSessionsAsked question.now) orders.now trades.now result }
-    ensures complete { AnswersHeldDay (reading_by orders.now F.Shelf shelf.old shelf.new)
-        (AreSessionsAsked question.now) orders.now trades.now result }
-    ensures within { StaysWithin (reading_by orders.now F.Shelf shelf.old shelf.new) result }
-{
-    sessions_of_logs(alloc, shelf, question, orders, trades)
 }

@@ -9,7 +9,7 @@ use crate::questions::SessionQuestion;
 use crate::symbol_sessions::judge_symbol;
 use audit_base::faults::NoMemory;
 use day_records::day_trades::EndedTrades;
-use day_verdicts::day_verdicts::{JudgedSymbols, TimedTrades};
+use day_verdicts::judging::{JudgedSymbols, TimedTrades};
 use std::alloc::Global;
 
 /// The sessions of the symbols of a share, in their order: how many there are, and their lines,
@@ -35,9 +35,9 @@ pub fn judge_sessions(
         admission,
     } = ended;
     let mut judged = JudgedSymbols::none(alloc);
-    let mut place: usize = 0;
+    let mut share_index: usize = 0;
     for symbol_records in kept {
-        let Some(symbol) = question.share.symbol_at(&symbols, place) else {
+        let Some(symbol) = question.share.symbol_at(&symbols, share_index) else {
             unreachable!();
         };
         let times = symbol_records.trade_times(alloc, question.checks.any())?;
@@ -48,7 +48,7 @@ pub fn judge_sessions(
             times,
         };
         judge_symbol(alloc, &mut judged, symbol, question, timed)?;
-        place += 1;
+        share_index += 1;
     }
     Ok(judged)
 }

@@ -10,7 +10,7 @@ use crate::questions::SessionQuestion;
 use audit_base::faults::NoMemory;
 use audit_base::names::Name;
 use audit_base::stamps::Stamp;
-use day_verdicts::day_verdicts::{JudgedSymbols, TimedTrades};
+use day_verdicts::judging::{JudgedSymbols, TimedTrades};
 use day_verdicts::symbol_reports::{SymbolReport, report_after};
 use further_checks::laws::nothing_is_found_unasked;
 use record_verdict::before_rule::BeforeRule;

@@ -5,8 +5,6 @@
 #[cfg(test)]
 mod day_texts;
 #[cfg(test)]
-mod days;
-#[cfg(test)]
 mod each_symbol;
 #[cfg(test)]
 mod large_days;

@@ -5,7 +5,7 @@ use Rattle.std.proofs.lemmas.List.{append_assoc}
 use Rattle.std.proofs.lemmas.List.Sums.{count_by-le-length, sum_by-append}
 use Rattle.audit_report.specs.declared.day_line.DayCounts.{DayCounts}
 use Rattle.audit_report.specs.DayTexts.{symbol_lines}
-use Rattle.day_verdicts.specs.declared.day_verdicts.JudgedSymbols.{JudgedSymbols}
+use Rattle.day_verdicts.specs.declared.judging.JudgedSymbols.{JudgedSymbols}
 use Rattle.day_verdicts.specs.DayVerdicts.{HasRoomForOne}
 use Rattle.day_verdicts.specs.ToldSymbols.{AddsTold, counts_of, day_lines_of, tell_each, Told, TellsSymbols, with_one}
 

@@ -25,7 +25,7 @@ use Rattle.day_records.specs.KeptTrades.{KeptDeals}
 use Rattle.record_verdict.specs.declared.scopes.Admission.{Admission}
 use Rattle.record_verdict.specs.RecordVerdicts.{IsRecordVerdict, question}
 use Rattle.record_verdict.specs.Scopes.{admission_of}
-use Rattle.day_verdicts.specs.declared.day_verdicts.JudgedSymbols.{JudgedSymbols}
+use Rattle.day_verdicts.specs.declared.judging.JudgedSymbols.{JudgedSymbols}
 use Rattle.day_verdicts.specs.CheckedSymbols.{asked_times, HasFewTimed}
 use Rattle.day_verdicts.specs.DayVerdicts.{AddsVerdictOnSymbol, HasRoomForOne, IsJudgedDay, IsJudgedShare, IsJudgedUpTo, RuleTradesFitPlaces, told_of_symbol, told_of_symbols}
 use Rattle.day_verdicts.proofs.TellLemmas.{room-for-one, tell-length, tells-more}

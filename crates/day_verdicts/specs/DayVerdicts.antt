@@ -15,7 +15,7 @@ use Rattle.day_records.specs.declared.day_trades.EndedTrades.{EndedTrades}
 use Rattle.day_records.specs.declared.symbol_trades.SymbolTrades.{SymbolTrades}
 use Rattle.day_records.specs.DayTrades.{HasTradesOf}
 use Rattle.day_records.specs.SymbolTrades.{IsSymbolTrades}
-use Rattle.day_verdicts.specs.declared.day_verdicts.JudgedSymbols.{JudgedSymbols}
+use Rattle.day_verdicts.specs.declared.judging.JudgedSymbols.{JudgedSymbols}
 use Rattle.day_verdicts.specs.declared.symbol_reports.SymbolReport.{SymbolReport}
 use Rattle.day_verdicts.specs.CheckedSymbols.{after_checks, after_given, asked_times}
 use Rattle.day_verdicts.specs.ToldSymbols.{AddsTold, Told, TellsSymbols, tell_each, told_by}

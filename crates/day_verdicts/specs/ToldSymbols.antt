@@ -2,7 +2,7 @@
 use Rattle.std.specs.Prelude.{◌≡◌, ◌+◌, ℕ, Bool, not, List, [], ◌∷◌, ◌++◌, length, count_by, if◌then◌else◌}
 use Rattle.audit_report.specs.declared.day_line.DayCounts.{DayCounts}
 use Rattle.audit_report.specs.DayTexts.{symbol_lines}
-use Rattle.day_verdicts.specs.declared.day_verdicts.JudgedSymbols.{JudgedSymbols}
+use Rattle.day_verdicts.specs.declared.judging.JudgedSymbols.{JudgedSymbols}
 use Rattle.day_verdicts.specs.declared.symbol_reports.SymbolReport.{SymbolReport}
 
 -- What is told of a symbol: whether it is accepted, and the text.

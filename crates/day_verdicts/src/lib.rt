@@ -5,8 +5,7 @@
 //! at by the further checks that are asked for (`symbol_reports`). What is kept of it is its lines.
 #![tactic(auto)]
 
-pub mod day_verdicts;
+pub mod judging;
 pub mod laws;
 pub mod symbol_reports;
 pub mod verdict_lists;
-pub mod whole_days;

@@ -12,7 +12,7 @@ use Rattle.case_run.specs.declared.halts.Halt.{Halt}
 use Rattle.case_run.specs.declared.halts.Halt.TheVariants as halt
 use Rattle.case_run.specs.declared.statuses.CaseStatus.{CaseStatus}
 use Rattle.case_run.specs.declared.statuses.CaseStatus.TheVariants as status
-use Rattle.desk_words.specs.declared.requests.DayLogs.{DayLogs}
+use Rattle.desk_words.specs.declared.requests.NamedLogs.{NamedLogs}
 use Rattle.digest_keeper.specs.DigestKeepers.{DigestKeeperState, FindsKept}
 use Rattle.log_digests.specs.declared.digests.LogDigests.{LogDigests}
 use Rattle.digest_keeper.specs.declared.digested.KeptCase.{KeptCase}
@@ -35,7 +35,7 @@ pub faults_of_both : (a b c : ℕ) → a ≤ b → b ≤ c → a ≤ c
 faults_of_both a b c first second = omega arith
 
 -- a second reading over the shelf that a first left
-pub goes_on : (first second : Reading) (logs : DayLogs) → ReadsRecords first logs AnyRecords → second.limit ≡ first.limit → second.tells ≡ first.tells → ((log : Which) (name : List ℕ) → second.log_of log name ≡ first.log_of log name) → second.before ≡ first.after → FaultsNeverFall first → GoesOn first second
+pub goes_on : (first second : Reading) (logs : NamedLogs) → ReadsRecords first logs AnyRecords → second.limit ≡ first.limit → second.tells ≡ first.tells → ((log : Which) (name : List ℕ) → second.log_of log name ≡ first.log_of log name) → second.before ≡ first.after → FaultsNeverFall first → GoesOn first second
 goes_on first second logs reads limit tells same begins later = record { limit = limit; tells = tells; logs = fun_ext (λ log. fun_ext (λ name. same log name)); begins = begins; later = later }
 
 -- the reading of both is the second, begun where the first began
@@ -46,14 +46,14 @@ same_of first second on =
     ∙ ap (λ (l : Which → List ℕ → Option (List ℕ)). record (both_readings first second) { limit = second.limit; tells = second.tells; log_of = l }) (sym on.logs)
 
 -- what is known of the end of a reading is so wherever it began
-again : (r : Reading) (begun : Which → Slot) (logs : DayLogs) (log : Which) (good : Bool) → ReadsLogAs r logs log good → ReadsLogAs (record r { before = begun }) logs log good
+again : (r : Reading) (begun : Which → Slot) (logs : NamedLogs) (log : Which) (good : Bool) → ReadsLogAs r logs log good → ReadsLogAs (record r { before = begun }) logs log good
 again r begun logs log good is = record { bytes = is.bytes; started = is.started; at_end = is.at_end; within = is.within; taken = is.taken; known = is.known; good_is = is.good_is }
 
-again_turn : (r : Reading) (begun : Which → Slot) (logs : DayLogs) (log : Which) → IsLogInTurn r logs log → IsLogInTurn (record r { before = begun }) logs log
+again_turn : (r : Reading) (begun : Which → Slot) (logs : NamedLogs) (log : Which) → IsLogInTurn r logs log → IsLogInTurn (record r { before = begun }) logs log
 again_turn r begun logs Orders is = tt
 again_turn r begun logs Trades is = again r begun logs Orders true is
 
-again_for : (r : Reading) (begun : Which → Slot) (logs : DayLogs) (s : CaseStatus) → ReadsLogsFor r logs s → ReadsLogsFor (record r { before = begun }) logs s
+again_for : (r : Reading) (begun : Which → Slot) (logs : NamedLogs) (s : CaseStatus) → ReadsLogsFor r logs s → ReadsLogsFor (record r { before = begun }) logs s
 again_for r begun logs status.Done good = λ log. again r begun logs log true (good log)
 again_for r begun logs status.Refused good = λ log. again r begun logs log true (good log)
 again_for r begun logs status.Malformed bad = record { log = bad.log; in_turn = again_turn r begun logs bad.log bad.in_turn; bad = again r begun logs bad.log false bad.bad }
@@ -64,7 +64,7 @@ again_for r begun logs status.TooLong is = absurd is
 again_for r begun logs status.Memory is = absurd is
 again_for r begun logs status.KeeperFault is = absurd is
 
-again_up_to : (r : Reading) (begun : Which → Slot) → ((log : Which) → (begun log).faults ≤ (r.before log).faults) → (logs : DayLogs) (why : Halt) → ReadsLogsUpTo r logs why → ReadsLogsUpTo (record r { before = begun }) logs why
+again_up_to : (r : Reading) (begun : Which → Slot) → ((log : Which) → (begun log).faults ≤ (r.before log).faults) → (logs : NamedLogs) (why : Halt) → ReadsLogsUpTo r logs why → ReadsLogsUpTo (record r { before = begun }) logs why
 again_up_to r begun later logs (halt.ReadFault log) is = record {
   in_turn = again_turn r begun logs log is.in_turn;
   cause = ⊎_elim (λ rose. inl (rose_earlier (begun log).faults (r.before log).faults (r.after log).faults (later log) rose)) (λ none. inr none) is.cause;

@@ -20,7 +20,7 @@ use Rattle.day_logs.specs.declared.before_rule.DayBeforeRule.TheVariants as befo
 use Rattle.day_symbols.specs.Shares.{whole_day}
 use Rattle.day_records.specs.DayTrades.{HasTradesOf}
 use Rattle.day_records.specs.declared.day_trades.EndedTrades.{EndedTrades}
-use Rattle.desk_words.specs.declared.requests.DayLogs.{DayLogs}
+use Rattle.desk_words.specs.declared.requests.NamedLogs.{NamedLogs}
 use Rattle.log_digests.specs.declared.digests.LogDigests.{LogDigests}
 use Rattle.digest_keeper.specs.declared.digested.KeptCase.{KeptCase}
 use Rattle.desk_filing.specs.Causes.{ReadsLogsFor}
@@ -49,12 +49,12 @@ use Rattle.log_verdict.specs.BothLogs.{IsUnreadOfTwoLogs, ReadsLogs, ReadsWithin
 use Rattle.record_verdict.specs.Scopes.{admission_of}
 
 -- The digests are those that the shelf took of both logs.
-pub record TakesDigests (r : Reading) (logs : DayLogs) (digests : LogDigests) : Type 0 where
+pub record TakesDigests (r : Reading) (logs : NamedLogs) (digests : LogDigests) : Type 0 where
   pub of_orders : IsDigestAtEnd r.tells (r.log_of Orders logs.orders) (r.after Orders) digests.orders
   pub of_trades : IsDigestAtEnd r.tells (r.log_of Trades logs.trades) (r.after Trades) digests.trades
 
 -- they were taken after the reading, of a shelf that tells as before and has the same logs
-pub takes_digests : (r : Reading) (logs : DayLogs) (digests : LogDigests) (told : Bool) (log_of : Which → List ℕ → Option (List ℕ)) → told ≡ r.tells → ((w : Which) (n : List ℕ) → log_of w n ≡ r.log_of w n)
+pub takes_digests : (r : Reading) (logs : NamedLogs) (digests : LogDigests) (told : Bool) (log_of : Which → List ℕ → Option (List ℕ)) → told ≡ r.tells → ((w : Which) (n : List ℕ) → log_of w n ≡ r.log_of w n)
     → IsDigestAtEnd told (log_of Orders logs.orders) (r.after Orders) digests.orders → IsDigestAtEnd told (log_of Trades logs.trades) (r.after Trades) digests.trades → TakesDigests r logs digests
 takes_digests r logs digests told log_of is_told same first second = record {
   of_orders = λ tells started at_end. ap (option_map digest_of) (sym (same Orders logs.orders)) ∙ first (is_told ∙ tells) started at_end;

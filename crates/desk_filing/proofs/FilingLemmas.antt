@@ -7,7 +7,7 @@ use Rattle.case_run.specs.declared.halts.Halt.{Halt}
 use Rattle.case_run.specs.declared.halts.Halt.TheVariants as halt
 use Rattle.case_run.specs.declared.statuses.CaseStatus.{CaseStatus}
 use Rattle.case_run.specs.declared.statuses.CaseStatus.TheVariants as status
-use Rattle.desk_words.specs.declared.requests.DayLogs.{DayLogs}
+use Rattle.desk_words.specs.declared.requests.NamedLogs.{NamedLogs}
 use Rattle.digest_keeper.specs.DigestKeepers.{DigestKeeperState}
 use Rattle.digest_keeper.specs.declared.digested.DigestedCase.{DigestedCase}
 use Rattle.digest_keeper.specs.declared.digested.KeptCase.{KeptCase}
@@ -24,11 +24,11 @@ use Rattle.desk_filing.specs.declared.requests.FilingRequest.{FilingRequest}
 use Rattle.log_verdict.specs.Steps.{Reading}
 
 -- the logs of a command that was done or refused by the keeper
-going : (r : Reading) (logs : DayLogs) (s : CaseStatus) → (s ≡ status.Done) ⊎ (s ≡ status.Refused) → ReadsGoodLogs r logs → ReadsLogsFor r logs s
+going : (r : Reading) (logs : NamedLogs) (s : CaseStatus) → (s ≡ status.Done) ⊎ (s ≡ status.Refused) → ReadsGoodLogs r logs → ReadsLogsFor r logs s
 going r logs s (inl e) good = subst (ReadsLogsFor r logs) (sym e) good
 going r logs s (inr e) good = subst (ReadsLogsFor r logs) (sym e) good
 
-keeper_read : (r : Reading) (logs : DayLogs) (why : Halt) → (why ≡ halt.KeeperFault) ⊎ (why ≡ halt.Memory) → ReadsGoodLogs r logs → ReadsLogsUpTo r logs why
+keeper_read : (r : Reading) (logs : NamedLogs) (why : Halt) → (why ≡ halt.KeeperFault) ⊎ (why ≡ halt.Memory) → ReadsGoodLogs r logs → ReadsLogsUpTo r logs why
 keeper_read r logs why (inl e) good = subst (ReadsLogsUpTo r logs) (sym e) good
 keeper_read r logs why (inr e) good = subst (ReadsLogsUpTo r logs) (sym e) tt
 

@@ -9,7 +9,7 @@ use Rattle.audit_base.specs.declared.terms.Form.{Form}
 use Rattle.audit_base.specs.declared.terms.Which.{Which}
 use Rattle.audit_base.specs.declared.terms.Which.TheVariants.{Orders, Trades}
 use Rattle.case_run.specs.Turns.{halt_of_stop}
-use Rattle.desk_words.specs.declared.requests.DayLogs.{DayLogs}
+use Rattle.desk_words.specs.declared.requests.NamedLogs.{NamedLogs}
 use Rattle.digest_keeper.specs.declared.digested.KeptCase.{KeptCase}
 use Rattle.desk_filing.specs.Causes.{FindsLogTooLong, FindsLogUnreadable, IsLogInTurn, ReadsLogAs, day_log_name, is_good_log}
 use Rattle.desk_filing.specs.Steps.{NamesLogs, ReadsBadPlace, ReadsRecords, StopsReading}
@@ -29,7 +29,7 @@ not_ok : {A B : Type 0} (said : Result A B) (bad : B) → said ≡ Err bad → I
 not_ok (Ok x) bad e good = cc
 not_ok (Err other) bad e good = cc
 
-module _ (r : Reading) (logs : DayLogs) (orders trades : Source) (names : NamesLogs logs orders trades) where
+module _ (r : Reading) (logs : NamedLogs) (orders trades : Source) (names : NamesLogs logs orders trades) where
   -- a log that was read to its end
   reads_as : (log : Which) (source : Source) (bytes : List ℕ) (good : Bool) → source.name.now ≡ day_log_name logs log → IsRead r (step_of r log source.name.now) bytes → is_good_log logs log bytes ≡ good → ReadsLogAs r logs log good
   reads_as log source bytes good name read is = record {
@@ -63,11 +63,11 @@ module _ (r : Reading) (logs : DayLogs) (orders trades : Source) (names : NamesL
           holds = holds;
           read = record { log = Orders; in_turn = tt; bad = reads };
           turn = λ tells kept request same.
-              let said : records_of_order_log request.logs.orders_form one ≡ Err bad = subst (λ (l : DayLogs). records_of_order_log l.orders_form one ≡ Err bad) (sym same) (orders_said one (Err bad) says) in
+              let said : records_of_order_log request.logs.orders_form one ≡ Err bad = subst (λ (l : NamedLogs). records_of_order_log l.orders_form one ≡ Err bad) (sym same) (orders_said one (Err bad) says) in
               record {
                 orders = one;
                 trades = [];
-                has_orders = subst (λ (l : DayLogs). r.log_of Orders l.orders ≡ Some one) (sym same) (reads.known tells);
+                has_orders = subst (λ (l : NamedLogs). r.log_of Orders l.orders ≡ Some one) (sym same) (reads.known tells);
                 has_trades = λ good. absurd (not_ok (records_of_order_log request.logs.orders_form one) bad said good);
                 is = rw said refl;
               };
@@ -85,13 +85,13 @@ module _ (r : Reading) (logs : DayLogs) (orders trades : Source) (names : NamesL
           holds = holds;
           read = record { log = Trades; in_turn = good; bad = reads };
           turn = λ tells kept request same.
-              let first_said : records_of_order_log request.logs.orders_form one ≡ Ok entries = subst (λ (l : DayLogs). records_of_order_log l.orders_form one ≡ Ok entries) (sym same) (orders_said one (Ok entries) says) in
-              let second_said : trades_of_trade_log request.logs.trades_form two ≡ Err bad = subst (λ (l : DayLogs). trades_of_trade_log l.trades_form two ≡ Err bad) (sym same) (trades_said two (Err bad) said) in
+              let first_said : records_of_order_log request.logs.orders_form one ≡ Ok entries = subst (λ (l : NamedLogs). records_of_order_log l.orders_form one ≡ Ok entries) (sym same) (orders_said one (Ok entries) says) in
+              let second_said : trades_of_trade_log request.logs.trades_form two ≡ Err bad = subst (λ (l : NamedLogs). trades_of_trade_log l.trades_form two ≡ Err bad) (sym same) (trades_said two (Err bad) said) in
               record {
                 orders = one;
                 trades = two;
-                has_orders = subst (λ (l : DayLogs). r.log_of Orders l.orders ≡ Some one) (sym same) (good.known tells);
-                has_trades = λ ok. subst (λ (l : DayLogs). r.log_of Trades l.trades ≡ Some two) (sym same) (reads.known tells);
+                has_orders = subst (λ (l : NamedLogs). r.log_of Orders l.orders ≡ Some one) (sym same) (good.known tells);
+                has_trades = λ ok. subst (λ (l : NamedLogs). r.log_of Trades l.trades ≡ Some two) (sym same) (reads.known tells);
                 is = rw (first_said, second_said) refl;
               };
         }
@@ -160,21 +160,21 @@ module _ (r : Reading) (logs : DayLogs) (orders trades : Source) (names : NamesL
   -- why nothing is known of both logs is why a command has no answer
   pub stops_reading : (request : FilingRequest) → request.logs ≡ logs → (why : Stop) → IsStopOfTwoLogs r orders trades why → StopsReading r request (halt_of_stop why)
   stops_reading request same (stop.ReadFault log) is =
-      record { read = subst (λ (l : DayLogs). FindsLogUnreadable r l log) (sym same) (unreadable log is.in_turn is.fault); no_keeper = λ e. cc }
+      record { read = subst (λ (l : NamedLogs). FindsLogUnreadable r l log) (sym same) (unreadable log is.in_turn is.fault); no_keeper = λ e. cc }
   stops_reading request same (stop.TooLong log) is =
-      record { read = subst (λ (l : DayLogs). FindsLogTooLong r l log) (sym same) (overlong log is.in_turn is.long); no_keeper = λ e. cc }
+      record { read = subst (λ (l : NamedLogs). FindsLogTooLong r l log) (sym same) (overlong log is.in_turn is.long); no_keeper = λ e. cc }
   stops_reading request same stop.Memory is = record { read = tt; no_keeper = λ e. cc }
 
 -- what a command leaves of logs that have records
-pub turn_of_records : (r : Reading) (logs : DayLogs) (P : List OrderRecord → Result (List TradeRecord) Finding → Type 0) (reads : ReadsRecords r logs P) → r.tells ≡ true → (kept : List KeptCase) (request : FilingRequest) → request.logs ≡ logs → (turn : FilingTurn)
+pub turn_of_records : (r : Reading) (logs : NamedLogs) (P : List OrderRecord → Result (List TradeRecord) Finding → Type 0) (reads : ReadsRecords r logs P) → r.tells ≡ true → (kept : List KeptCase) (request : FilingRequest) → request.logs ≡ logs → (turn : FilingTurn)
     → IsTurnOfRecords (record { orders = digest_of reads.orders; trades = digest_of reads.trades }) kept request.label request.command turn reads.entries reads.paired → IsFilingTurn r.log_of kept request turn
 turn_of_records r logs P reads tells kept request same turn is =
-    let first_said : records_of_order_log request.logs.orders_form reads.orders ≡ Ok reads.entries = subst (λ (l : DayLogs). records_of_order_log l.orders_form reads.orders ≡ Ok reads.entries) (sym same) reads.orders_say in
-    let second_said : trades_of_trade_log request.logs.trades_form reads.trades ≡ Ok reads.paired = subst (λ (l : DayLogs). trades_of_trade_log l.trades_form reads.trades ≡ Ok reads.paired) (sym same) reads.trades_say in
+    let first_said : records_of_order_log request.logs.orders_form reads.orders ≡ Ok reads.entries = subst (λ (l : NamedLogs). records_of_order_log l.orders_form reads.orders ≡ Ok reads.entries) (sym same) reads.orders_say in
+    let second_said : trades_of_trade_log request.logs.trades_form reads.trades ≡ Ok reads.paired = subst (λ (l : NamedLogs). trades_of_trade_log l.trades_form reads.trades ≡ Ok reads.paired) (sym same) reads.trades_say in
     record {
       orders = reads.orders;
       trades = reads.trades;
-      has_orders = subst (λ (l : DayLogs). r.log_of Orders l.orders ≡ Some reads.orders) (sym same) (reads.orders_known tells);
-      has_trades = λ ok. subst (λ (l : DayLogs). r.log_of Trades l.trades ≡ Some reads.trades) (sym same) (reads.trades_known tells);
+      has_orders = subst (λ (l : NamedLogs). r.log_of Orders l.orders ≡ Some reads.orders) (sym same) (reads.orders_known tells);
+      has_trades = λ ok. subst (λ (l : NamedLogs). r.log_of Trades l.trades ≡ Some reads.trades) (sym same) (reads.trades_known tells);
       is = rw (first_said, second_said) is;
     }

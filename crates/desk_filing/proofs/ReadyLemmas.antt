@@ -11,11 +11,11 @@ use Rattle.case_run.specs.declared.halts.Halt.{Halt}
 use Rattle.case_run.specs.declared.halts.Halt.TheVariants as halt
 use Rattle.case_run.specs.declared.statuses.CaseStatus.{CaseStatus}
 use Rattle.case_run.specs.declared.statuses.CaseStatus.TheVariants as status
-use Rattle.desk_words.specs.declared.requests.DayLogs.{DayLogs}
+use Rattle.desk_words.specs.declared.requests.NamedLogs.{NamedLogs}
 use Rattle.digest_keeper.specs.DigestKeepers.{DigestKeeperState}
 use Rattle.digest_keeper.specs.declared.digested.KeptCase.{KeptCase}
 use Rattle.desk_filing.specs.Causes.{FindsLogTooLong, FindsLogUnreadable, IsLogInTurn, ReadsLogsUpTo, day_log_name}
-use Rattle.desk_filing.specs.Runs.{AnswersBy, FilesRequest, FilesTurn, FilingCall, HaltsBy, HoldsDayLogs, HoldsLogWithin, IsReadyToFile, RunsRequest, WhereGoodLog, kept_after, EndsWithinOrAnswers}
+use Rattle.desk_filing.specs.Runs.{AnswersBy, FilesRequest, FilesTurn, FilingCall, HaltsBy, HoldsNamedLogs, HoldsLogWithin, IsReadyToFile, RunsRequest, WhereGoodLog, kept_after, EndsWithinOrAnswers}
 use Rattle.desk_filing.specs.declared.requests.FilingRequest.{FilingRequest}
 use Rattle.log_source.specs.Sinks.{SinkState}
 use Rattle.log_source.specs.Sources.{RoseOrIsFull, longest_read}
@@ -41,7 +41,7 @@ held_within limit few log has long =
     let within = has.within in
     omega (arith, few, longer, within)
 
-module _ (r : Reading) (few : r.limit ≡ longest_read) (tells : r.tells ≡ true) (quiet : (log : Which) → ¬ RoseOrIsFull (r.before log).faults (r.after log).faults) (logs : DayLogs) (held : HoldsDayLogs r.log_of logs) where
+module _ (r : Reading) (few : r.limit ≡ longest_read) (tells : r.tells ≡ true) (quiet : (log : Which) → ¬ RoseOrIsFull (r.before log).faults (r.after log).faults) (logs : NamedLogs) (held : HoldsNamedLogs r.log_of logs) where
   abbrev Second : List ℕ → Type 0
   Second orders = WhereGoodLog (records_of_order_log logs.orders_form orders) (HoldsLogWithin (r.log_of Trades logs.trades) (λ trades. Unit {0}))
 

@@ -11,7 +11,7 @@ use Rattle.case_run.specs.declared.statuses.CaseStatus.{CaseStatus}
 use Rattle.case_run.specs.declared.statuses.CaseStatus.TheVariants as status
 use Rattle.command_words.specs.declared.requests.WordsFault.{WordsFault}
 use Rattle.command_words.specs.declared.requests.WordsFault.TheVariants as words_fault
-use Rattle.desk_words.specs.declared.requests.DayLogs.{DayLogs}
+use Rattle.desk_words.specs.declared.requests.NamedLogs.{NamedLogs}
 use Rattle.digest_keeper.specs.DigestKeepers.{DigestKeeperState}
 use Rattle.desk_filing.specs.Causes.{day_log_name}
 use Rattle.desk_filing.specs.DigestOpeners.{DigestOpenerState}
@@ -61,7 +61,7 @@ files_below r s a b keeper request x y answer files limit tells logs before afte
     subst (λ (q : Reading). FilesRequest (filing_call q a b keeper) request x y answer) (same_reading r s limit tells logs before after) files
 
 -- the name of a log of a request
-pub named_log : (logs : DayLogs) (orders trades : List ℕ) → orders ≡ logs.orders → trades ≡ logs.trades → (log : Which) → name_of_log orders trades log ≡ day_log_name logs log
+pub named_log : (logs : NamedLogs) (orders trades : List ℕ) → orders ≡ logs.orders → trades ≡ logs.trades → (log : Which) → name_of_log orders trades log ≡ day_log_name logs log
 named_log logs orders trades first second Orders = first
 named_log logs orders trades first second Trades = second
 

@@ -11,7 +11,7 @@ use Rattle.case_run.specs.declared.halts.Halt.TheVariants as halt
 use Rattle.case_run.specs.declared.statuses.CaseStatus.{CaseStatus}
 use Rattle.case_run.specs.declared.statuses.CaseStatus.TheVariants as status
 use Rattle.desk_words.specs.Texts.{desk_usage_line}
-use Rattle.desk_words.specs.declared.requests.DayLogs.{DayLogs}
+use Rattle.desk_words.specs.declared.requests.NamedLogs.{NamedLogs}
 use Rattle.digest_keeper.specs.DigestKeepers.{DigestKeeperState}
 use Rattle.digest_keeper.specs.declared.digested.KeptCase.{KeptCase}
 use Rattle.desk_filing.specs.Causes.{ReadsLogsFor, ReadsLogsUpTo, day_log_name}
@@ -46,7 +46,7 @@ filing_call r old new keeper =
 
 -- what a call knows of a shelf whose two logs have these names: a log may have 34,359,738,368
 -- bytes, and in each slot is found what the shelf had under the name
-abbrev pub filing_reading : {S : Type 0} → Shelf S → DayLogs → S → S → Reading
+abbrev pub filing_reading : {S : Type 0} → Shelf S → NamedLogs → S → S → Reading
 filing_reading shelf logs old new = record {
   limit = longest_read;
   tells = shelf.tells old;
@@ -168,8 +168,8 @@ WhereGoodLog (Ok records) next = next
 WhereGoodLog (Err bad) next = Unit {0}
 
 -- the shelf has the order log of a request, and where that is in its grammar the trade log
-abbrev pub HoldsDayLogs : (Which → List ℕ → Option (List ℕ)) → DayLogs → Type 0
-HoldsDayLogs log_of logs = HoldsLogWithin (log_of Orders logs.orders)
+abbrev pub HoldsNamedLogs : (Which → List ℕ → Option (List ℕ)) → NamedLogs → Type 0
+HoldsNamedLogs log_of logs = HoldsLogWithin (log_of Orders logs.orders)
     (λ orders. WhereGoodLog (records_of_order_log logs.orders_form orders)
     (HoldsLogWithin (log_of Trades logs.trades) (λ trades. Unit {0})))
 
@@ -179,7 +179,7 @@ HoldsDayLogs log_of logs = HoldsLogWithin (log_of Orders logs.orders)
 pub record IsReadyToFile (call : FilingCall) (request : FilingRequest) (kept : List KeptCase)
     (old new : SinkState) : Type 0 where
   pub tells : call.reading.tells ≡ true
-  pub holds : HoldsDayLogs call.reading.log_of request.logs
+  pub holds : HoldsNamedLogs call.reading.log_of request.logs
   pub opener_tells : call.opener_old.tells ≡ true
   pub on_file : kept_once_opened (missing_database request.command)
       (call.opener_old.kept request.database) ≡ Some kept

@@ -21,7 +21,7 @@ use Rattle.case_run.specs.declared.statuses.CaseStatus.TheVariants as status
 use Rattle.command_words.specs.declared.requests.WordsFault.{WordsFault}
 use Rattle.command_words.specs.declared.requests.WordsFault.TheVariants as words_fault
 use Rattle.desk_words.specs.Texts.{desk_usage_line}
-use Rattle.desk_words.specs.declared.requests.DayLogs.{DayLogs}
+use Rattle.desk_words.specs.declared.requests.NamedLogs.{NamedLogs}
 use Rattle.digest_keeper.specs.DigestKeepers.{DigestKeeperState}
 use Rattle.digest_keeper.specs.KeptCases.{kept_under}
 use Rattle.log_digests.specs.declared.digests.LogDigests.{LogDigests}
@@ -47,14 +47,14 @@ case_lines cases = flat_map (λ one. case_line one.case) cases
 -- Two logs.
 
 -- These are the sources of the logs of a request: their names and forms.
-pub record NamesLogs (logs : DayLogs) (orders trades : Source) : Type 0 where
+pub record NamesLogs (logs : NamedLogs) (orders trades : Source) : Type 0 where
   pub orders_name : orders.name.now ≡ logs.orders
   pub trades_name : trades.name.now ≡ logs.trades
   pub orders_form : orders.form ≡ logs.orders_form
   pub trades_form : trades.form ≡ logs.trades_form
 
 -- Both logs were read, are in their grammar, and this holds of their records.
-pub record ReadsRecords (r : Reading) (logs : DayLogs)
+pub record ReadsRecords (r : Reading) (logs : NamedLogs)
     (of_records : List OrderRecord → Result (List TradeRecord) Finding → Type 0) : Type 0 where
   pub orders : List ℕ
   pub trades : List ℕ
@@ -68,7 +68,7 @@ pub record ReadsRecords (r : Reading) (logs : DayLogs)
   pub good : ReadsGoodLogs r logs
 
 -- A log was read that is not in its grammar, and this holds of its first bad place.
-pub record ReadsBadPlace (r : Reading) (logs : DayLogs) (of_bad : Which → BadPlace → Type 0)
+pub record ReadsBadPlace (r : Reading) (logs : NamedLogs) (of_bad : Which → BadPlace → Type 0)
     : Type 0 where
   pub log : Which
   pub bad : BadPlace

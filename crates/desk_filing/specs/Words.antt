@@ -3,7 +3,7 @@ use Rattle.std.specs.Prelude.{ℕ, ◌&&◌, ◌+◌, Option, None, Some, List, 
 use Rattle.audit_base.specs.Least.{first_answer}
 use Rattle.command_words.specs.WordForms.{is_path, nth_word, rule_named, symbol_named, word_equals}
 use Rattle.command_words.specs.Words.{names_logs, when_some}
-use Rattle.desk_words.specs.Words.{day_logs, form_options_in}
+use Rattle.desk_words.specs.Words.{named_logs, form_options_in}
 use Rattle.desk_filing.specs.declared.requests.FilingCommand.{FilingCommand}
 use Rattle.desk_filing.specs.declared.requests.FilingCommand.TheVariants as command
 use Rattle.desk_filing.specs.declared.requests.FilingRequest.{FilingRequest}
@@ -40,24 +40,24 @@ abbrev pub filing_named : List (List ℕ) → Option FilingCommand
 filing_named words =
     first_answer (file_named words ∷ file_all_named words ∷ check_named words ∷ [])
 
--- the place of ORDERS among the words of a command, from 0
+-- the index of ORDERS among the words of a command, from 0
 abbrev pub index_of_logs : FilingCommand → ℕ
 index_of_logs (command.File the_rule symbol) = 5
 index_of_logs (command.FileAll the_rule) = 4
 index_of_logs command.Check = 3
 
--- the request for a command: DATABASE, LABEL, the logs at this place, and behind them, in any order
+-- the request for a command: DATABASE, LABEL, the logs at this index, and behind them, in any order
 -- and each at most once, `--orders-form FORM` and `--trades-form FORM`
 abbrev pub request_for : FilingCommand → ℕ → List (List ℕ) → Option FilingRequest
-request_for the_command place words =
-    if is_path (nth_word words 1) && names_logs words place then
+request_for the_command index words =
+    if is_path (nth_word words 1) && names_logs words index then
     when_some (label_named (nth_word words 2)) (λ label.
-    when_some (form_options_in (drop (place + 2) words)) (λ said.
+    when_some (form_options_in (drop (index + 2) words)) (λ said.
     Some (record {
       command = the_command;
       database = nth_word words 1;
       label = label;
-      logs = day_logs words place said;
+      logs = named_logs words index said;
     })))
     else None
 

@@ -7,11 +7,11 @@ ghost use Rattle.desk_filing.specs.Steps.{AnyRecords, GoesOn, NamesLogs, ReadsRe
 ghost use Rattle.desk_filing.specs.declared.requests.FilingCommand.TheVariants.{Check};
 ghost use Rattle.log_source.specs.Sinks.{SinkStays};
 ghost use Rattle.log_verdict.specs.BothLogs.{HaveOneLimit};
-ghost use Rattle.log_verdict.specs.Steps.{reading_by, BeginsWithin, EndsWithin};
+ghost use Rattle.log_verdict.specs.Steps.{reading_by};
 ghost use Rattle.log_verdict.specs.Steps.{FaultsNeverFall, KeepsShelfLogs, Reading};
 
 use crate::checking::{check_in, look_at_logs};
-use crate::databases::{Ended, end_unopened};
+use crate::databases::end_unopened;
 use crate::opener::{DigestOpener, Missing};
 use crate::requests::FilingRequest;
 use crate::writing::write_decided;

@@ -2,7 +2,7 @@
 use audit_base::names::Name;
 use audit_base::terms::Rule;
 use command_words::paths::PathText;
-use desk_words::requests::DayLogs;
+use desk_words::requests::NamedLogs;
 
 /// What is to be done with two logs and a label.
 #[derive(Clone, Copy, Debug)]
@@ -24,5 +24,5 @@ pub struct FilingRequest {
     pub command: FilingCommand,
     pub database: PathText,
     pub label: Name,
-    pub logs: DayLogs,
+    pub logs: NamedLogs,
 }

@@ -13,7 +13,7 @@ use command_words::options::Options;
 use command_words::paths::{names_logs, path_of};
 use command_words::requests::WordsFault;
 use command_words::word_forms::{is_path, is_word, rule_named, symbol_named, word_at};
-use desk_words::commands::{day_logs, form_options_in};
+use desk_words::commands::{named_logs, form_options_in};
 use std::alloc::Global;
 
 /// The label that the word is.
@@ -80,9 +80,9 @@ fn filing_named(words: &[String]) -> Option<FilingCommand>
     check_named(words)
 }
 
-/// The place of ORDERS among the words of a command, from 0.
+/// The index of ORDERS among the words of a command, from 0.
 fn index_of_logs(command: &FilingCommand) -> usize
-    ensures place { result ≡ spec.index_of_logs command.now }
+    ensures index { result ≡ spec.index_of_logs command.now }
     ensures behind_label { 3 ≤ result }
 {
     match command {
@@ -92,50 +92,50 @@ fn index_of_logs(command: &FilingCommand) -> usize
     }
 }
 
-/// The words behind both logs, of which the first is at this place.
-fn words_behind(words: &[String], place: usize) -> &[String]
-    requires { place + 1 < length words.now }
-    ensures { result.now ≡ drop (place + 2) words.now }
+/// The words behind both logs, of which the first is at this index.
+fn words_behind(words: &[String], index: usize) -> &[String]
+    requires { index + 1 < length words.now }
+    ensures { result.now ≡ drop (index + 2) words.now }
 {
-    &words[place + 2..]
+    &words[index + 2..]
 }
 
 /// What the words behind both logs say as options, if they say nothing but the forms of the logs.
-fn options_behind(words: &[String], place: usize) -> Option<Options>
-    requires { place + 1 < length words.now }
-    ensures { result ≡ form_options_in (drop (place + 2) (map string_bytes words.now)) }
+fn options_behind(words: &[String], index: usize) -> Option<Options>
+    requires { index + 1 < length words.now }
+    ensures { result ≡ form_options_in (drop (index + 2) (map string_bytes words.now)) }
 {
-    form_options_in(words_behind(words, place))
+    form_options_in(words_behind(words, index))
 }
 
-/// The request for a command whose logs are at this place. Takes no memory where there is none.
+/// The request for a command whose logs are at this index. Takes no memory where there is none.
 fn request_for(
     alloc: Global,
     command: FilingCommand,
-    place: usize,
+    index: usize,
     words: &[String],
 ) -> Result<Option<FilingRequest>, NoMemory>
-    requires logs { place + 1 < length words.now }
-    requires behind_label { 3 ≤ place }
+    requires logs { index + 1 < length words.now }
+    requires behind_label { 3 ≤ index }
     ensures request { IfOk result
-        (λ made. made ≡ spec.request_for command place (map string_bytes words.now)) }
+        (λ made. made ≡ spec.request_for command index (map string_bytes words.now)) }
     ensures memory { IsErr result
-        → IsSome (spec.request_for command place (map string_bytes words.now)) }
+        → IsSome (spec.request_for command index (map string_bytes words.now)) }
 {
-    if !is_path(word_at(words, 1)) || !names_logs(words, place) {
+    if !is_path(word_at(words, 1)) || !names_logs(words, index) {
         return Ok(None);
     }
     let Some(label) = label_named(word_at(words, 2)) else {
         return Ok(None);
     };
-    let Some(said) = options_behind(words, place) else {
+    let Some(said) = options_behind(words, index) else {
         return Ok(None);
     };
     Ok(Some(FilingRequest {
         command,
         database: path_of(alloc, word_at(words, 1))?,
         label,
-        logs: day_logs(alloc, words, place, &said)?,
+        logs: named_logs(alloc, words, index, &said)?,
     }))
 }
 
@@ -148,8 +148,8 @@ fn filing_request_in(alloc: Global, words: &[String]) -> Result<Option<FilingReq
     let Some(command) = filing_named(words) else {
         return Ok(None);
     };
-    let place = index_of_logs(&command);
-    request_for(alloc, command, place, words)
+    let index = index_of_logs(&command);
+    request_for(alloc, command, index, words)
 }
 
 /// What the words ask for, one row a command:

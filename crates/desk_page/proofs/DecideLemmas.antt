@@ -22,7 +22,7 @@ use Rattle.log_verdict.specs.LogVerdicts.{Log, OfLogs, records_of_order_log, tra
 use Rattle.log_verdict.specs.BothLogs.{IsStopOfTwoLogs, ReadsLogs, StaysWithin}
 use Rattle.log_verdict.specs.Steps.{FaultsNeverFall, Reading}
 use Rattle.desk_page.specs.declared.requests.PageRequest.{PageRequest}
-use Rattle.desk_page.specs.PageAnswers.{GivesPageOrStop, IsAnswerByPresence, IsAnswerToRecords, logs_in, Pictures}
+use Rattle.desk_page.specs.PageAnswers.{GivesPageOrStop, IsAnswerByAbsence, IsAnswerToRecords, logs_in, Pictures}
 use Rattle.desk_page.specs.PageLogs.{ShelfLogs}
 use Rattle.desk_page.specs.Requests.{page_command}
 use Rattle.symbol_offences.specs.OffenceAnswers.{is_absent}
@@ -41,7 +41,7 @@ of_bad given log bad = IsAnswerOfKind (IsVerdictAnswer (verdict.Malformed log ba
 -- the answer has a status of an answer to logs
 module _ (is_picture : Pictures) (shelf : ShelfLogs) (request : PageRequest) (s : Status) (text : List ℕ) where
   -- the line of an absent symbol rejects, and a page has the status of its verdict
-  records-status : (entries : List OrderRecord) (paired : Result (List TradeRecord) Finding) (absent : Bool) → IsAnswerByPresence absent is_picture shelf request entries paired s text → IsStatusOfLogs s
+  records-status : (entries : List OrderRecord) (paired : Result (List TradeRecord) Finding) (absent : Bool) → IsAnswerByAbsence absent is_picture shelf request entries paired s text → IsStatusOfLogs s
   records-status entries paired true is = subst IsStatusOfLogs (sym is.status_is) tt
   records-status entries paired false is = subst IsStatusOfLogs (sym is.page.status_is) (verdict-status is.page.the_verdict)
 

@@ -16,7 +16,7 @@ use Rattle.command_run.specs.declared.answers.Answer.{Answer}
 use Rattle.command_run.specs.Deciding.{IsAnswerOfKind}
 use Rattle.matching_core.specs.declared.deals_draft.ResolvedTrades.{ResolvedTrades}
 use Rattle.desk_page.specs.PageAnswers.{finding_of, in_words, IsPageAfter, IsPageOfMarket, Pictures}
-use Rattle.desk_page.specs.Telling.{IsAnswerBySome, IsAnswerToGiven, IsNamedByPresence, IsPageOfFinding}
+use Rattle.desk_page.specs.Telling.{IsAnswerByEmptiness, IsAnswerToGiven, IsNamedByAbsence, IsPageOfFinding}
 use Rattle.record_verdict.specs.declared.before_rule.BeforeRule.{BeforeRule}
 use Rattle.record_verdict.specs.declared.before_rule.BeforeRule.TheVariants as before_rule
 use Rattle.record_verdict.specs.declared.questions.Question.{Question}
@@ -53,14 +53,14 @@ module _ (is_picture : Pictures) (q : Question) (named : PageLogs) (entries : Li
   deals = deals_of_symbol orders q.symbol (paired_trades paired)
 
   -- by whether the symbol is absent
-  by-presence : (absent b : Bool) → absent ≡ b → IsNamedByPresence b is_picture q named entries paired the_status text → IsNamedByPresence absent is_picture q named entries paired the_status text
-  by-presence absent b same is = subst (λ (x : Bool). IsNamedByPresence x is_picture q named entries paired the_status text) (sym same) is
+  by-absence : (absent b : Bool) → absent ≡ b → IsNamedByAbsence b is_picture q named entries paired the_status text → IsNamedByAbsence absent is_picture q named entries paired the_status text
+  by-absence absent b same is = subst (λ (x : Bool). IsNamedByAbsence x is_picture q named entries paired the_status text) (sym same) is
 
   -- a finding before the rule
   found-answer : FoundIsPresent → (finding : Finding) → finding_before_rule_in_scope (scope_of q) entries paired ≡ Some finding → v ≡ verdict.Rejected finding → IsPageOfFinding q named finding the_status text
-      → IsNamedByPresence (is_absent q.symbol entries paired) is_picture q named entries paired the_status text
+      → IsNamedByAbsence (is_absent q.symbol entries paired) is_picture q named entries paired the_status text
   found-answer present finding found rejected told =
-      by-presence (is_absent q.symbol entries paired) false (present (scope_of q) entries paired finding found)
+      by-absence (is_absent q.symbol entries paired) false (present (scope_of q) entries paired finding found)
       (record {
         the_verdict = v;
         is = has;
@@ -69,8 +69,8 @@ module _ (is_picture : Pictures) (q : Question) (named : PageLogs) (entries : Li
       })
 
   -- sound trades, by whether there is an order or a deal
-  by-some : finding_before_rule_in_scope (scope_of q) entries paired ≡ None → (b : Bool) → IsAnswerBySome b is_picture q named orders deals v the_status text
-      → IsNamedByPresence b is_picture q named entries paired the_status text
+  by-some : finding_before_rule_in_scope (scope_of q) entries paired ≡ None → (b : Bool) → IsAnswerByEmptiness b is_picture q named orders deals v the_status text
+      → IsNamedByAbsence b is_picture q named entries paired the_status text
   by-some none true told = told
   by-some none false told = record {
     the_verdict = v;
@@ -79,13 +79,13 @@ module _ (is_picture : Pictures) (q : Question) (named : PageLogs) (entries : Li
     page = page-of-sound is_picture q named text v _ orders deals none told.page;
   }
 
-  sound-answer : AbsentHasNothing → (sound : ResolvedTrades) → IsResolvedWithoutFinding (scope_of q) entries paired sound → IsAnswerBySome (are_none sound.history sound.deals.items) is_picture q named sound.history sound.deals.items v the_status text
-      → IsNamedByPresence (is_absent q.symbol entries paired) is_picture q named entries paired the_status text
+  sound-answer : AbsentHasNothing → (sound : ResolvedTrades) → IsResolvedWithoutFinding (scope_of q) entries paired sound → IsAnswerByEmptiness (are_none sound.history sound.deals.items) is_picture q named sound.history sound.deals.items v the_status text
+      → IsNamedByAbsence (is_absent q.symbol entries paired) is_picture q named entries paired the_status text
   sound-answer absent sound resolved told =
-      by-presence (is_absent q.symbol entries paired) (are_none orders deals) (absent (scope_of q) entries paired resolved.none)
+      by-absence (is_absent q.symbol entries paired) (are_none orders deals) (absent (scope_of q) entries paired resolved.none)
       (by-some resolved.none (are_none orders deals)
-      (subst (λ (ds : List Deal). IsAnswerBySome (are_none orders ds) is_picture q named orders ds v the_status text) resolved.deals
-      (subst (λ (os : List Order). IsAnswerBySome (are_none os sound.deals.items) is_picture q named os sound.deals.items v the_status text) resolved.orders told)))
+      (subst (λ (ds : List Deal). IsAnswerByEmptiness (are_none orders ds) is_picture q named orders ds v the_status text) resolved.deals
+      (subst (λ (os : List Order). IsAnswerByEmptiness (are_none os sound.deals.items) is_picture q named os sound.deals.items v the_status text) resolved.orders told)))
 
 module _ (is_picture : Pictures) (q : Question) (named : PageLogs) (given : BeforeRule) (v : Judged) (answer : Answer) (stages : IsVerdictAfterStages q given v) where
   -- a finding before the rule
@@ -95,7 +95,7 @@ module _ (is_picture : Pictures) (q : Question) (named : PageLogs) (given : Befo
       (subst (λ (b : BeforeRule). IsBeforeRule (scope_of q) entries paired b) is before) (ap as_verdict (stages.of_finding finding is)) told
 
   -- sound trades
-  pub sound-told : AbsentHasNothing → (sound : ResolvedTrades) → given ≡ before_rule.Sound sound → IsAnswerOfKind (IsAnswerBySome (are_none sound.history sound.deals.items) is_picture q named sound.history sound.deals.items (as_verdict v)) answer
+  pub sound-told : AbsentHasNothing → (sound : ResolvedTrades) → given ≡ before_rule.Sound sound → IsAnswerOfKind (IsAnswerByEmptiness (are_none sound.history sound.deals.items) is_picture q named sound.history sound.deals.items (as_verdict v)) answer
       → IsAnswerToGiven is_picture q named given answer
   sound-told absent sound is told entries paired before =
       sound-answer is_picture q named entries paired (as_verdict v) (stages.of_records entries paired before) answer.status answer.text.items absent sound

@@ -23,9 +23,9 @@ use Rattle.log_verdict.specs.LogVerdicts.{records_of_order_log, trades_of_trade_
 use Rattle.log_verdict.specs.Steps.{KeepsShelfLogs, Reading, reading_by}
 use Rattle.log_digests.specs.declared.digests.LogDigests.{LogDigests}
 use Rattle.desk_page.specs.declared.requests.PageRequest.{PageRequest}
-use Rattle.desk_page.specs.PageAnswers.{GivesPageOrStop, IsAnswerByPresence, IsAnswerToRecords, logs_in, page_question, Pictures}
+use Rattle.desk_page.specs.PageAnswers.{GivesPageOrStop, IsAnswerByAbsence, IsAnswerToRecords, logs_in, page_question, Pictures}
 use Rattle.desk_page.specs.PageLogs.{AreDigestsOf}
-use Rattle.desk_page.specs.Telling.{IsDigestedAnswer, IsNamedByPresence}
+use Rattle.desk_page.specs.Telling.{IsDigestedAnswer, IsNamedByAbsence}
 use Rattle.record_verdict.specs.declared.before_rule.BeforeRule.{BeforeRule}
 use Rattle.record_verdict.specs.BeforeRule.{IsBeforeRule}
 use Rattle.record_verdict.specs.Scopes.{scope_of}
@@ -46,14 +46,14 @@ module _ (is_picture : Pictures) (r : Reading) (request : PageRequest) (orders t
   of_bad log bad = IsAnswerOfKind (IsVerdictAnswer (verdict.Malformed log bad)) answer
 
   -- a page that names the logs has their digests
-  by-presence : AreDigestsOf (logs_in r) request.logs digests → (entries : List OrderRecord) (paired : Result (List TradeRecord) Finding) (absent : Bool)
-      → IsAnswerOfKind (IsNamedByPresence absent is_picture (page_question request) digested.named entries paired) answer → IsAnswerOfKind (IsAnswerByPresence absent is_picture (logs_in r) request entries paired) answer
-  by-presence are entries paired true is = is
-  by-presence are entries paired false is = record { digests = digests; are_digests = are; named = digested.named; names = digested.names; page = is }
+  by-absence : AreDigestsOf (logs_in r) request.logs digests → (entries : List OrderRecord) (paired : Result (List TradeRecord) Finding) (absent : Bool)
+      → IsAnswerOfKind (IsNamedByAbsence absent is_picture (page_question request) digested.named entries paired) answer → IsAnswerOfKind (IsAnswerByAbsence absent is_picture (logs_in r) request entries paired) answer
+  by-absence are entries paired true is = is
+  by-absence are entries paired false is = record { digests = digests; are_digests = are; named = digested.named; names = digested.names; page = is }
 
   by-trades : AreDigestsOf (logs_in r) request.logs digests → (entries : List OrderRecord) (said : Result (Result (List TradeRecord) Finding) BadPlace)
       → MatchResult said (λ paired. IsBeforeRule (scope_of (page_question request)) entries paired given) (λ bad. ⊥) → MatchResult said (of_records entries) (of_bad Trades)
-  by-trades are entries (Ok paired) holds = by-presence are entries paired (is_absent request.symbol entries paired) (digested.told entries paired holds)
+  by-trades are entries (Ok paired) holds = by-absence are entries paired (is_absent request.symbol entries paired) (digested.told entries paired holds)
   by-trades are entries (Err bad) holds = absurd holds
 
   pub reads-page : ReadsLogs r orders trades (λ entries paired. IsBeforeRule (scope_of (page_question request)) entries paired given) (λ log bad. ⊥) → ReadsLogs r orders trades of_records of_bad

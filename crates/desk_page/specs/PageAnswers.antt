@@ -105,18 +105,18 @@ pub record IsPageOfLogs (is_picture : Pictures) (shelf : ShelfLogs) (request : P
   pub page : IsPageOfRecords is_picture (page_question request) named entries paired the_status text
 
 -- the answer by whether the symbol is absent: the line that says so, or the page of the verdict
-abbrev pub IsAnswerByPresence : Bool → Pictures → ShelfLogs → PageRequest → List OrderRecord
+abbrev pub IsAnswerByAbsence : Bool → Pictures → ShelfLogs → PageRequest → List OrderRecord
     → Result (List TradeRecord) Finding → Status → List ℕ → Type 0
-IsAnswerByPresence true is_picture shelf request entries paired =
+IsAnswerByAbsence true is_picture shelf request entries paired =
     IsAnswerWith Rejected (absent_line request.symbol)
-IsAnswerByPresence false is_picture shelf request entries paired =
+IsAnswerByAbsence false is_picture shelf request entries paired =
     IsPageOfLogs is_picture shelf request entries paired
 
 -- the answer to the records of two logs
 abbrev pub IsAnswerToRecords : Pictures → ShelfLogs → PageRequest → List OrderRecord
     → Result (List TradeRecord) Finding → Status → List ℕ → Type 0
 IsAnswerToRecords is_picture shelf request entries paired =
-    IsAnswerByPresence (is_absent request.symbol entries paired) is_picture shelf request
+    IsAnswerByAbsence (is_absent request.symbol entries paired) is_picture shelf request
     entries paired
 
 -- which logs the shelf of a call has

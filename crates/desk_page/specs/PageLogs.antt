@@ -2,7 +2,7 @@
 use Rattle.std.specs.Prelude.{◌≡◌, ℕ, Bool, true, List, Option, Some, option_map}
 use Rattle.audit_base.specs.declared.terms.Which.{Which}
 use Rattle.audit_base.specs.declared.terms.Which.TheVariants.{Orders, Trades}
-use Rattle.desk_words.specs.declared.requests.DayLogs.{DayLogs}
+use Rattle.desk_words.specs.declared.requests.NamedLogs.{NamedLogs}
 use Rattle.hex.specs.Hex.{encode_lower}
 use Rattle.log_digests.specs.Digests.{digest_of}
 use Rattle.log_digests.specs.declared.digests.LogDigests.{LogDigests}
@@ -19,13 +19,13 @@ IsDigestOf shelf log name digest =
     shelf.tells ≡ true → option_map digest_of (shelf.log_of log name) ≡ Some digest
 
 -- The digests are those of both logs under these names.
-pub record AreDigestsOf (shelf : ShelfLogs) (logs : DayLogs) (digests : LogDigests)
+pub record AreDigestsOf (shelf : ShelfLogs) (logs : NamedLogs) (digests : LogDigests)
     : Type 0 where
   pub of_orders : IsDigestOf shelf Orders logs.orders digests.orders
   pub of_trades : IsDigestOf shelf Trades logs.trades digests.trades
 
 -- A page names these logs: under their names, in their forms, with the digits of these digests.
-pub record NamesLogs (logs : DayLogs) (digests : LogDigests) (named : PageLogs) : Type 0 where
+pub record NamesLogs (logs : NamedLogs) (digests : LogDigests) (named : PageLogs) : Type 0 where
   pub orders_are : named.orders.now ≡ logs.orders
   pub trades_are : named.trades.now ≡ logs.trades
   pub orders_form_is : named.orders_form ≡ logs.orders_form

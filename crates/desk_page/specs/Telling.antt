@@ -40,19 +40,19 @@ pub record IsPageOfDeals (is_picture : Pictures) (q : Question) (named : PageLog
   pub page : IsPageOfMarket is_picture q named orders deals (finding_of the_verdict) text
 
 -- the answer by whether there is no order and no deal
-abbrev pub IsAnswerBySome : Bool → Pictures → Question → PageLogs → List Order → List Deal
+abbrev pub IsAnswerByEmptiness : Bool → Pictures → Question → PageLogs → List Order → List Deal
     → Verdict → Status → List ℕ → Type 0
-IsAnswerBySome true is_picture q named orders deals the_verdict =
+IsAnswerByEmptiness true is_picture q named orders deals the_verdict =
     IsAnswerWith Rejected (absent_line q.symbol)
-IsAnswerBySome false is_picture q named orders deals the_verdict =
+IsAnswerByEmptiness false is_picture q named orders deals the_verdict =
     IsPageOfDeals is_picture q named orders deals the_verdict
 
 -- the answer to the records of two logs by whether the symbol is absent
-abbrev pub IsNamedByPresence : Bool → Pictures → Question → PageLogs → List OrderRecord
+abbrev pub IsNamedByAbsence : Bool → Pictures → Question → PageLogs → List OrderRecord
     → Result (List TradeRecord) Finding → Status → List ℕ → Type 0
-IsNamedByPresence true is_picture q named entries paired =
+IsNamedByAbsence true is_picture q named entries paired =
     IsAnswerWith Rejected (absent_line q.symbol)
-IsNamedByPresence false is_picture q named entries paired =
+IsNamedByAbsence false is_picture q named entries paired =
     IsPageOfRecords is_picture q named entries paired
 
 -- the answer to what the records of two logs give: of whatever records give this, the answer to
@@ -61,7 +61,7 @@ abbrev pub IsAnswerToGiven : Pictures → Question → PageLogs → BeforeRule �
 IsAnswerToGiven is_picture q named given answer =
     (entries : List OrderRecord) (paired : Result (List TradeRecord) Finding)
     → IsBeforeRule (scope_of q) entries paired given
-    → IsAnswerOfKind (IsNamedByPresence (is_absent q.symbol entries paired) is_picture q named
+    → IsAnswerOfKind (IsNamedByAbsence (is_absent q.symbol entries paired) is_picture q named
     entries paired) answer
 
 -- The answer to what two logs give, on a page that names the logs of a request with these digests.

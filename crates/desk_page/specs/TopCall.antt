@@ -4,7 +4,7 @@ use Rattle.audit_report.specs.declared.statuses.Status.{Status}
 use Rattle.command_run.specs.Runs.{AllIsThere, AnswersCommand, AnswersTooLong, RefusesWords, RunsOutOfMemory, WritesAnswer}
 use Rattle.command_words.specs.declared.requests.WordsFault.{WordsFault}
 use Rattle.command_words.specs.declared.requests.WordsFault.TheVariants as fault
-use Rattle.desk_words.specs.declared.requests.DayLogs.{DayLogs}
+use Rattle.desk_words.specs.declared.requests.NamedLogs.{NamedLogs}
 use Rattle.desk_words.specs.Texts.{desk_usage_line}
 use Rattle.log_digests.specs.DigestShelves.{name_of_log}
 use Rattle.log_source.specs.declared.shelf.Shelf.{Ghosts as Shelf}
@@ -17,7 +17,7 @@ use Rattle.desk_page.specs.Requests.{page_command}
 
 -- what a call knows of a shelf whose two logs have these names: a log may have 34,359,738,368
 -- bytes, and in each slot is found what the shelf had under the name of its log
-abbrev pub page_reading : {S : Type 0} → Shelf S → DayLogs → S → S → Reading
+abbrev pub page_reading : {S : Type 0} → Shelf S → NamedLogs → S → S → Reading
 page_reading shelf logs old new = record {
   limit = longest_read;
   tells = shelf.tells old;

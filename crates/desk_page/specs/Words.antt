@@ -2,7 +2,7 @@
 use Rattle.std.specs.Prelude.{ℕ, ◌&&◌, Option, None, Some, List, codes, drop, length, nat_le, if◌then◌else◌}
 use Rattle.command_words.specs.WordForms.{nth_word, rule_named, symbol_named, word_equals}
 use Rattle.command_words.specs.Words.{names_logs, when_some}
-use Rattle.desk_words.specs.Words.{day_logs, form_options_in}
+use Rattle.desk_words.specs.Words.{named_logs, form_options_in}
 use Rattle.desk_page.specs.declared.requests.PageRequest.{PageRequest}
 use Rattle.desk_page.specs.declared.words.PageWords.{PageWords}
 
@@ -19,7 +19,7 @@ abbrev pub request_behind : List (List ℕ) → Option PageRequest
 request_behind words =
     if names_logs words 3 then
     when_some (page_words words) (λ asked.
-    Some (record { rule = asked.rule; symbol = asked.symbol; logs = day_logs words 3 asked.said }))
+    Some (record { rule = asked.rule; symbol = asked.symbol; logs = named_logs words 3 asked.said }))
     else None
 
 -- `page RULE SYMBOL ORDERS TRADES`, and behind them, in any order and each at most once,

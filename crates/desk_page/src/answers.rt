@@ -7,7 +7,7 @@ ghost use Rattle.command_run.specs.Deciding.{IsAnswerOfKind};
 ghost use Rattle.log_verdict.specs.BothLogs.{HaveOneLimit, StaysWithin};
 ghost use Rattle.log_verdict.specs.Steps.{reading_by, FaultsNeverFall, KeepsShelfLogs};
 ghost use Rattle.desk_page.specs.PageAnswers.{GivesPageOrStop, page_question};
-ghost use Rattle.desk_page.specs.Telling.{IsAnswerBySome, IsAnswerToGiven, IsDigestedAnswer};
+ghost use Rattle.desk_page.specs.Telling.{IsAnswerByEmptiness, IsAnswerToGiven, IsDigestedAnswer};
 ghost use Rattle.desk_page.specs.Telling.{IsPageOfDeals, IsPageOfFinding};
 ghost use Rattle.record_verdict.specs.BeforeRule.{IsJudgeable};
 ghost use Rattle.record_verdict.specs.Judged.{as_verdict};
@@ -102,7 +102,7 @@ fn answer_sound<D: Drawing>(
 ) -> Result<Answer, NoMemory>
     requires { IsDealList sound.now.history sound.now.deals.items }
     ensures { let none = are_none sound.now.history sound.now.deals.items in
-        let told = IsAnswerBySome none D.is_picture question.now named.now sound.now.history in
+        let told = IsAnswerByEmptiness none D.is_picture question.now named.now sound.now.history in
         IfOk result (IsAnswerOfKind (told sound.now.deals.items (as_verdict judged.now))) }
 {
     let orders = sound.history.orders();

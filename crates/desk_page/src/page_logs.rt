@@ -3,7 +3,7 @@ ghost use Rattle.std.specs.Prelude.{◌≡◌};
 ghost use Rattle.hex.specs.Hex.{encode_lower};
 ghost use Rattle.desk_page.specs.PageLogs.{NamesLogs};
 
-use desk_words::requests::DayLogs;
+use desk_words::requests::NamedLogs;
 use log_digests::digests::LogDigests;
 use page_parts::repeats::PageLogs;
 
@@ -28,7 +28,7 @@ pub(crate) fn digits_of(digests: &LogDigests) -> PageDigits
 
 /// The logs of a page, with the digits of these digests.
 pub(crate) fn named_logs<'a>(
-    logs: &'a DayLogs,
+    logs: &'a NamedLogs,
     digests: &LogDigests,
     digits: &'a PageDigits,
 ) -> PageLogs<'a>

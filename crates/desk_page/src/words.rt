@@ -12,7 +12,7 @@ use command_words::options::Options;
 use command_words::paths::names_logs;
 use command_words::requests::WordsFault;
 use command_words::word_forms::{is_word, rule_named, symbol_named, word_at};
-use desk_words::commands::{day_logs, form_options_in};
+use desk_words::commands::{named_logs, form_options_in};
 use std::alloc::Global;
 
 /// What the words say of rule, symbol and options.
@@ -47,7 +47,7 @@ fn request_behind(alloc: Global, words: &[String]) -> Result<Option<PageRequest>
     let Some(asked) = page_words(words) else {
         return Ok(None);
     };
-    let logs = day_logs(alloc, words, 3, &asked.said)?;
+    let logs = named_logs(alloc, words, 3, &asked.said)?;
     Ok(Some(PageRequest {
         rule: asked.rule,
         symbol: asked.symbol,

@@ -20,7 +20,7 @@ use Rattle.audit_report.specs.declared.day_line.DayCounts.{DayCounts}
 use Rattle.day_sessions.specs.JudgedSessions.{AreSessionsOfDay, told_by_sessions}
 use Rattle.day_symbols.specs.Shares.{symbols_in}
 use Rattle.day_symbols.specs.Symbols.{symbols_of_day}
-use Rattle.day_verdicts.specs.declared.day_verdicts.JudgedSymbols.{JudgedSymbols}
+use Rattle.day_verdicts.specs.declared.judging.JudgedSymbols.{JudgedSymbols}
 use Rattle.day_verdicts.specs.DayVerdicts.{told_of_symbols}
 use Rattle.day_verdicts.specs.ToldSymbols.{counts_of, day_lines_of, Told, TellsSymbols}
 use Rattle.desk_words.specs.declared.requests.DeskRequest.{DeskRequest}

@@ -25,7 +25,7 @@ use Rattle.log_verdict.specs.LogVerdicts.{Log, records_of_order_log, trades_of_t
 use Rattle.log_verdict.specs.Steps.{FaultsNeverFall, Reading}
 use Rattle.symbol_offences.specs.declared.questions.OffenceQuestion.{OffenceQuestion}
 use Rattle.symbol_offences.specs.declared.symbol_logs.QuotedRecords.{QuotedRecords}
-use Rattle.symbol_offences.specs.OffenceAnswers.{is_absent, GivesOffencesOrStop, IsAnswerByPresence, IsAnswerByVerdict, IsAnswerToAccepted, IsOffencesAnswer, IsOffencesOfRecords}
+use Rattle.symbol_offences.specs.OffenceAnswers.{is_absent, GivesOffencesOrStop, IsAnswerByAbsence, IsAnswerByVerdict, IsAnswerToAccepted, IsOffencesAnswer, IsOffencesOfRecords}
 use Rattle.symbol_offences.specs.SymbolLogs.{quoted_records}
 use Rattle.desk_run.specs.Deciding.{request_for_offences}
 use Rattle.desk_run.specs.Requests.{desk_command_of}
@@ -43,14 +43,14 @@ module _ (q : OffenceQuestion) (s : Status) (text : List ℕ) where
   verdict-status entries paired (verdict.Rejected first) is = subst IsStatusOfLogs (sym is.status_is) tt
   verdict-status entries paired (verdict.Malformed log bad) is = absurd is
 
-  presence-status : (absent : Bool) (entries : List OrderRecord) (paired : Result (List TradeRecord) Finding) → IsAnswerByPresence absent q entries paired s text → IsStatusOfLogs s
-  presence-status true entries paired is = subst IsStatusOfLogs (sym is.status_is) tt
-  presence-status false entries paired is = verdict-status entries paired is.the_verdict is.answer
+  absence-status : (absent : Bool) (entries : List OrderRecord) (paired : Result (List TradeRecord) Finding) → IsAnswerByAbsence absent q entries paired s text → IsStatusOfLogs s
+  absence-status true entries paired is = subst IsStatusOfLogs (sym is.status_is) tt
+  absence-status false entries paired is = verdict-status entries paired is.the_verdict is.answer
 
   logs-status : (first : Result (List OrderRecord) BadPlace) (second : Result (Result (List TradeRecord) Finding) BadPlace)
       → MatchResult first (λ entries. MatchResult second (λ paired. IsOffencesOfRecords q entries paired s text) (λ bad. IsVerdictAnswer (verdict.Malformed Trades bad) s text)) (λ bad. IsVerdictAnswer (verdict.Malformed Orders bad) s text)
       → IsStatusOfLogs s
-  logs-status (Ok entries) (Ok paired) is = presence-status (is_absent q.symbol entries paired) entries paired is
+  logs-status (Ok entries) (Ok paired) is = absence-status (is_absent q.symbol entries paired) entries paired is
   logs-status (Ok entries) (Err bad) is = subst IsStatusOfLogs (sym is.status_is) tt
   logs-status (Err bad) second is = subst IsStatusOfLogs (sym is.status_is) tt
 

@@ -2,7 +2,7 @@
 use Rattle.std.specs.Prelude.{Bool, Some}
 use Rattle.day_logs.specs.declared.answers.DayQuestion.{DayQuestion}
 use Rattle.day_sessions.specs.declared.questions.SessionQuestion.{SessionQuestion}
-use Rattle.desk_words.specs.declared.requests.DayLogs.{DayLogs}
+use Rattle.desk_words.specs.declared.requests.NamedLogs.{NamedLogs}
 use Rattle.desk_words.specs.declared.requests.DeskRequest.{DeskRequest}
 use Rattle.desk_words.specs.declared.requests.DeskRequest.TheVariants.{Whole}
 use Rattle.desk_words.specs.declared.requests.WholeRequest.TheVariants.{Audit, Offences, Session}
@@ -10,7 +10,7 @@ use Rattle.log_verdict.specs.declared.sources.Source.{Source}
 use Rattle.symbol_offences.specs.declared.questions.OffenceQuestion.{OffenceQuestion}
 
 -- the logs that these sources name
-abbrev pub logs_of : Source → Source → DayLogs
+abbrev pub logs_of : Source → Source → NamedLogs
 logs_of orders trades = record {
   orders = orders.name.now;
   trades = trades.name.now;

@@ -22,7 +22,7 @@ use Rattle.day_symbols.specs.Shares.{DayShare, symbols_in}
 use Rattle.day_symbols.specs.Symbols.{symbols_of_day}
 use Rattle.day_verdicts.specs.DayVerdicts.{AreVerdicts, told_of_symbols}
 use Rattle.day_verdicts.specs.ToldSymbols.{counts_of, day_lines_of, Told}
-use Rattle.desk_words.specs.declared.requests.DayLogs.{DayLogs}
+use Rattle.desk_words.specs.declared.requests.NamedLogs.{NamedLogs}
 use Rattle.desk_words.specs.declared.requests.DeskRequest.{DeskRequest}
 use Rattle.desk_words.specs.declared.requests.DeskRequest.TheVariants.{Whole}
 use Rattle.desk_words.specs.declared.requests.WholeRequest.TheVariants.{Audit, Session}
@@ -43,7 +43,7 @@ abbrev pub desk_reading : {S : Type 0} → Shelf S → S → S → Reading
 desk_reading shelf old new = reading_within longest_read shelf old new
 
 -- two logs as the words of a command name them: by these names, in their forms
-abbrev pub logs_named : Log → Log → List ℕ → List ℕ → DayLogs
+abbrev pub logs_named : Log → Log → List ℕ → List ℕ → NamedLogs
 logs_named orders trades orders_name trades_name = record {
   orders = orders_name;
   trades = trades_name;
@@ -52,7 +52,7 @@ logs_named orders trades orders_name trades_name = record {
 }
 
 -- The call is to judge a day of these two logs: the words ask for that, and the shelf holds both.
-pub record IsToJudgeDay (asks : DayLogs → DeskRequest) (asked : Option DeskRequest)
+pub record IsToJudgeDay (asks : NamedLogs → DeskRequest) (asked : Option DeskRequest)
     (r : Reading) (orders trades : Log) : Type 0 where
   pub orders_name : List ℕ
   pub trades_name : List ℕ

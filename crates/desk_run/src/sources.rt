@@ -4,12 +4,12 @@ ghost use Rattle.desk_run.specs.Requests.{share_or_whole};
 ghost use Rattle.log_source.specs.Sources.{longest_read};
 
 use day_symbols::shares::DayShare;
-use desk_words::requests::DayLogs;
+use desk_words::requests::NamedLogs;
 use log_verdict::sources::{LogSources, Source};
 use seeded_hash::seed::HashSeed;
 
 /// The logs of a day that a request names, read with hashes of this seed.
-pub(crate) fn sources_of(logs: &DayLogs, seed: HashSeed) -> LogSources<'_>
+pub(crate) fn sources_of(logs: &NamedLogs, seed: HashSeed) -> LogSources<'_>
     ensures orders_name { result.orders.name.now ≡ logs.now.orders }
     ensures orders_form { result.orders.form ≡ logs.now.orders_form }
     ensures orders_limit { result.orders.limit ≡ longest_read }

@@ -5,7 +5,7 @@ use audit_base::faults::NoMemory;
 use audit_base::terms::{Form, Rule};
 use command_words::requests::WordsFault;
 use day_symbols::shares::DayShare;
-use desk_words::requests::{DayLogs, DeskRequest, EarlyRequest, WholeRequest, read_desk_words};
+use desk_words::requests::{NamedLogs, DeskRequest, EarlyRequest, WholeRequest, read_desk_words};
 use std::alloc::Global;
 use std::test::Fail;
 
@@ -44,7 +44,7 @@ fn words_of_generated_logs(rt: HostRuntime) -> Result<(), Fail> {
 }
 
 /// Whether these are the logs `o`, which is CSV, and `t`, which is FIX.
-fn are_logs_of_two_forms(logs: &DayLogs) -> bool {
+fn are_logs_of_two_forms(logs: &NamedLogs) -> bool {
     logs.orders.as_str() == "o"
         && logs.trades.as_str() == "t"
         && logs.orders_form == Form::Csv

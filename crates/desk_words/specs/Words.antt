@@ -16,7 +16,7 @@ use Rattle.desk_words.specs.declared.commands.DeskCommand.{DeskCommand}
 use Rattle.desk_words.specs.declared.commands.DeskCommand.TheVariants as command
 use Rattle.desk_words.specs.declared.commands.OffenceWords.{OffenceWords}
 use Rattle.desk_words.specs.declared.options.DeskOptions.{DeskOptions}
-use Rattle.desk_words.specs.declared.requests.DayLogs.{DayLogs}
+use Rattle.desk_words.specs.declared.requests.NamedLogs.{NamedLogs}
 use Rattle.desk_words.specs.declared.requests.DeskRequest.{DeskRequest}
 use Rattle.desk_words.specs.declared.requests.DeskRequest.TheVariants.{Early, Whole}
 use Rattle.desk_words.specs.declared.requests.EarlyRequest.{EarlyRequest}
@@ -45,11 +45,11 @@ desk_command_named word = first_answer (only_if (word_equals word (codes "audit"
     ∷ only_if (word_equals word (codes "contents")) command.Contents
     ∷ only_if (word_equals word (codes "help")) command.Help ∷ [])
 
--- ORDERS and TRADES, at a place and after it, with the forms that options give them
-abbrev pub day_logs : List (List ℕ) → ℕ → Options → DayLogs
-day_logs words place said = record {
-  orders = nth_word words place;
-  trades = nth_word words (place + 1);
+-- ORDERS and TRADES, at an index of the words and after it, with the forms that options give them
+abbrev pub named_logs : List (List ℕ) → ℕ → Options → NamedLogs
+named_logs words index said = record {
+  orders = nth_word words index;
+  trades = nth_word words (index + 1);
   orders_form = or_csv said.orders_form;
   trades_form = or_csv said.trades_form;
 }
@@ -72,7 +72,7 @@ abbrev pub desk_audit_asked : List (List ℕ) → Option DeskRequest
 desk_audit_asked words =
     if nat_le 4 (length words) && names_logs words 2 then
     when_both (rule_and_options (nth_word words 1) (drop 4 words)) (λ the_rule said.
-    Some (Whole (Audit the_rule (day_logs words 2 said.common) said.common.table said.share
+    Some (Whole (Audit the_rule (named_logs words 2 said.common) said.common.table said.share
     said.checks said.page)))
     else None
 
@@ -89,7 +89,7 @@ desk_session_asked words =
     if nat_le 4 (length words) && names_logs words 2 then
     when_some (session_options_in (drop 4 words)) (λ said.
     when_some (phases_named (nth_word words 1)) (λ phases.
-    Some (Whole (Session phases (day_logs words 2 said.common) said.common.table said.share
+    Some (Whole (Session phases (named_logs words 2 said.common) said.common.table said.share
     said.checks said.page))))
     else None
 
@@ -106,7 +106,7 @@ abbrev pub offences_asked : List (List ℕ) → Option DeskRequest
 offences_asked words =
     if nat_le 5 (length words) && names_logs words 3 then
     when_some (offence_words words) (λ asked.
-    Some (Whole (Offences asked.rule asked.symbol (day_logs words 3 asked.said.forms)
+    Some (Whole (Offences asked.rule asked.symbol (named_logs words 3 asked.said.forms)
     asked.said.records asked.said.checks)))
     else None
 
@@ -133,7 +133,7 @@ abbrev pub contents_asked : List (List ℕ) → Option DeskRequest
 contents_asked words =
     if nat_le 3 (length words) && names_logs words 1 then
     when_some (form_options_in (drop 3 words)) (λ said.
-    Some (Whole (Contents (day_logs words 1 said))))
+    Some (Whole (Contents (named_logs words 1 said))))
     else None
 
 -- `help`, or `help COMMAND`

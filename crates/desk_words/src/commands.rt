@@ -12,7 +12,7 @@ use super::further_words::checks_fit_rule;
 use super::log_words::{desk_convert_request, orders_request};
 use super::offence_words::{OffenceOptions, options_under};
 use super::options::{DeskOptions, desk_options_in, is_table_or_page};
-use super::requests::{DayLogs, DeskRequest, EarlyRequest, WholeRequest};
+use super::requests::{NamedLogs, DeskRequest, EarlyRequest, WholeRequest};
 use audit_base::faults::NoMemory;
 use audit_base::names::Name;
 use audit_base::terms::Rule;
@@ -123,20 +123,20 @@ pub fn asks_page(words: &[String]) -> bool
     }
 }
 
-/// ORDERS and TRADES, at a place and after it, with the forms that options give them. Asks for
+/// ORDERS and TRADES, at an index of the words and after it, with the forms that options give them. Asks for
 /// memory for their texts.
-pub fn day_logs(
+pub fn named_logs(
     alloc: Global,
     words: &[String],
-    place: usize,
+    index: usize,
     said: &Options,
-) -> Result<DayLogs, NoMemory>
-    requires { place + 1 < length words.now }
+) -> Result<NamedLogs, NoMemory>
+    requires { index + 1 < length words.now }
     ensures { IfOk result
-        (λ logs. logs ≡ spec.day_logs (map string_bytes words.now) place said.now) }
+        (λ logs. logs ≡ spec.named_logs (map string_bytes words.now) index said.now) }
 {
-    let LogPaths { orders, trades } = log_paths(alloc, words, place)?;
-    Ok(DayLogs {
+    let LogPaths { orders, trades } = log_paths(alloc, words, index)?;
+    Ok(NamedLogs {
         orders,
         trades,
         orders_form: or_csv(said.orders_form),
@@ -178,7 +178,7 @@ fn desk_audit_request(alloc: Global, words: &[String]) -> Result<Option<DeskRequ
     let Some((rule, said)) = rule_and_options(word_at(words, 1), &words[4..]) else {
         return Ok(None);
     };
-    let logs = day_logs(alloc, words, 2, &said.common)?;
+    let logs = named_logs(alloc, words, 2, &said.common)?;
     Ok(Some(DeskRequest::Whole(WholeRequest::Audit {
         rule,
         logs,
@@ -219,7 +219,7 @@ fn desk_session_request(alloc: Global, words: &[String]) -> Result<Option<DeskRe
     let Some(phases) = phases_named(alloc, word_at(words, 1))? else {
         return Ok(None);
     };
-    let logs = day_logs(alloc, words, 2, &said.common)?;
+    let logs = named_logs(alloc, words, 2, &said.common)?;
     Ok(Some(DeskRequest::Whole(WholeRequest::Session {
         phases,
         logs,
@@ -264,7 +264,7 @@ fn offences_request(alloc: Global, words: &[String]) -> Result<Option<DeskReques
     let Some(asked) = offence_words(words) else {
         return Ok(None);
     };
-    let logs = day_logs(alloc, words, 3, &asked.said.forms)?;
+    let logs = named_logs(alloc, words, 3, &asked.said.forms)?;
     Ok(Some(DeskRequest::Whole(WholeRequest::Offences {
         rule: asked.rule,
         symbol: asked.symbol,
@@ -329,7 +329,7 @@ fn contents_request(alloc: Global, words: &[String]) -> Result<Option<DeskReques
     let Some(said) = form_options_in(&words[3..]) else {
         return Ok(None);
     };
-    let logs = day_logs(alloc, words, 1, &said)?;
+    let logs = named_logs(alloc, words, 1, &said)?;
     Ok(Some(DeskRequest::Whole(WholeRequest::Contents { logs })))
 }
 

@@ -14,10 +14,10 @@ use further_checks::findings::FurtherChecks;
 use session_audit::phases::PhaseList;
 use std::alloc::Global;
 
-/// The logs of a day of many symbols. A path is a word of one byte or more that does not begin
-/// with `-`.
+/// The two logs that words name, each with its form. A path is a word of one byte or more that does
+/// not begin with `-`.
 #[derive(Drop)]
-pub struct DayLogs {
+pub struct NamedLogs {
     pub orders: PathText,
     pub trades: PathText,
     pub orders_form: Form,
@@ -33,7 +33,7 @@ pub enum WholeRequest {
     /// table is.
     Audit {
         rule: Rule,
-        logs: DayLogs,
+        logs: NamedLogs,
         table: bool,
         share: Option<DayShare>,
         checks: FurtherChecks,
@@ -43,7 +43,7 @@ pub enum WholeRequest {
     /// not asked for, and a page only where no table is.
     Session {
         phases: PhaseList,
-        logs: DayLogs,
+        logs: NamedLogs,
         table: bool,
         share: Option<DayShare>,
         checks: FurtherChecks,
@@ -54,7 +54,7 @@ pub enum WholeRequest {
     Offences {
         rule: Rule,
         symbol: Name,
-        logs: DayLogs,
+        logs: NamedLogs,
         /// Whether the records that a letter quotes are written behind each offence.
         records: bool,
         checks: FurtherChecks,
@@ -73,7 +73,7 @@ pub enum WholeRequest {
     },
     /// To write what is in each log.
     Contents {
-        logs: DayLogs,
+        logs: NamedLogs,
     },
     /// To write what each command does, or one of them.
     Help(Option<DeskCommand>),

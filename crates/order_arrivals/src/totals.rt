@@ -1,5 +1,5 @@
 //! What each order has traded in the deals of the first orders.
-ghost use Rattle.std.specs.Prelude.{◌≡◌, ◌<◌, ◌≤◌, suc, IfOk, length, replicate};
+ghost use Rattle.std.specs.Prelude.{◌≡◌, ◌<◌, suc, IfOk, length, replicate};
 ghost use Rattle.order_arrivals.specs.DealtOrders.{HaveTraded, IsMarket};
 
 use crate::dealt_orders::DealtOrders;

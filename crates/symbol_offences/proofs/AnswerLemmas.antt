@@ -41,11 +41,11 @@ use Rattle.record_verdict.specs.Stages.{IsVerdictAfterStages}
 use Rattle.symbol_offences.specs.declared.questions.OffenceQuestion.{OffenceQuestion}
 use Rattle.symbol_offences.specs.declared.symbol_logs.QuotedRecords.{QuotedRecords}
 use Rattle.symbol_offences.specs.declared.symbol_logs.SymbolLogs.{SymbolLogs}
-use Rattle.symbol_offences.specs.OffenceAnswers.{is_absent, IsAnswerByPresence, IsAnswerByVerdict, IsAnswerToAccepted, IsAnswerToRejected, IsOffencesOfRecords}
+use Rattle.symbol_offences.specs.OffenceAnswers.{is_absent, IsAnswerByAbsence, IsAnswerByVerdict, IsAnswerToAccepted, IsAnswerToRejected, IsOffencesOfRecords}
 use Rattle.symbol_offences.specs.OffenceLines.{failure_lines}
 use Rattle.symbol_offences.specs.Questions.{audit_question, keeping_for, kept_if}
 use Rattle.symbol_offences.specs.SymbolLogs.{IsSymbolLogs, quoted_records}
-use Rattle.symbol_offences.specs.Telling.{are_none, IsAnswerByDeals, IsAnswerBySome, IsAnswerToLogs}
+use Rattle.symbol_offences.specs.Telling.{are_none, IsAnswerByDeals, IsAnswerByEmptiness, IsAnswerToLogs}
 use Rattle.symbol_offences.proofs.AbsenceLemmas.{found-present, sound-absent}
 
 -- What is found before the rule is what a reading in the scope of the rule finds.
@@ -111,16 +111,16 @@ kept-times checks orders deals times = by-asked (asks_further checks) refl
 -- The answer to records.
 
 -- by whether the symbol is absent
-by-presence : (absent b : Bool) → absent ≡ b → (q : OffenceQuestion) (entries : List OrderRecord) (paired : Result (List TradeRecord) Finding) (the_status : Status) (text : List ℕ)
-    → IsAnswerByPresence b q entries paired the_status text → IsAnswerByPresence absent q entries paired the_status text
-by-presence absent b same q entries paired the_status text is = subst (λ (x : Bool). IsAnswerByPresence x q entries paired the_status text) (sym same) is
+by-absence : (absent b : Bool) → absent ≡ b → (q : OffenceQuestion) (entries : List OrderRecord) (paired : Result (List TradeRecord) Finding) (the_status : Status) (text : List ℕ)
+    → IsAnswerByAbsence b q entries paired the_status text → IsAnswerByAbsence absent q entries paired the_status text
+by-absence absent b same q entries paired the_status text is = subst (λ (x : Bool). IsAnswerByAbsence x q entries paired the_status text) (sym same) is
 
 -- a finding before the rule
 pub found-answer : (q : OffenceQuestion) (entries : List OrderRecord) (paired : Result (List TradeRecord) Finding) (logs : SymbolLogs) (finding : Finding) (v : Judged) (the_status : Status) (text : List ℕ)
     → IsSymbolLogs (scope_of (audit_question q)) (keeping_for q) entries paired logs → logs.given ≡ before_rule.Found finding → v ≡ judged.Rejected finding → IsRecordVerdict (audit_question q) entries paired (as_verdict v)
     → IsAnswerToRejected logs.quoted [] finding (finding ∷ []) the_status text → IsOffencesOfRecords q entries paired the_status text
 found-answer q entries paired logs finding v the_status text is given rejected has told =
-    by-presence (is_absent q.symbol entries paired) false (found-present (scope_of (audit_question q)) entries paired finding in_scope) q entries paired the_status text
+    by-absence (is_absent q.symbol entries paired) false (found-present (scope_of (audit_question q)) entries paired finding in_scope) q entries paired the_status text
     (record {
       the_verdict = verdict.Rejected finding;
       is = subst (λ (w : Judged). IsRecordVerdict (audit_question q) entries paired (as_verdict w)) rejected has;
@@ -154,18 +154,18 @@ module _ (q : OffenceQuestion) (entries : List OrderRecord) (paired : Result (Li
   by-deals (judged.Rejected first) has told = rw clean told
 
   by-some : (b : Bool) (v : Judged) → IsRecordVerdict (audit_question q) entries paired (as_verdict v)
-      → IsAnswerBySome b q (order_list q.symbol entries) (deals_of_symbol (order_list q.symbol entries) q.symbol (paired_trades paired))
+      → IsAnswerByEmptiness b q (order_list q.symbol entries) (deals_of_symbol (order_list q.symbol entries) q.symbol (paired_trades paired))
       (kept_if (asks_further q.checks) (times_of_symbol q.symbol (paired_trades paired))) (quoted_records q.records q.symbol entries paired) v the_status text
-      → IsAnswerByPresence b q entries paired the_status text
+      → IsAnswerByAbsence b q entries paired the_status text
   by-some true v has told = told
   by-some false v has told = record { the_verdict = as_verdict v; is = has; answer = by-deals v has told }
 
 pub sound-answer : (q : OffenceQuestion) (entries : List OrderRecord) (paired : Result (List TradeRecord) Finding) (logs : SymbolLogs) (sound : ResolvedTrades) (v : Judged) (the_status : Status) (text : List ℕ)
     → IsSymbolLogs (scope_of (audit_question q)) (keeping_for q) entries paired logs → logs.given ≡ before_rule.Sound sound → IsRecordVerdict (audit_question q) entries paired (as_verdict v)
-    → IsAnswerBySome (are_none sound.history sound.deals.items) q sound.history sound.deals.items logs.times.items logs.quoted v the_status text
+    → IsAnswerByEmptiness (are_none sound.history sound.deals.items) q sound.history sound.deals.items logs.times.items logs.quoted v the_status text
     → IsOffencesOfRecords q entries paired the_status text
 sound-answer q entries paired logs sound v the_status text is given has told =
-    by-presence (is_absent q.symbol entries paired) (are_none orders deals) (sound-absent (scope_of (audit_question q)) entries paired resolved.none) q entries paired the_status text
+    by-absence (is_absent q.symbol entries paired) (are_none orders deals) (sound-absent (scope_of (audit_question q)) entries paired resolved.none) q entries paired the_status text
     (by-some q entries paired the_status text clean (are_none orders deals) v has moved)
   where
     resolved : IsResolvedWithoutFinding (scope_of (audit_question q)) entries paired sound
@@ -180,12 +180,12 @@ sound-answer q entries paired logs sound v the_status text is given has told =
     deals : List Deal
     deals = deals_of_symbol (order_list q.symbol entries) q.symbol (paired_trades paired)
 
-    moved : IsAnswerBySome (are_none orders deals) q orders deals (kept_if (asks_further q.checks) (times_of_symbol q.symbol (paired_trades paired))) (quoted_records q.records q.symbol entries paired) v the_status text
+    moved : IsAnswerByEmptiness (are_none orders deals) q orders deals (kept_if (asks_further q.checks) (times_of_symbol q.symbol (paired_trades paired))) (quoted_records q.records q.symbol entries paired) v the_status text
     moved =
-        subst (λ (r : QuotedRecords). IsAnswerBySome (are_none orders deals) q orders deals (kept_if (asks_further q.checks) (times_of_symbol q.symbol (paired_trades paired))) r v the_status text) is.quoted
-        (subst (λ (ts : List Moment). IsAnswerBySome (are_none orders deals) q orders deals ts logs.quoted v the_status text) is.times
-        (subst (λ (ds : List Deal). IsAnswerBySome (are_none orders ds) q orders ds logs.times.items logs.quoted v the_status text) resolved.deals
-        (subst (λ (os : List Order). IsAnswerBySome (are_none os sound.deals.items) q os sound.deals.items logs.times.items logs.quoted v the_status text) resolved.orders told)))
+        subst (λ (r : QuotedRecords). IsAnswerByEmptiness (are_none orders deals) q orders deals (kept_if (asks_further q.checks) (times_of_symbol q.symbol (paired_trades paired))) r v the_status text) is.quoted
+        (subst (λ (ts : List Moment). IsAnswerByEmptiness (are_none orders deals) q orders deals ts logs.quoted v the_status text) is.times
+        (subst (λ (ds : List Deal). IsAnswerByEmptiness (are_none orders ds) q orders ds logs.times.items logs.quoted v the_status text) resolved.deals
+        (subst (λ (os : List Order). IsAnswerByEmptiness (are_none os sound.deals.items) q os sound.deals.items logs.times.items logs.quoted v the_status text) resolved.orders told)))
 
 -- The answer to what the records of two logs give.
 module _ (q : OffenceQuestion) (logs : SymbolLogs) (v : Judged) (answer : Answer) (stages : IsVerdictAfterStages (audit_question q) logs.given v) where
@@ -196,6 +196,6 @@ module _ (q : OffenceQuestion) (logs : SymbolLogs) (v : Judged) (answer : Answer
 
   -- sound trades
   pub sound-told : (sound : ResolvedTrades) → logs.given ≡ before_rule.Sound sound
-      → IsAnswerOfKind (IsAnswerBySome (are_none sound.history sound.deals.items) q sound.history sound.deals.items logs.times.items logs.quoted v) answer → IsAnswerToLogs q logs answer
+      → IsAnswerOfKind (IsAnswerByEmptiness (are_none sound.history sound.deals.items) q sound.history sound.deals.items logs.times.items logs.quoted v) answer → IsAnswerToLogs q logs answer
   sound-told sound given told entries paired is =
       sound-answer q entries paired logs sound v answer.status answer.text.items is given (stages.of_records entries paired is.before) told

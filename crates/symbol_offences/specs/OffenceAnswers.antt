@@ -90,16 +90,16 @@ pub record IsAnswerToPresent (q : OffenceQuestion) (entries : List OrderRecord)
   pub answer : IsAnswerByVerdict q entries paired the_verdict the_status text
 
 -- the answer by whether the symbol is absent
-abbrev pub IsAnswerByPresence : Bool → OffenceQuestion → List OrderRecord
+abbrev pub IsAnswerByAbsence : Bool → OffenceQuestion → List OrderRecord
     → Result (List TradeRecord) Finding → Status → List ℕ → Type 0
-IsAnswerByPresence true q entries paired = IsAnswerWith status.Rejected (absent_line q.symbol)
-IsAnswerByPresence false q entries paired = IsAnswerToPresent q entries paired
+IsAnswerByAbsence true q entries paired = IsAnswerWith status.Rejected (absent_line q.symbol)
+IsAnswerByAbsence false q entries paired = IsAnswerToPresent q entries paired
 
 -- the answer to the records of two logs
 abbrev pub IsOffencesOfRecords : OffenceQuestion → List OrderRecord
     → Result (List TradeRecord) Finding → Status → List ℕ → Type 0
 IsOffencesOfRecords q entries paired =
-    IsAnswerByPresence (is_absent q.symbol entries paired) q entries paired
+    IsAnswerByAbsence (is_absent q.symbol entries paired) q entries paired
 
 -- the answer to two logs: that to their records, or the first bad place, as of an audit
 abbrev pub IsOffencesAnswer : OffenceQuestion → Log → Log → Status → List ℕ → Type 0

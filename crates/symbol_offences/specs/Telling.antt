@@ -52,12 +52,12 @@ IsAnswerByDeals q orders deals times quoted (judged.Rejected first) =
 abbrev pub are_none : List Order → List Deal → Bool
 are_none orders deals = has_none orders && has_none deals
 
--- the answer by whether there is an order or a deal
-abbrev pub IsAnswerBySome : Bool → OffenceQuestion → List Order → List Deal → List Moment
+-- the answer by whether there is no order and no deal
+abbrev pub IsAnswerByEmptiness : Bool → OffenceQuestion → List Order → List Deal → List Moment
     → QuotedRecords → Judged → Status → List ℕ → Type 0
-IsAnswerBySome true q orders deals times quoted the_judged =
+IsAnswerByEmptiness true q orders deals times quoted the_judged =
     IsAnswerWith status.Rejected (absent_line q.symbol)
-IsAnswerBySome false q orders deals times quoted the_judged =
+IsAnswerByEmptiness false q orders deals times quoted the_judged =
     IsAnswerByDeals q orders deals times quoted the_judged
 
 -- the answer to what the records of two logs give: of whatever records give this, the answer to

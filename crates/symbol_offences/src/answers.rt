@@ -12,7 +12,7 @@ ghost use Rattle.symbol_offences.specs.OffenceAnswers.{GivesOffencesOrStop};
 ghost use Rattle.symbol_offences.specs.OffenceLines.{absent_line};
 ghost use Rattle.symbol_offences.specs.Questions.{keeping_for};
 ghost use Rattle.symbol_offences.specs.SymbolLogs.{AreInLogOrder, IsReadyToTell};
-ghost use Rattle.symbol_offences.specs.Telling.{are_none, IsAnswerBySome, IsAnswerToLogs};
+ghost use Rattle.symbol_offences.specs.Telling.{are_none, IsAnswerByEmptiness, IsAnswerToLogs};
 
 use crate::questions::OffenceQuestion;
 use crate::reading::read_symbol;
@@ -63,7 +63,7 @@ fn answer_sound(
     requires in_order { AreInLogOrder quoted.now }
     requires in_range { IsJudgedInRange judged }
     ensures { let none = are_none sound.now.history sound.now.deals.items in
-        let told = IsAnswerBySome none question.now sound.now.history sound.now.deals.items in
+        let told = IsAnswerByEmptiness none question.now sound.now.history sound.now.deals.items in
         IfOk result (IsAnswerOfKind (told times.now quoted.now judged)) }
 {
     if sound.history.orders().len() == 0 && sound.deals.is_empty() {

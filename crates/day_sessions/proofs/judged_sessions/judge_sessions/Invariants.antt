@@ -6,5 +6,5 @@ use Rattle.day_sessions.proofs.judged_sessions.judge_sessions.Given as goal
 abbrev pub invariant-loop-symbol_records : goal.invariant-loop-symbol_records
 invariant-loop-symbol_records l =
     (l.yielded ++ l.symbol_records-iterator.rest.items ≡ l.fn.ended.kept.items)
-    × (l.place ≡ length l.yielded)
-    × AreJudgedSessionsUpTo l.fn.question.phases.now l.fn.question.table l.fn.question.checks l.fn.question.share l.fn.ended l.place l.judged
+    × (l.share_index ≡ length l.yielded)
+    × AreJudgedSessionsUpTo l.fn.question.phases.now l.fn.question.table l.fn.question.checks l.fn.question.share l.fn.ended l.share_index l.judged

@@ -7,4 +7,4 @@ use Rattle.desk_filing.proofs.words.options_behind.Goals as goal
 pub returns : goal.returns
 returns c =
     c.form_options_in.ensures ∙ ap (λ (ws : List _). form_options_in (map string_bytes ws)) c.words_behind.ensures
-    ∙ ap form_options_in (sym (drop-map string_bytes (c.args.place + 2) c.args.words.now))
+    ∙ ap form_options_in (sym (drop-map string_bytes (c.args.index + 2) c.args.words.now))

@@ -1,7 +1,7 @@
 use Rattle.std.proofs.Common.{Ok}
 use Rattle.std.proofs.lemmas.Result.{IfOk-weaker}
 use Rattle.record_verdict.specs.Scopes.{admission_of}
-use Rattle.day_verdicts.proofs.day_verdicts.verdict_of.Goals as goal
+use Rattle.day_verdicts.proofs.judging.verdict_of.Goals as goal
 
 pub returns-clause-judged : goal.returns-clause-judged
 returns-clause-judged c = IfOk-weaker c.verdict_after.result _ _

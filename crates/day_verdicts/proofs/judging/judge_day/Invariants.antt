@@ -1,6 +1,6 @@
 use Rattle.std.proofs.Common.{◌≡◌, ◌++◌, length}
 use Rattle.day_verdicts.specs.DayVerdicts.{IsJudgedUpTo}
-use Rattle.day_verdicts.proofs.day_verdicts.judge_day.Given as goal
+use Rattle.day_verdicts.proofs.judging.judge_day.Given as goal
 
 -- the symbols so far are judged, and the others come after them
 abbrev pub invariant-loop-symbol_records : goal.invariant-loop-symbol_records

@@ -5,7 +5,7 @@ use Rattle.record_verdict.specs.Judged.{as_verdict}
 use Rattle.record_verdict.specs.Scopes.{admission_of}
 use Rattle.day_verdicts.specs.DayVerdicts.{told_by_verdict}
 use Rattle.day_verdicts.proofs.CheckLemmas.{has-times, told-after, verdict-rejects}
-use Rattle.day_verdicts.proofs.day_verdicts.JudgedSymbols.judge.Goals as goal
+use Rattle.day_verdicts.proofs.judging.JudgedSymbols.judge.Goals as goal
 
 pub report_of-requires-clause-timed : goal.report_of-requires-clause-timed
 report_of-requires-clause-timed c =

@@ -2,7 +2,7 @@ use Rattle.std.proofs.Common.{◌∙◌, ap}
 use Rattle.std.proofs.lemmas.Result.{IfOk-weaker}
 use Rattle.audit_report.specs.Texts.{verdict_text}
 use Rattle.day_verdicts.specs.CheckedSymbols.{after_given}
-use Rattle.day_verdicts.proofs.day_verdicts.report_of.Goals as goal
+use Rattle.day_verdicts.proofs.judging.report_of.Goals as goal
 
 pub returns : goal.returns
 returns c = IfOk-weaker c.report_after.result _ _

@@ -5,7 +5,7 @@ use Rattle.std.proofs.lemmas.Option.{slice_get_within}
 use Rattle.day_symbols.specs.Shares.{symbols_in}
 use Rattle.day_records.specs.declared.symbol_records.SymbolRecords.{SymbolRecords}
 use Rattle.day_verdicts.proofs.VerdictSteps.{judged-all, judged-next, next-at, next-few-records, next-timed, room-for}
-use Rattle.day_verdicts.proofs.day_verdicts.judge_day.Goals as goal
+use Rattle.day_verdicts.proofs.judging.judge_day.Goals as goal
 
 pub resolve-requires : goal.resolve-requires
 resolve-requires c =
