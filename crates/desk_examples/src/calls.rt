@@ -40,7 +40,7 @@ pub(crate) fn make_call<F: Shelf + Drop>(
     if asks_filing(words) {
         let mut opener = MemoryDigestOpener::new(alloc, *kept, Vec::new(alloc), Vec::new(alloc));
         let ran = run_filing(alloc, words, shelf, &mut out, &mut opener);
-        let (status, book) = (ran.status.number(), ran.back.book);
+        let (status, book) = (ran.status.number(), ran.back.keeper);
         return Ok(Came { status, out, book });
     }
     let status = call_without_database(alloc, words, shelf, &mut out);

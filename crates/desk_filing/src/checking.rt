@@ -225,7 +225,7 @@ pub(crate) fn check_in<'a, F: Shelf, B: DigestKeeper>(
     request: &FilingRequest,
     orders: &Source<'_>,
     trades: &Source<'_>,
-    book: &mut B,
+    keeper: &mut B,
 ) -> Result<CaseAnswer, Halt>
     requires limit { HaveOneLimit orders.now trades.now }
     requires names { NamesLogs request.now.logs orders.now trades.now }
@@ -233,16 +233,16 @@ pub(crate) fn check_in<'a, F: Shelf, B: DigestKeeper>(
     ensures logs { KeepsShelfLogs ⟦<DigestShelf<'a, F> as Shelf>⟧ shelf.old shelf.new }
     ensures later { let shelves = ⟦<DigestShelf<'a, F> as Shelf>⟧ in
         FaultsNeverFall (reading_by orders.now shelves shelf.old shelf.new) }
-    ensures keeper { (B.state book.old).faults ≤ (B.state book.new).faults }
+    ensures keeper { (B.state keeper.old).faults ≤ (B.state keeper.new).faults }
     ensures checks { let shelves = ⟦<DigestShelf<'a, F> as Shelf>⟧ in (first : Reading)
         → GoesOn first (reading_by orders.now shelves shelf.old shelf.new)
         → ReadsRecords first request.now.logs AnyRecords
         → ChecksOrStops (both_readings first (reading_by orders.now shelves shelf.old shelf.new))
-        (B.state book.old) (B.state book.new) request.now result }
+        (B.state keeper.old) (B.state keeper.new) request.now result }
     ensures within { let shelves = ⟦<DigestShelf<'a, F> as Shelf>⟧ in
         EndsWithinOrHalts (reading_by orders.now shelves shelf.old shelf.new) result }
 {
-    match book.find(&request.label) {
+    match keeper.find(&request.label) {
         Ok(Some(kept)) => check_kept(alloc, shelf, request, &kept, orders, trades),
         Ok(None) => Ok(CaseAnswer {
             status: CaseStatus::Refused,

@@ -51,13 +51,13 @@ fn check_database<'a, F: Shelf, K: Sink, O: DigestOpener>(
     ensures stays { SinkStays (K.state out.old) (K.state out.new) }
 {
     match opener.open(request.database.as_str(), Missing::Refuse) {
-        Ok(mut book) => {
-            let answer = check_in(alloc, shelf, request, &logs.orders, &logs.trades, &mut book);
+        Ok(mut keeper) => {
+            let answer = check_in(alloc, shelf, request, &logs.orders, &logs.trades, &mut keeper);
             let ran = write_decided(out, answer);
             Ran {
                 status: ran.status,
                 stop: ran.stop,
-                back: Some(book),
+                back: Some(keeper),
             }
         }
         Err(fault) => end_unopened(out, Err(Halt::from(fault))),

@@ -64,13 +64,13 @@ fn file_with_text<K: Sink, O: DigestOpener>(
     ensures stays { SinkStays (K.state out.old) (K.state out.new) }
 {
     match opener.open(request.database.as_str(), Missing::Make) {
-        Ok(mut book) => {
-            let answer = file_in(alloc, cases, text, &mut book);
+        Ok(mut keeper) => {
+            let answer = file_in(alloc, cases, text, &mut keeper);
             let ran = write_decided(out, answer);
             Ran {
                 status: ran.status,
                 stop: ran.stop,
-                back: Some(book),
+                back: Some(keeper),
             }
         }
         Err(fault) => end_unopened(out, Err(Halt::from(fault))),

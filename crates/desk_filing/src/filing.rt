@@ -13,13 +13,13 @@ use std::alloc::Global;
 /// Of these cases, the first whose label has a case on file, by that case.
 fn first_known<B: DigestKeeper>(
     cases: &[DigestedCase],
-    book: &mut B,
+    keeper: &mut B,
 ) -> Result<Option<KeptCase>, KeepFault>
-    ensures { FindsFirst (B.state book.old) (B.state book.new) cases.now result }
+    ensures { FindsFirst (B.state keeper.old) (B.state keeper.new) cases.now result }
 {
     let mut rest = cases;
     while let Some((one, others)) = rest.split_first() {
-        if let Some(known) = book.find(&one.case.label)? {
+        if let Some(known) = keeper.find(&one.case.label)? {
             return Ok(Some(known));
         }
         rest = others;
@@ -32,20 +32,20 @@ pub(crate) fn file_in<B: DigestKeeper>(
     alloc: Global,
     cases: &[DigestedCase],
     text: Vec<u8>,
-    book: &mut B,
+    keeper: &mut B,
 ) -> Result<CaseAnswer, Halt>
     requires { text.items ≡ case_lines cases.now }
-    ensures files { FilesOrStops (B.state book.old) (B.state book.new) cases.now result }
-    ensures later { (B.state book.old).faults ≤ (B.state book.new).faults }
+    ensures files { FilesOrStops (B.state keeper.old) (B.state keeper.new) cases.now result }
+    ensures later { (B.state keeper.old).faults ≤ (B.state keeper.new).faults }
 {
-    match first_known(cases, book)? {
+    match first_known(cases, keeper)? {
         Some(known) => Ok(CaseAnswer {
             status: CaseStatus::Refused,
             text: known_text(alloc, &known.case)?,
             stop: None,
         }),
         None => {
-            book.file_all(cases)?;
+            keeper.file_all(cases)?;
             Ok(CaseAnswer {
                 status: CaseStatus::Done,
                 text,

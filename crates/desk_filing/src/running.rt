@@ -39,7 +39,7 @@ use std::alloc::Global;
 #[derive(Drop)]
 pub struct HandedBack<F, B> {
     pub shelf: F,
-    pub book: Option<B>,
+    pub keeper: Option<B>,
 }
 
 /// Answers words that ask for nothing: by the usage line, where they are not well-formed.
@@ -106,7 +106,7 @@ fn run_request<F: Shelf, K: Sink, O: DigestOpener>(
     requires fresh { (which : Which) → (F.slot shelf which).started ≡ false }
     ensures files { let r = filing_reading F.Shelf request.now.logs shelf result.back.shelf in
         FilesRequest (filing_call r (O.state opener.old) (O.state opener.new)
-        (option_map O.Book.state result.back.book)) request.now (K.state out.old) (K.state out.new)
+        (option_map O.Book.state result.back.keeper)) request.now (K.state out.old) (K.state out.new)
         result.status }
     ensures opener { KeepsDatabases (O.state opener.old) (O.state opener.new) }
     ensures stays { SinkStays (K.state out.old) (K.state out.new) }
@@ -119,7 +119,7 @@ fn run_request<F: Shelf, K: Sink, O: DigestOpener>(
         stop: ran.stop,
         back: HandedBack {
             shelf: taking.into_shelf(),
-            book: ran.back,
+            keeper: ran.back,
         },
     }
 }
@@ -151,7 +151,7 @@ pub fn run_filing<F: Shelf, K: Sink, O: DigestOpener>(
     requires fresh { (which : Which) → (F.slot shelf which).started ≡ false }
     ensures files { FilesAsked F.Shelf shelf result.back.shelf
         (filing_request_of (map string_bytes words.now)) (O.state opener.old) (O.state opener.new)
-        (option_map O.Book.state result.back.book) (K.state out.old) (K.state out.new) result.status }
+        (option_map O.Book.state result.back.keeper) (K.state out.old) (K.state out.new) result.status }
     ensures opener { KeepsDatabases (O.state opener.old) (O.state opener.new) }
     ensures sink { SinkStays (K.state out.old) (K.state out.new) }
     ensures one { OneFilingTurn }
@@ -171,7 +171,7 @@ pub fn run_filing_seeded<F: Shelf, K: Sink, O: DigestOpener>(
     requires fresh { (which : Which) → (F.slot shelf which).started ≡ false }
     ensures files { FilesAsked F.Shelf shelf result.back.shelf
         (filing_request_of (map string_bytes words.now)) (O.state opener.old) (O.state opener.new)
-        (option_map O.Book.state result.back.book) (K.state out.old) (K.state out.new) result.status }
+        (option_map O.Book.state result.back.keeper) (K.state out.old) (K.state out.new) result.status }
     ensures opener { KeepsDatabases (O.state opener.old) (O.state opener.new) }
     ensures sink { SinkStays (K.state out.old) (K.state out.new) }
     ensures one { OneFilingTurn }
@@ -182,7 +182,7 @@ pub fn run_filing_seeded<F: Shelf, K: Sink, O: DigestOpener>(
         Err(fault) => Ran {
             status: refuse_words(out, fault),
             stop: None,
-            back: HandedBack { shelf, book: None },
+            back: HandedBack { shelf, keeper: None },
         },
     }
 }

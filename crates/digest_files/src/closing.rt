@@ -38,7 +38,7 @@ pub fn file_and_close<F: Shelf, K: Sink, O: ClosingDigests>(
         (map string_bytes words.now) (K.state out.old) (K.state out.new) result.status }
 {
     let Ran { status, stop, back } = run_filing_seeded(alloc, seed, words, shelf, out, opener);
-    if let Some(keeper) = back.book {
+    if let Some(keeper) = back.keeper {
         opener.close(keeper);
     }
     Ran {

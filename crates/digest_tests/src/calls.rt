@@ -110,7 +110,7 @@ fn try_filing<O: DigestOpener>(
     let ran = run_filing(alloc, &words, shelf, &mut out, opener);
     Ok(Filed {
         said: said_of(alloc, ran.status, &out),
-        book: ran.back.book,
+        book: ran.back.keeper,
     })
 }
 

@@ -158,7 +158,7 @@ pub(crate) fn make_call(alloc: Global, call: &Call) -> Result<Came, NoMemory> {
     let keeper_fails = Vec::from_slice(alloc, &[call.keeper_fails])?;
     let mut opener = MemoryDigestOpener::new(alloc, call.kept, opener_fails, keeper_fails);
     let ran = run_filing(alloc, &words, shelf, &mut out, &mut opener);
-    let (status, book) = (ran.status, ran.back.book);
+    let (status, book) = (ran.status, ran.back.keeper);
     Ok(Came { status, out, book })
 }
 

@@ -5,7 +5,7 @@ use audit_base::records::OrderRecord;
 use audit_base::terms::{Life, Side};
 use fairness::checking::check_fair;
 use matching_core::checking::check_matching;
-use rank_order::ranking::ranked_sides;
+use rank_order::ranking::ranked;
 use std::process::Abort;
 
 fn order(rt: &impl Abort, id: &[u8], side: Side, limit: &[u8]) -> OrderRecord {
@@ -26,10 +26,13 @@ fn found<R: AllocGlobal + Abort>(rt: &R, bid: &[u8]) -> Result<(), Finding> {
     let Ok(totals) = check_matching(rt.alloc(), &orders, &deals, false) else {
         panic!(rt; "no matching");
     };
-    let Ok(sides) = ranked_sides(rt.alloc(), &orders) else {
+    let Ok(bids) = ranked(rt.alloc(), &orders, Side::Buy) else {
         panic!(rt; "no memory");
     };
-    check_fair(&orders, &sides.bids, &sides.asks, &deals, totals.as_slice())
+    let Ok(asks) = ranked(rt.alloc(), &orders, Side::Sell) else {
+        panic!(rt; "no memory");
+    };
+    check_fair(&orders, &bids, &asks, &deals, totals.as_slice())
 }
 
 #[test]

@@ -4,7 +4,7 @@ use Rattle.desk_filing.proofs.filing.first_known.Given as goal
 
 -- no label so far has a case on file
 abbrev pub invariant-loop-one : goal.invariant-loop-one
-invariant-loop-one g l = FoundNoneSoFar (g.B.DigestKeeper.state l.fn.book) (g.B.DigestKeeper.state l.book) l.cases l.rest
+invariant-loop-one g l = FoundNoneSoFar (g.B.DigestKeeper.state l.fn.keeper) (g.B.DigestKeeper.state l.keeper) l.cases l.rest
 
 abbrev pub decreases-loop-one : goal.decreases-loop-one
 decreases-loop-one g l = length l.rest
