@@ -131,16 +131,18 @@ pub fn print_end<F: Shelf>(
     shelf: &NotedShelf<F>,
     stop: &Option<NoRecords>,
 ) {
-    match (status, stop) {
-        (Status::Memory, _) => {
+    match status {
+        Status::Memory => {
             let _written = eprintln!(rt; "{program}: memory ran out");
         }
-        (Status::WriteFault, _) => {
+        Status::WriteFault => {
             let _written = eprintln!(rt; "{program}: standard output could not be written");
         }
-        (Status::Malformed | Status::ReadFault | Status::TooLong, Some(stop)) => {
-            print_stop(rt, program, limit, shelf, stop);
+        Status::Malformed | Status::ReadFault | Status::TooLong => {
+            if let Some(stop) = stop {
+                print_stop(rt, program, limit, shelf, stop);
+            }
         }
-        _ => {}
+        Status::Accepted | Status::Rejected | Status::Usage => {}
     }
 }
