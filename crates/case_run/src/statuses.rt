@@ -7,8 +7,10 @@ ghost use Rattle.case_run.specs.Statuses.{case_status_number, ends_run};
 pub enum CaseStatus {
     /// The last command was done.
     Done,
-    /// The last command was refused: the label to file under has a case, or the label to show has
-    /// none.
+    /// The last command was refused. Of `casebook`: the label to file under has a case, or the
+    /// label to show has none. Of `desk`: nothing was filed, since a label has a case or is too
+    /// long, or the reports of the trade log do not pair; or the label to check has no case, or one
+    /// without digests, or the logs are not as that case has them.
     Refused,
     /// The words of the command line are not well-formed.
     Usage,
@@ -18,7 +20,8 @@ pub enum CaseStatus {
     ReadFault,
     /// The text could not be written in full.
     WriteFault,
-    /// A log has more than 67,108,864 bytes.
+    /// A log has more bytes than the program reads: 67,108,864 for `casebook`, 34,359,738,368 for
+    /// `desk`.
     TooLong,
     /// There was not enough memory.
     Memory,

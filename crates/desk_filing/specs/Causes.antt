@@ -37,7 +37,8 @@ pub record ReadsLogAs (r : Reading) (logs : NamedLogs) (log : Which) (good : Boo
 abbrev pub ReadsGoodLogs : Reading → NamedLogs → Type 0
 ReadsGoodLogs r logs = (log : Which) → ReadsLogAs r logs log true
 
--- the trade log is started only after an order log that was read to its end and is in its grammar
+-- it is a log's turn: always the order log's, and the trade log's where the order log was read to
+-- its end and is in its grammar
 abbrev pub IsLogInTurn : Reading → NamedLogs → Which → Type 0
 IsLogInTurn r logs Orders = Unit {0}
 IsLogInTurn r logs Trades = ReadsLogAs r logs Orders true
@@ -61,15 +62,14 @@ ReadsLogsFor r logs status.TooLong = ⊥
 ReadsLogsFor r logs status.Memory = ⊥
 ReadsLogsFor r logs status.KeeperFault = ⊥
 
--- A log was started in its turn and could not be read: its faults rose, or the shelf knows that it
--- lacks the log.
+-- A log could not be read in its turn: its faults rose, or the shelf knows that it lacks the log.
 pub record FindsLogUnreadable (r : Reading) (logs : NamedLogs) (log : Which) : Type 0 where
   pub in_turn : IsLogInTurn r logs log
   pub cause : RoseOrIsFull (r.before log).faults (r.after log).faults
       ⊎ ((r.tells ≡ true) × (r.log_of log (day_log_name logs log) ≡ None))
 
--- A log was started in its turn and is too long: more of it was taken than a log may have, and
--- where it is known what the shelf has, the log has more bytes.
+-- A log is too long, in its turn: more of it was taken than a log may have, and where it is known
+-- what the shelf has, the log has more bytes.
 pub record FindsLogTooLong (r : Reading) (logs : NamedLogs) (log : Which) : Type 0 where
   pub in_turn : IsLogInTurn r logs log
   pub taken : r.limit < (r.after log).taken

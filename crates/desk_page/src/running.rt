@@ -138,13 +138,13 @@ fn refuse_words<D: Drawing, K: Sink>(out: &mut K, fault: WordsFault) -> Status
 /// The words are those of `read_page_words`. `Usage` comes exactly where they are not
 /// well-formed (`WriteFault` where the usage line could not be written), and the shelf is then
 /// as it was. `Accepted` and `Rejected` are those of the verdict, and the text is its page, with
-/// the words of an audit that gives the verdict and the SHA-256 digests of the bytes that it is
-/// on. Where both logs are good, the reports pair and no record has the symbol, the status is
-/// `Rejected` and the text one line, that the symbol is absent. `Malformed` comes where a log is
-/// not in its grammar: the text is then its first bad place, as of an audit. `ReadFault` comes
-/// only where a log could not be read, `TooLong` where one has more than 34,359,738,368 bytes,
-/// `WriteFault` only where the sink's faults rose, and `Memory` where memory ran out, and
-/// nothing was written.
+/// the words of an audit by `auditor`, which gives the verdict where no log has more than
+/// 67,108,864 bytes, and the SHA-256 digests of the bytes that it is on. Where both logs are good,
+/// the reports pair and no record has the symbol, the status is `Rejected` and the text one line,
+/// that the symbol is absent. `Malformed` comes where a log is not in its grammar: the text is then
+/// its first bad place, as of an audit. `ReadFault` comes only where a log could not be read,
+/// `TooLong` where one has more than 34,359,738,368 bytes, `WriteFault` only where the sink's
+/// faults rose, and `Memory` where memory ran out, and nothing was written.
 ///
 /// The hashes by which names are found begin with the fixed seed: see `run_page_seeded` for logs
 /// whose names may have been chosen to make this slow.

@@ -103,7 +103,7 @@ pub record IsDayAnswer (page : Bool) (meaning : DayMeaning) (question_text : Lis
 
 -- what a command that makes its whole answer first answers to the logs that it has read, its status
 -- and its text: to `audit` and `session` that of the day, of the symbols of the share that is asked
--- for, or its page; to `offences` every offence of the symbol; to `digest` the digests of both
+-- for, or its page; to `offences` the offences of the symbol; to `digest` the digests of both
 -- logs; to `convert` the records of the log in the second form; to `contents` what is in both logs;
 -- to `help` and `--version` a text of their own
 abbrev pub IsWholeAnswer : WholeRequest → List (List ℕ) → Status → List ℕ → Type 0

@@ -42,7 +42,7 @@ impl GivenByLogs for GivenSessions {
     ghost of_bad = { λ given log bad. given.4 ≡ Malformed log bad };
 }
 
-/// Two logs give the answer to every offence of a symbol.
+/// Two logs give the answer about the offences of a symbol.
 pub struct GivenOffences;
 
 impl GivenByLogs for GivenOffences {

@@ -7,7 +7,7 @@
 //! (`program` and `given_days` say what those of `desk` are). `plain` and `generated` write their
 //! text while they make it. A day is judged symbol by symbol, by a rule (`day_logs`) or by phases
 //! (`day_sessions`), and each of its logs may have 34,359,738,368 bytes.
-//! Every offence of a symbol is told by `offences`, over `symbol_offences`.
+//! The offences of a symbol are told by `offences`, over `symbol_offences`.
 //! The digests of two logs are those of `log_digests`, whatever is in them. What is in two logs is
 //! told by `contents`, over `log_contents`.
 #![tactic(auto)]

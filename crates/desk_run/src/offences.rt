@@ -1,4 +1,4 @@
-//! The answer to `offences`: every offence of a symbol in two logs.
+//! The answer to `offences`: the offences of a symbol in two logs.
 ghost use Rattle.command_run.specs.Deciding.{DecidesAnswer};
 ghost use Rattle.desk_run.specs.Deciding.{request_for_offences};
 ghost use Rattle.desk_run.specs.Requests.{desk_command_of};

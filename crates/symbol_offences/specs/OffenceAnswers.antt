@@ -1,4 +1,4 @@
--- What `offences` answers to two logs: the verdict on the symbol, and where it rejects every offence
+-- What `offences` answers to two logs: the verdict on the symbol, and where it rejects the offences
 -- behind it; of a symbol that the rule accepts every trade that fails a further check; and that a
 -- symbol is absent which no record has.
 use Rattle.std.specs.Prelude.{ℕ, Bool, true, false, ◌&&◌, List, [], ◌∷◌, ◌++◌, Some, Result, Ok, Err, MatchResult, is_some, if◌then◌else◌}

@@ -1,4 +1,4 @@
-//! The answer to two logs: the verdict on the symbol, and every offence behind it.
+//! The answer to two logs: the verdict on the symbol, and the offences behind it.
 ghost use Rattle.std.specs.Prelude.{◌≡◌, true, IfOk, length};
 ghost use Rattle.audit_base.specs.Deals.{IsDealList};
 ghost use Rattle.audit_report.specs.declared.statuses.Status.TheVariants as status;
@@ -90,7 +90,7 @@ fn answer_after(
     }
 }
 
-/// Every offence of a symbol in two logs, as a status and a text, or why there is no answer. Of a
+/// The offences of a symbol in two logs, as a status and a text, or why there is no answer. Of a
 /// symbol that is accepted the text and the status of an audit; of one that is rejected the text of
 /// its finding, a line for each offence of which that is the first, and their number, with status
 /// `Rejected`. Where the rule accepts, the same of the further checks that are asked for. Behind

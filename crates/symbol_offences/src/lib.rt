@@ -1,4 +1,4 @@
-//! Every offence of one symbol, from the two logs of a shelf to the text that tells them.
+//! The offences of one symbol, from the two logs of a shelf to the text that tells them.
 //!
 //! Each log is read once, piece by piece: `order_log` and `trade_log` are handed its records and
 //! keep what the verdict needs, and beside it, where that is asked for, the times of the symbol's

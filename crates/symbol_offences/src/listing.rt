@@ -49,7 +49,7 @@ fn all_continuous_offences(
     }
 }
 
-/// Every offence of deals under the rule, whose first is known.
+/// The offences of deals under the rule, whose first is known.
 pub(crate) fn all_offences(
     alloc: Global,
     rule: Rule,

@@ -8,7 +8,7 @@ use audit_base::terms::Rule;
 use further_checks::findings::FurtherChecks;
 use record_verdict::questions::Question;
 
-/// What is asked of the records of a symbol: every offence under a rule, and of a symbol that the
+/// What is asked of the records of a symbol: the offences under a rule, and of a symbol that the
 /// rule accepts every trade that fails a further check.
 #[derive(Clone, Copy, Debug)]
 pub struct OffenceQuestion {
