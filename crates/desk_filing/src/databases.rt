@@ -58,8 +58,8 @@ fn file_with_text<K: Sink, O: DigestOpener>(
     requires text { text.items ≡ case_lines cases.now }
     requires made { missing_database request.now.command ≡ Missing.Make }
     ensures runs { (r : Reading) → ReadsCases r request.now cases.now → RunsRequest
-        (filing_call r (O.state opener.old) (O.state opener.new) (option_map O.Book.state result.back))
-        request.now (K.state out.old) (K.state out.new) result.status }
+        (filing_call r (O.state opener.old) (O.state opener.new)
+        (option_map O.Book.state result.back)) request.now (K.state out.old) (K.state out.new) result.status }
     ensures opener { KeepsDatabases (O.state opener.old) (O.state opener.new) }
     ensures stays { SinkStays (K.state out.old) (K.state out.new) }
 {
@@ -87,8 +87,8 @@ fn file_cases<K: Sink, O: DigestOpener>(
 ) -> Ran<CaseStatus, Option<O::Book>>
     requires made { missing_database request.now.command ≡ Missing.Make }
     ensures runs { (r : Reading) → ReadsCases r request.now cases.now → RunsRequest
-        (filing_call r (O.state opener.old) (O.state opener.new) (option_map O.Book.state result.back))
-        request.now (K.state out.old) (K.state out.new) result.status }
+        (filing_call r (O.state opener.old) (O.state opener.new)
+        (option_map O.Book.state result.back)) request.now (K.state out.old) (K.state out.new) result.status }
     ensures opener { KeepsDatabases (O.state opener.old) (O.state opener.new) }
     ensures stays { SinkStays (K.state out.old) (K.state out.new) }
 {
@@ -108,8 +108,8 @@ pub(crate) fn file_judged<K: Sink, O: DigestOpener>(
 ) -> Ran<CaseStatus, Option<O::Book>>
     requires made { missing_database request.now.command ≡ Missing.Make }
     ensures runs { (r : Reading) → JudgesLogs r request.now judged → RunsRequest
-        (filing_call r (O.state opener.old) (O.state opener.new) (option_map O.Book.state result.back))
-        request.now (K.state out.old) (K.state out.new) result.status }
+        (filing_call r (O.state opener.old) (O.state opener.new)
+        (option_map O.Book.state result.back)) request.now (K.state out.old) (K.state out.new) result.status }
     ensures length { (r : Reading) → EndsWithinOrHalts r judged
         → EndsWithinOrAnswers r result.status }
     ensures opener { KeepsDatabases (O.state opener.old) (O.state opener.new) }

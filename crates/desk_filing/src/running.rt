@@ -106,8 +106,8 @@ fn run_request<F: Shelf, K: Sink, O: DigestOpener>(
     requires fresh { (which : Which) → (F.slot shelf which).started ≡ false }
     ensures files { let r = filing_reading F.Shelf request.now.logs shelf result.back.shelf in
         FilesRequest (filing_call r (O.state opener.old) (O.state opener.new)
-        (option_map O.Book.state result.back.keeper)) request.now (K.state out.old) (K.state out.new)
-        result.status }
+        (option_map O.Book.state result.back.keeper)) request.now (K.state out.old)
+        (K.state out.new) result.status }
     ensures opener { KeepsDatabases (O.state opener.old) (O.state opener.new) }
     ensures stays { SinkStays (K.state out.old) (K.state out.new) }
 {
@@ -151,7 +151,8 @@ pub fn run_filing<F: Shelf, K: Sink, O: DigestOpener>(
     requires fresh { (which : Which) → (F.slot shelf which).started ≡ false }
     ensures files { FilesAsked F.Shelf shelf result.back.shelf
         (filing_request_of (map string_bytes words.now)) (O.state opener.old) (O.state opener.new)
-        (option_map O.Book.state result.back.keeper) (K.state out.old) (K.state out.new) result.status }
+        (option_map O.Book.state result.back.keeper) (K.state out.old) (K.state out.new)
+        result.status }
     ensures opener { KeepsDatabases (O.state opener.old) (O.state opener.new) }
     ensures sink { SinkStays (K.state out.old) (K.state out.new) }
     ensures one { OneFilingTurn }
@@ -171,7 +172,8 @@ pub fn run_filing_seeded<F: Shelf, K: Sink, O: DigestOpener>(
     requires fresh { (which : Which) → (F.slot shelf which).started ≡ false }
     ensures files { FilesAsked F.Shelf shelf result.back.shelf
         (filing_request_of (map string_bytes words.now)) (O.state opener.old) (O.state opener.new)
-        (option_map O.Book.state result.back.keeper) (K.state out.old) (K.state out.new) result.status }
+        (option_map O.Book.state result.back.keeper) (K.state out.old) (K.state out.new)
+        result.status }
     ensures opener { KeepsDatabases (O.state opener.old) (O.state opener.new) }
     ensures sink { SinkStays (K.state out.old) (K.state out.new) }
     ensures one { OneFilingTurn }

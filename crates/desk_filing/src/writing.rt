@@ -14,8 +14,8 @@ use log_source::sink::Sink;
 use log_verdict::runs::Ran;
 
 /// Writes the text of an answer, or the line of a halt, and answers the status. Whatever decided
-/// that, the status has its cause in it. Why there are no records of the logs, where there are none,
-/// is handed on for whoever tells it.
+/// that, the status has its cause in it. Why there are no records of the logs, where there are
+/// none, is handed on for whoever tells it.
 pub(crate) fn write_decided<K: Sink>(
     out: &mut K,
     decided: Result<CaseAnswer, Halt>,

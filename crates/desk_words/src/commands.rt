@@ -123,8 +123,8 @@ pub fn asks_page(words: &[String]) -> bool
     }
 }
 
-/// ORDERS and TRADES, at an index of the words and after it, with the forms that options give them. Asks for
-/// memory for their texts.
+/// ORDERS and TRADES, at an index of the words and after it, with the forms that options give them.
+/// Asks for memory for their texts.
 pub fn named_logs(
     alloc: Global,
     words: &[String],

@@ -4,8 +4,9 @@
 //! `sources` says where a log is and how it is read. `reading` hands the records of one log to a
 //! collector; `both_logs` reads the order log and then the trade log, up to the rule;
 //! `verdicts::verdict_on` is the verdict on both. All commands that judge two logs use one of
-//! these. `runs` is what a call leaves that does. `decoding` reads a log that is there as a whole. In `specs/`, `LogVerdicts` has the
-//! verdict on the bytes of two logs, apart from how they were read, and `Steps` what a call knows
+//! these. `runs` is what a call leaves that does. `decoding` reads a log that is there as a whole.
+//! In `specs/`, `LogVerdicts` has the verdict on the bytes of two logs, apart from how they were
+//! read, and `Steps` what a call knows
 //! of a shelf.
 #![tactic(auto)]
 

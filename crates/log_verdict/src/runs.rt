@@ -1,8 +1,8 @@
 //! What a call over logs leaves.
 use crate::stops::NoRecords;
 
-/// What a call leaves: its status; why it has no records of its logs, where it has none, for whoever
-/// tells it; and what it hands back to its caller.
+/// What a call leaves: its status; why it has no records of its logs, where it has none, for
+/// whoever tells it; and what it hands back to its caller.
 #[derive(Drop)]
 pub struct Ran<S, B> {
     pub status: S,
