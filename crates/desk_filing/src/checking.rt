@@ -49,7 +49,8 @@ fn refusal_in(alloc: Global, verdict: &Verdict) -> Result<Option<CaseAnswer>, No
 }
 
 /// Nothing, where both logs can be read and are in their grammar; else the answer to them. Any
-/// verdict tells this. That on a symbol which is none of the logs' keeps least of them.
+/// verdict tells this: it is that on a symbol with the name of the label, of which the logs mostly
+/// have no records, so that little is kept.
 pub(crate) fn look_at_logs<F: Shelf>(
     alloc: Global,
     shelf: &mut F,

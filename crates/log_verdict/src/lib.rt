@@ -6,8 +6,7 @@
 //! `verdicts::verdict_on` is the verdict on both. All commands that judge two logs use one of
 //! these. `runs` is what a call leaves that does. `decoding` reads a log that is there as a whole.
 //! In `specs/`, `LogVerdicts` has the verdict on the bytes of two logs, apart from how they were
-//! read, and `Steps` what a call knows
-//! of a shelf.
+//! read, and `Steps` what a call knows of a shelf.
 #![tactic(auto)]
 
 pub mod both_logs;
