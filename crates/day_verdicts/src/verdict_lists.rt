@@ -5,7 +5,7 @@ ghost use Rattle.day_verdicts.specs.DayVerdicts.{RuleTradesFitPlaces};
 ghost use Rattle.day_verdicts.specs.VerdictLists.{HasTakenShare, TakesVerdict};
 ghost use Rattle.record_verdict.specs.Judged.{as_verdict};
 
-use crate::day_verdicts::verdict_of;
+use crate::judging::verdict_of;
 use audit_base::faults::NoMemory;
 use audit_base::names::Name;
 use audit_base::terms::Rule;
