@@ -71,8 +71,11 @@ fn run_over<
         AnswersFrom (CasebookAnswers shelf) status.Memory (R.known_words rt.now)
         (CasebookBegins shelf (S.tells files) (S.file_at files) (W.contents output)
         (O.state opener.old))
-        (record { shelf = result.back.shelf; opener = O.state opener.new;
-        sink = state result.back.out }) result.status }
+        (record {
+          shelf = result.back.shelf;
+          opener = O.state opener.new;
+          sink = state result.back.out;
+        }) result.status }
 {
     let mut shelf = noted_files(rt.alloc(), files);
     let mut out = fresh_output(output);

@@ -52,7 +52,14 @@ fn check_database<'a, F: Shelf, K: Sink, O: DigestOpener>(
 {
     match opener.open(request.database.as_str(), Missing::Refuse) {
         Ok(mut keeper) => {
-            let answer = check_in(alloc, shelf, request, &logs.orders, &logs.trades, &mut keeper);
+            let answer = check_in(
+                alloc,
+                shelf,
+                request,
+                &logs.orders,
+                &logs.trades,
+                &mut keeper,
+            );
             let ran = write_decided(out, answer);
             Ran {
                 status: ran.status,

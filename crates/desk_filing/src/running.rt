@@ -184,7 +184,10 @@ pub fn run_filing_seeded<F: Shelf, K: Sink, O: DigestOpener>(
         Err(fault) => Ran {
             status: refuse_words(out, fault),
             stop: None,
-            back: HandedBack { shelf, keeper: None },
+            back: HandedBack {
+                shelf,
+                keeper: None,
+            },
         },
     }
 }

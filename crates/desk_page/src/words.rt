@@ -12,7 +12,7 @@ use command_words::options::Options;
 use command_words::paths::names_logs;
 use command_words::requests::WordsFault;
 use command_words::word_forms::{is_word, rule_named, symbol_named, word_at};
-use desk_words::commands::{named_logs, form_options_in};
+use desk_words::commands::{form_options_in, named_logs};
 use std::alloc::Global;
 
 /// What the words say of rule, symbol and options.

@@ -75,8 +75,11 @@ fn run_over<
         AnswersFrom (DeskAnswersWords shelf) (ended.Run status.Memory) (R.known_words rt.now)
         (DeskBegins shelf (S.tells files) (S.file_at files) (W.contents output)
         (O.state opener.old))
-        (record { shelf = result.back.shelf; opener = O.state opener.new;
-        sink = state result.back.out }) result.status }
+        (record {
+          shelf = result.back.shelf;
+          opener = O.state opener.new;
+          sink = state result.back.out;
+        }) result.status }
 {
     let shelf = noted_files(rt.alloc(), files);
     let mut out = fresh_output(output);

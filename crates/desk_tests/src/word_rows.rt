@@ -5,7 +5,7 @@ use audit_base::faults::NoMemory;
 use audit_base::terms::{Form, Rule};
 use command_words::requests::WordsFault;
 use day_symbols::shares::DayShare;
-use desk_words::requests::{NamedLogs, DeskRequest, EarlyRequest, WholeRequest, read_desk_words};
+use desk_words::requests::{DeskRequest, EarlyRequest, NamedLogs, WholeRequest, read_desk_words};
 use std::alloc::Global;
 use std::test::Fail;
 

@@ -12,7 +12,7 @@ use super::further_words::checks_fit_rule;
 use super::log_words::{desk_convert_request, orders_request};
 use super::offence_words::{OffenceOptions, options_under};
 use super::options::{DeskOptions, desk_options_in, is_table_or_page};
-use super::requests::{NamedLogs, DeskRequest, EarlyRequest, WholeRequest};
+use super::requests::{DeskRequest, EarlyRequest, NamedLogs, WholeRequest};
 use audit_base::faults::NoMemory;
 use audit_base::names::Name;
 use audit_base::terms::Rule;
