@@ -16,6 +16,7 @@ use crate::opener::{DigestOpener, Missing};
 use crate::requests::FilingRequest;
 use crate::writing::write_decided;
 use case_run::halts::Halt;
+use case_run::statuses::CaseStatus;
 use log_digests::digest_shelf::DigestShelf;
 use log_source::shelf::Shelf;
 use log_source::sink::Sink;
