@@ -8,12 +8,12 @@ use Rattle.desk_filing.proofs.checking_databases.check_database.Goals as goal
 
 pub returns-in-Ok-clause-runs : goal.returns-in-Ok-clause-runs
 returns-in-Ok-clause-runs g c = λ first on reads.
-    c.write_decided.ensures.runs _ c.args.request.now
+    c.write_decided-ran.ensures.runs _ c.args.request.now
     (decides_checked _ (g.O.DigestOpener.state c.args.opener.now) (g.O.DigestOpener.state c.open.new.self) c.args.request.now c.requires.asked (ap missing_database c.requires.asked) _ _ (rw c.as_str.ensures at c.in-Ok.ensures.opened) c.check_in-answer.result
     (c.check_in-answer.ensures.checks first on reads))
 
 pub returns-in-Ok-clause-length : goal.returns-in-Ok-clause-length
-returns-in-Ok-clause-length g c = ends_at c.args.logs.now.orders _ _ _ c.check_in-answer.ensures.logs c.check_in-answer.result c.write_decided.result.status c.write_decided.ensures.length c.check_in-answer.ensures.within
+returns-in-Ok-clause-length g c = ends_at c.args.logs.now.orders _ _ _ c.check_in-answer.ensures.logs c.check_in-answer.result c.write_decided-ran.result.status c.write_decided-ran.ensures.length c.check_in-answer.ensures.within
 
 pub returns-in-Err-clause-runs : goal.returns-in-Err-clause-runs
 returns-in-Err-clause-runs g c = λ first on reads.

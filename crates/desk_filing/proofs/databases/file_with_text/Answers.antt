@@ -5,7 +5,7 @@ use Rattle.desk_filing.proofs.databases.file_with_text.Goals as goal
 
 pub returns-in-Ok-clause-runs : goal.returns-in-Ok-clause-runs
 returns-in-Ok-clause-runs g c = λ r reads.
-    c.write_decided.ensures.runs _ c.args.request.now
+    c.write_decided-ran.ensures.runs _ c.args.request.now
     (decides_filed r (g.O.DigestOpener.state c.args.opener.now) (g.O.DigestOpener.state c.open.new.self) c.args.request.now c.requires.made c.args.cases.now reads _ _ (rw c.as_str.ensures at c.in-Ok.ensures.opened) c.file_in-answer.result c.file_in-answer.ensures.files)
 
 pub returns-in-Err-clause-runs : goal.returns-in-Err-clause-runs
