@@ -6,7 +6,7 @@ ghost use Rattle.digest_files.specs.ClosedFilings.{FilesThenCloses};
 
 use case_run::statuses::CaseStatus;
 use desk_filing::opener::DigestOpener;
-use desk_filing::running::run_filing_seeded;
+use desk_filing::running::{HandedBack, run_filing_seeded};
 use log_source::shelf::Shelf;
 use log_source::sink::Sink;
 use log_verdict::runs::Ran;
@@ -38,12 +38,13 @@ pub fn file_and_close<F: Shelf, K: Sink, O: ClosingDigests>(
         (map string_bytes words.now) (K.state out.old) (K.state out.new) result.status }
 {
     let Ran { status, stop, back } = run_filing_seeded(alloc, seed, words, shelf, out, opener);
-    if let Some(keeper) = back.keeper {
+    let HandedBack { shelf, keeper } = back;
+    if let Some(keeper) = keeper {
         opener.close(keeper);
     }
     Ran {
         status,
         stop,
-        back: back.shelf,
+        back: shelf,
     }
 }
