@@ -9,6 +9,7 @@ use case_run::statuses::CaseStatus;
 use desk_filing::memory_opener::MemoryDigestOpener;
 use desk_filing::running::run_filing;
 use digest_keeper::digested::KeptCase;
+use digest_keeper::keeper::DigestKeeper;
 use digest_keeper::memory_keeper::MemoryDigestKeeper;
 use log_source::memory_shelf::MemoryShelf;
 use log_source::memory_sink::MemorySink;
