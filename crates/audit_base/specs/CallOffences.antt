@@ -24,7 +24,7 @@ use Rattle.audit_base.specs.Rules.{Only}
 use Rattle.audit_base.specs.RuleKinds.{volume_rule_of_call, rule_of_volume, asks_one_price}
 use Rattle.audit_base.specs.Shows.{finding_at_trade, with_traded_number, show_order, show_if_found, show_place}
 
--- First part: the least deal up to which the deals aren't a matching
+-- First part: the least deal up to which the deals are not a matching
 -- (or, under `uniform`, haven't one price).
 
 -- some record cancels the order
@@ -137,7 +137,7 @@ fair_offence orders deals =
     (ask_priority_finding orders deals deal))
     (length deals)
 
--- Third part: the volume isn't the greatest that the rule allows.
+-- Third part: the volume is not the greatest that the rule allows.
 
 -- the greatest volume that the rule allows
 abbrev pub IsGreatestUnder : VolumeRule → List Order → ℕ → Type 0

@@ -28,7 +28,7 @@ unfoldable pub traded_before : List Order → List Deal → ℕ → ℕ → ℕ
 traded_before orders deals place order = sum_by
     (λ d. if names_order order d && nat_lt (cause orders d) place then d.quantity else 0) deals
 
--- what an order trades in T(place), the deals whose cause is the place
+-- what an order trades in the deals whose cause is the place
 unfoldable pub traded_at : List Order → List Deal → ℕ → ℕ → ℕ
 traded_at orders deals place order =
     sum_by (λ d. if names_order order d && (cause orders d == place) then d.quantity else 0) deals
@@ -73,7 +73,7 @@ rests_before_where_entered entered orders ledger place order =
     && (uncancelled_before (order_at orders order).cancelled place
     && nat_lt (ledger place order) (size_where_entered entered orders ledger order))
 
--- the order was placed: it isn't cancelled at its own place
+-- the order was placed: it is not cancelled at its own place
 abbrev pub is_placed_order : List Order → ℕ → Bool
 is_placed_order orders order =
     not (is_cancelled_at_place (order_at orders order).cancelled (place_at orders order))
@@ -123,37 +123,40 @@ active_after_in_ledger orders ledger place order =
 abbrev pub traded_after : List Order → List Deal → ℕ → ℕ → ℕ
 traded_after orders deals place order = traded_before orders deals (suc place) order
 
--- Before(order), Entered(order) and Size(order)
+-- what the orders of an order's chain have traded before its own place
 abbrev pub chain_traded_quantity : List Order → List Deal → ℕ → ℕ
 chain_traded_quantity orders deals order =
     chain_traded_in_ledger orders (traded_before orders deals) order
 
+-- whether an order was placed
 abbrev pub has_entered : List Order → List Deal → ℕ → Bool
 has_entered orders deals order = entered_in_ledger orders (traded_before orders deals) order
 
+-- how much of an order there is to trade: a replacement has what its chain left of its quantity
 abbrev pub size_of_order : List Order → List Deal → ℕ → ℕ
 size_of_order orders deals order = size_in_ledger orders (traded_before orders deals) order
 
--- Left(place - 1, order) and Left(place, order): what is left before the record at a place,
--- and after it
+-- what is left of an order before the record at a place
 abbrev pub left_before : List Order → List Deal → ℕ → ℕ → ℕ
 left_before orders deals place order =
     left_before_in_ledger orders (traded_before orders deals) place order
 
+-- what is left of an order after the record at a place
 abbrev pub left_after : List Order → List Deal → ℕ → ℕ → ℕ
 left_after orders deals place order =
     left_before_in_ledger orders (traded_before orders deals) (suc place) order
 
--- Rests(place - 1, order) and Rests(place, order): whether it rests before the record, and after it
+-- whether an order rests before the record at a place
 abbrev pub rests_before : List Order → List Deal → ℕ → ℕ → Bool
 rests_before orders deals place order =
     rests_before_in_ledger orders (traded_before orders deals) place order
 
+-- whether an order rests after the record at a place
 abbrev pub rests_after : List Order → List Deal → ℕ → ℕ → Bool
 rests_after orders deals place order =
     rests_before_in_ledger orders (traded_before orders deals) (suc place) order
 
--- Active(place, order): whether it is active after the record
+-- whether an order is active after the record at a place
 abbrev pub active_after : List Order → List Deal → ℕ → ℕ → Bool
 active_after orders deals place order =
     active_after_in_ledger orders (traded_before orders deals) place order

@@ -31,7 +31,7 @@ abbrev pub traded_shown_upto : List Order → List Deal → ℕ → ℕ → ℕ 
 traded_shown_upto orders deals place deal order =
     traded_upto orders deals place deal order + chain_traded_quantity orders deals order
 
--- finding 7: the resting order doesn't rest before the place,
+-- finding 7: the resting order does not rest before the place,
 -- or else the incoming order never entered
 unfoldable pub continuous_inactive_finding : List Order → List Deal → ℕ → ℕ → Option Finding
 continuous_inactive_finding orders deals place deal =

@@ -178,7 +178,7 @@ is_placed_within (suc n) records k (Some t) =
 abbrev pub is_placed : List (ℕ × OrderRecord) → ℕ → Bool
 is_placed records k = is_placed_within (suc k) records k (replaced_order_at records k)
 
--- `cancelled`: of a replacement that isn't placed its own place, of every other order the least
+-- `cancelled`: of a replacement that is not placed its own place, of every other order the least
 -- place of a record that ends it
 abbrev pub cancelled_of : List (ℕ × OrderRecord) → ℕ → Option ℕ
 cancelled_of records k = if is_placed records k
@@ -237,7 +237,7 @@ pub record Regular (orders : List Order) : Type 0 where
       → (place : ℕ) × ((order_at orders target).cancelled ≡ Some place)
       × (place ≤ place_at orders order)
 
--- finding 16: the least order of the history whose life isn't Rests
+-- finding 16: the least order of the history whose life is not Rests
 abbrev pub instant_order_finding : List Order → Option Finding
 instant_order_finding orders =
     option_map (λ order. finding_at_record property.InstantOrder which.Orders

@@ -18,7 +18,7 @@ outranks side first second =
     better_limit side first.limit second.limit
     || ((first.limit == second.limit) && nat_lt first.place second.place)
 
--- Better (source: price-time priority): both are of one side, and the first outranks the second
+-- price-time priority: both orders are of one side, and the first outranks the second
 abbrev pub better : Order → Order → Bool
 better first second = same_side first.side second.side && outranks first.side first second
 

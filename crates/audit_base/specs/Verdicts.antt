@@ -20,7 +20,7 @@ instant_finding_of_rule the_rule orders =
     option_and_then (λ call. instant_order_finding orders) (call_rule the_rule)
 
 -- finding 4: a trade log that has been read is its trades,
--- or this finding where its reports don't pair
+-- or this finding where its reports do not pair
 abbrev pub pairing_finding : Result (List TradeRecord) Finding → Option Finding
 pairing_finding (Ok trades) = None
 pairing_finding (Err finding) = Some finding

@@ -96,7 +96,7 @@ pub record IsOrderLineOrEnd (orders : List Order) (deals : List Deal) (index : �
 -- The certificate.
 
 -- the line with this number, from 1, passes. The number after the last order is that of a line too
--- many, which passes where it isn't there
+-- many, which passes where it is not there
 abbrev pub LinePasses : VolumeRule → List ℕ → List Order → List Deal → List ℕ → ℕ → Type 0
 LinePasses the_rule symbol orders deals bytes zero = ⊤
 LinePasses the_rule symbol orders deals bytes (suc zero) =

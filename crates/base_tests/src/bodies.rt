@@ -64,7 +64,7 @@ const DATA: [(&str, &str); 21] = [
     ("35=D|90=2|96=a|b|", "field 15"),
     ("35=D|95=3|91=a|b|", "field 15"),
     ("35=D|95=1|96=a|96=b|c|", "field 20"),
-    // A length that isn't that of the data, or not in its form: the data field can't be read.
+    // A length that is not that of the data, or not in its form: the data field cannot be read.
     ("35=D|95=9|96=ab|", "field 10"),
     ("35=D|95=2|96=ab", "field 10"),
     ("35=D|95=3|96=ab|", "field 10"),
@@ -95,7 +95,7 @@ const FAULTS: [(&str, &str); 23] = [
     ("35=D|58=a", "field 5"),
     ("35=D||", "field 5"),
     ("|", "field 0"),
-    // The type comes first, but a field that can't be read comes before that.
+    // The type comes first, but a field that cannot be read comes before that.
     ("", "type"),
     ("49=A|", "type"),
     ("49=A|35=D|", "type"),

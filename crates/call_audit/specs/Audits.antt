@@ -41,7 +41,7 @@ pub record IsConformingCall (the_rule : VolumeRule) (orders : List Order) (deals
   pub only : (i : ℕ) → i < length orders
       → Only (rule_of_volume the_rule) orders i (traded deals i)
 
--- the deals don't conform, and this is the first offence
+-- the deals do not conform, and this is the first offence
 pub record IsBrokenCall (the_rule : VolumeRule) (orders : List Order) (deals : List Deal)
     (count : ℕ) (finding : Finding) : Type 0 where
   pub offence : IsCallOffence (call.Greatest the_rule) orders deals count finding

@@ -28,7 +28,7 @@ FairVolumeFixesQuantities = (orders : List Order) (first second : List Deal) →
     → volume first ≡ volume second → (i : ℕ) → traded first i ≡ traded second i
 
 -- where the volume is the greatest that the rule allows, the limits of a short bid
--- and a short ask don't meet
+-- and a short ask do not meet
 abbrev pub ShortOrdersDoNotMeet : Type 0
 ShortOrdersDoNotMeet = (the_rule : VolumeRule) (orders : List Order) (deals : List Deal)
     → OrdersInRange orders → DealsInRange deals → Conforms (rule_of_volume the_rule) orders deals

@@ -7,7 +7,7 @@ pub fn fair_volume_fills_by_rank()
     ensures { FairVolumeFillsByRank }
 {}
 
-/// Under `uniform` and `maximum` the limits of a short bid and a short ask don't meet:
+/// Under `uniform` and `maximum` the limits of a short bid and a short ask do not meet:
 /// else one more unit could trade.
 pub fn short_orders_do_not_meet()
     ensures { ShortOrdersDoNotMeet }

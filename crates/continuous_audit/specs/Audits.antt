@@ -24,7 +24,7 @@ pub record IsConformingContinuous (orders : List Order) (deals : List Deal)
   pub only : Regular orders → (bid ask : ℕ)
       → OnlyPair rule.Continuous orders bid ask (pair deals bid ask)
 
--- the deals don't conform, and this is the first offence
+-- the deals do not conform, and this is the first offence
 pub record IsBrokenContinuous (orders : List Order) (deals : List Deal)
     (finding : Finding) : Type 0 where
   pub offence : IsContinuousOffence orders deals finding

@@ -17,7 +17,7 @@ is_active_after_with order left =
 abbrev pub rests_after_with : Order → ℕ → Bool
 rests_after_with order left = may_rest order.life && is_active_after_with order left
 
--- this much is left of an order, which isn't in the books yet
+-- this much is left of an order, which is not in the books yet
 pub record IsAfterOwn (orders : List Order) (deals : List Deal) (order own_left : ℕ)
     (b : Books) : Type 0 where
   pub named : All (NamesOrders orders) deals

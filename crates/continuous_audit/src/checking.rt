@@ -1,4 +1,4 @@
-//! Whether the deals of one record keep their limits, and no order trades that isn't there or
+//! Whether the deals of one record keep their limits, and no order trades that is not there or
 //! more than its size.
 ghost use Rattle.std.specs.Prelude.{◌≡◌};
 ghost use Rattle.continuous_audit.specs.DealFindings as by_deal;

@@ -48,7 +48,7 @@ state_of field_state.InField = st.InField
 state_of field_state.InQuotes = st.InQuoted
 state_of field_state.AfterQuote = st.AfterQuote
 
--- a line whose fields do not depend on what follows it: it isn't broken,
+-- a line whose fields do not depend on what follows it: it is not broken,
 -- and its quotes close before its end
 abbrev pub is_closed : List ℕ → Bool
 is_closed line =

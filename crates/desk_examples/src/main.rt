@@ -91,7 +91,7 @@ impl Tally {
 }
 
 /// Whether the example in whose folder the process is holds, or, in the group of the canaries,
-/// differs as it must. Where it doesn't, a line says what came.
+/// differs as it must. Where it does not, a line says what came.
 fn is_as_it_must(
     rt: &HostRuntime,
     group: &str,

@@ -105,9 +105,10 @@ fn run_request<F: Shelf, K: Sink>(
 /// they are not well-formed (`WriteFault` where the usage line could not be written), `ReadFault`
 /// only where a log could not be read, `TooLong` where one has more than 34,359,738,368 bytes,
 /// `WriteFault` only where the sink's faults rose, and `Memory` where memory ran out: `plain` and
-/// `orders` have then written a front of their text, every other command nothing. `Rejected` comes
-/// where a symbol of the share is rejected, or where the reports of the trade log do not pair. What
-/// the shelf has under its names stays as it was.
+/// `orders` have then written a beginning of their text, every other command nothing. `Rejected`
+/// comes where a symbol of the share, or of `offences`, is rejected, where `offences` finds no
+/// record of its symbol, or where the reports of the trade log do not pair. What the shelf has under
+/// its names stays as it was.
 ///
 /// The hashes by which names are found begin with the fixed seed: see `run_desk_seeded` for logs
 /// whose names may have been chosen to make this slow.

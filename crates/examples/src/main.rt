@@ -133,7 +133,7 @@ fn comes_out_right(rt: &HostRuntime, kind: Kind, name: &str) -> io::Result<bool>
     }
 }
 
-/// Whether the example of this name holds. Where it doesn't, a line says how it differs.
+/// Whether the example of this name holds. Where it does not, a line says how it differs.
 fn holds(rt: &HostRuntime, name: &str) -> io::Result<bool> {
     env::set_current_dir(rt, name)?;
     let answer = run_example(rt);
@@ -146,7 +146,7 @@ fn holds(rt: &HostRuntime, name: &str) -> io::Result<bool> {
     Ok(false)
 }
 
-/// Whether the canary of this name differs, in the way that its folder says. Where it doesn't,
+/// Whether the canary of this name differs, in the way that its folder says. Where it does not,
 /// a line says what came instead.
 fn differs_as_it_must(rt: &HostRuntime, name: &str) -> io::Result<bool> {
     env::set_current_dir(rt, name)?;

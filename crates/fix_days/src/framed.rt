@@ -21,7 +21,7 @@ use std::mem;
 const MARK: [u8; 3] = [0xEF, 0xBB, 0xBF];
 
 /// What is kept of a framed day that comes in pieces, of at most `LONGEST_READ` bytes in all: the
-/// bytes of the message that isn't all there, fewer than 1,048,606, and the first three bytes.
+/// bytes of the message that is not all there, fewer than 1,048,606, and the first three bytes.
 /// Each body is handed on as soon as its message is all there.
 #[derive(Drop)]
 pub struct FramedFeed<B> {

@@ -53,7 +53,7 @@ pub fn is_soh_text(text: &[u8]) -> bool
 }
 
 /// What is kept of a day on lines that comes in pieces, of at most `LONGEST_READ` bytes in all: the
-/// bytes from the beginning of the message that isn't all there, or the last six where none begins.
+/// bytes from the beginning of a message that is not all there, or the last six if none begins.
 #[derive(Drop)]
 pub struct LineFeed<B, S> {
     /// The text that stands for SOH.

@@ -28,7 +28,7 @@ pub(crate) enum Look {
     /// A message, whose body runs from here to there in the bytes that it stands for, and which
     /// ends at this place in those held.
     Message { body: usize, to: usize, end: usize },
-    /// The message isn't all there.
+    /// The message is not all there.
     Wait,
     Fault(FrameFault),
 }
@@ -105,7 +105,7 @@ fn announced_size(message: &[u8]) -> Option<usize> {
 }
 
 /// How many bytes to undress before the next look: as many as the message says that it has. Where
-/// it doesn't say so yet, four times as many as before.
+/// it does not say so yet, four times as many as before.
 fn next_count(message: &[u8], count: usize) -> usize
     requires some { 0 < count }
     requires few { count < 1048606 }

@@ -17,14 +17,14 @@ use fix_framing::frames::FrameFault;
 use fix_framing::headers::AnyVersion;
 use std::alloc::Global;
 
-/// What is kept of a text that comes in pieces. Only the message that isn't all there is kept as
+/// What is kept of a text that comes in pieces. Only the message that is not all there is kept as
 /// bytes. After a bad message further pieces are taken without being looked at.
 #[derive(Drop)]
 pub(crate) struct Messages<B> {
     alloc: Global,
     /// How many bytes of the day are before the text.
     pub(crate) start: u8,
-    /// The bytes of the message that isn't all there.
+    /// The bytes of the message that is not all there.
     framer: Framer<AnyVersion>,
     /// What has been handed the bodies of the messages before it.
     pub(crate) bodies: B,

@@ -70,7 +70,7 @@ NoField before bytes =
     (field : TagValue) (more : List ℕ) → IsField before field
     → bytes ≢ field_bytes field ++ more
 
--- the first field of the body that can't be read begins at byte n: before it
+-- the first field of the body that cannot be read begins at byte n: before it
 -- are fields, and no field begins there
 pub record IsUnreadable (body : List ℕ) (n : ℕ) : Type 0 where
   pub front : List TagValue
@@ -81,7 +81,7 @@ pub record IsUnreadable (body : List ℕ) (n : ℕ) : Type 0 where
   pub nonempty : 0 < length left
   pub no_field : NoField (last_of None front) left
 
--- every field can be read, but there is none, or the first isn't the message type
+-- every field can be read, but there is none, or the first is not the message type
 pub record LacksType (body : List ℕ) : Type 0 where
   pub fields : List TagValue
   pub bytes : body ≡ bytes_of fields

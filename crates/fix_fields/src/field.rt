@@ -17,10 +17,10 @@ pub struct Field {
 /// Why a body has no list of fields.
 #[derive(Clone, Copy, Debug, PartialEq, Eq, Error)]
 pub enum FieldFault {
-    /// The first field that can't be read begins at this byte of the body, from 0.
+    /// The first field that cannot be read begins at this byte of the body, from 0.
     #[error("no field can be read from byte {0} of the body")]
     Field(u32),
-    /// There is no field, or the first one isn't the message type (tag 35).
+    /// There is no field, or the first one is not the message type (tag 35).
     #[error("the first field is not the message type")]
     MsgType,
     #[error("out of memory")]

@@ -33,7 +33,7 @@ const MSG_TYPE: u32 = 35;
 /// but that of a data field right after its length field is as many bytes as that field says in
 /// 1 to 7 digits, whatever they are.
 ///
-/// `Field` gives the byte at which the first field begins that can't be read in this way.
+/// `Field` gives the byte at which the first field begins that cannot be read in this way.
 /// `MsgType` says that all fields can be read, but there is none or the first has another tag.
 pub fn fields(alloc: Global, body: &[u8]) -> Result<Vec<Field>, FieldFault>
     requires { length body.now ≤ longest_body }

@@ -1,15 +1,27 @@
 -- What is written is a message.
-use Rattle.std.proofs.Common.{◌≡◌, ℕ, ◌+◌, ◌/◌, ◌%◌, ◌<◌, ◌≤◌, true, List, [], ◌∷◌, length, sum, refl, arith}
+use Rattle.std.proofs.Common.{◌≡◌, ℕ, ◌+◌, ◌++◌, ◌∙◌, ap, append_assoc, drop, ◌/◌, ◌%◌, ◌<◌, ◌≤◌, true, List, [], ◌∷◌, length, sum, refl, arith}
 use Rattle.std.specs.Prelude.{decimal}
 use Rattle.std.specs.List.{list_all}
 use Rattle.std.specs.Char.{is_ascii_digit, digit_value}
 use Rattle.std.specs.Str.Parse.{digits_value, AllDigits}
+use Rattle.std.proofs.Math.Seq.{drop-append_seam}
 use Rattle.std.proofs.lemmas.Bool.{and_from, le-leb}
 use Rattle.std.proofs.lemmas.Bool.Decides.{nat_tests}
 use Rattle.audit_base.proofs.SumLemmas.{Contains-front}
 use Rattle.std.proofs.lemmas.Fmt.{decimal_is_IsNumeral, length-decimal-le}
+use Rattle.audit_base.specs.Sizes.{soh}
 use Rattle.fix_framing.specs.Headers.{header}
 use Rattle.fix_framing.specs.Frames.{before_checksum, IsFrame, three_digits, frame_text}
+
+-- what stands behind a text
+pub rest_behind : (front rest : List ℕ) → drop (length front) (front ++ rest) ≡ rest
+rest_behind front rest = drop-append_seam front rest
+
+-- a text to which the header, the digits of the length, SOH and the body were appended
+pub front_is : (old head shown digits body a b c d : List ℕ) → a ≡ old ++ head → b ≡ a ++ shown → shown ≡ digits → c ≡ b ++ soh ∷ [] → d ≡ c ++ body → d ≡ old ++ before_checksum head digits body
+front_is old head shown digits body a b c d first second same third fourth =
+    rw (fourth, third, second, first, same)
+    (append_assoc ((old ++ head) ++ digits) (soh ∷ []) body ∙ ap (λ (front : List ℕ). front ++ soh ∷ body) (append_assoc old head digits) ∙ append_assoc old (head ++ digits) (soh ∷ body))
 
 -- a digit's value, and that it is one
 digit-from-value : (c : ℕ) → digit_value c < 10 → is_ascii_digit c ≡ true

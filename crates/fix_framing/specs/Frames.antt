@@ -106,7 +106,7 @@ has_long_length n r = nat_le 10 (length (length_digits n r))
 abbrev pub ends_in_length : ℕ → List ℕ → Bool
 ends_in_length n r = length r == n + length (length_digits n r)
 
--- test 5: no digit follows the header, or the byte after the digits isn't
+-- test 5: no digit follows the header, or the byte after the digits is not
 -- SOH, or the value exceeds 1,048,576
 abbrev pub has_bad_length : ℕ → List ℕ → Bool
 has_bad_length n r =
@@ -124,11 +124,11 @@ is_trailer seven =
     starts_with nat_eq seven (codes "10=") && list_all is_ascii_digit (slice_range seven 3 6)
     && slice_index seven 6 == soh
 
--- test 7: the 7 bytes after the body aren't `10=`, three digits, SOH
+-- test 7: the 7 bytes after the body are not `10=`, three digits, SOH
 abbrev pub has_bad_trailer : ℕ → List ℕ → Bool
 has_bad_trailer n r = not (is_trailer (trailer_of n r))
 
--- test 8: the three digits don't write the sum of all bytes before `10=`, modulo 256
+-- test 8: the three digits do not write the sum of all bytes before `10=`, modulo 256
 abbrev pub has_bad_sum : ℕ → List ℕ → Bool
 has_bad_sum n r =
     not (digits_value 10 (slice_range (trailer_of n r) 3 6)

@@ -2,8 +2,8 @@
 //! one message after the other. It keeps neither the bytes that it has framed nor the frames that
 //! it gave, so a log is framed in the memory of a piece and a message, however long it is.
 //!
-//! Framed bytes are dropped where a message isn't all there: only the bytes of that message move to
-//! the front then, and they move no second time before it is given.
+//! Framed bytes are dropped where a message is not all there: only the bytes of that message move
+//! to the front then, and they move no second time before it is given.
 //!
 //! Only the bytes of the unfinished message are kept, and only an answer that more is needed moves
 //! them.
@@ -25,7 +25,7 @@ pub enum Step {
     /// from `body` to `to` in the bytes held, and it ends at `to + 7` there. Both places are valid
     /// until the next `feed` or `next_frame`.
     Whole { start: u64, body: usize, to: usize },
-    /// The next message isn't all there, or there is none.
+    /// The next message is not all there, or there is none.
     Wait,
     /// At the offset `at` in all bytes fed, after CR and LF bytes, no message begins: `fault` is
     /// the first test that fails there.

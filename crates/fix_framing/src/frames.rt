@@ -32,10 +32,10 @@ pub struct Frame {
 /// Why no message begins at a place: the first test that the bytes from there on fail.
 #[derive(Clone, Copy, Debug, PartialEq, Eq, Hash, Error)]
 pub enum FrameFault {
-    /// The bytes don't begin with a header, as `8=FIX.4.4`, SOH, `9=`.
+    /// The bytes do not begin with a header, as `8=FIX.4.4`, SOH, `9=`.
     #[error("no message begins here")]
     Begin,
-    /// The body length isn't 1 to 9 digits and SOH, or exceeds 1,048,576.
+    /// The body length is not 1 to 9 digits and SOH, or exceeds 1,048,576.
     #[error("the body length is not in its form")]
     Length,
     /// The bytes end within a message.
@@ -44,7 +44,7 @@ pub enum FrameFault {
     /// After the body there is no `10=`, three digits, SOH.
     #[error("no checksum field follows the body")]
     Trailer,
-    /// The checksum isn't the sum of the bytes before its field, modulo 256.
+    /// The checksum is not the sum of the bytes before its field, modulo 256.
     #[error("the checksum is not the sum of the bytes")]
     Checksum,
 }

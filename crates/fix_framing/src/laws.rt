@@ -32,7 +32,7 @@ pub fn frames_have_one_reading()
 {}
 
 /// A text is judged once: bytes that follow change neither a message nor a fault other than
-/// Truncated, and a message that isn't all there is Truncated.
+/// Truncated, and a message that is not all there is Truncated.
 pub fn frames_are_judged_once()
     // A proper prefix of a message is Truncated.
     ensures cut { (headers : List (List ℕ)) (front more body : List ℕ)

@@ -31,7 +31,7 @@ pub record SaysFields {R : Type 0} (meaning : MessageMeaning R) (body : List ℕ
   pub read : Fields body fields
   pub means : said ≡ with_reason (meaning fields)
 
--- a field of the body can't be read, and the first such begins at this byte
+-- a field of the body cannot be read, and the first such begins at this byte
 pub record SaysUnreadable {R : Type 0} (body : List ℕ) (said : Result (Option R) Reason)
     : Type 0 where
   pub at : ℕ

@@ -38,7 +38,7 @@ pub record HasReadMessages {R : Type 0} (has_taken : List R → Type 0) (meaning
   pub stands : framing.IsFramerOf framer log frames
   pub good : read_frames meaning frames ≡ Ok entries
 
--- No bad message has come yet, and no more is held than a message that isn't all there.
+-- No bad message has come yet, and no more is held than a message that is not all there.
 pub record HasNoBadMessage {R : Type 0} (has_taken : List R → Type 0) (meaning : MessageMeaning R)
     (framer : Framer Fix44) (log : List ℕ) : Type 0 where
   pub reads : HasReadMessages has_taken meaning framer log

@@ -27,12 +27,12 @@ use std::alloc::Global;
 const PART: usize = 32_768;
 
 /// What is kept of a log that comes in pieces. A piece may end anywhere. Only the
-/// message that isn't all there is kept as bytes. After a bad message further pieces
+/// message that is not all there is kept as bytes. After a bad message further pieces
 /// are taken without being looked at.
 #[derive(Drop)]
 pub struct FixFeed<K> {
     pub alloc: Global,
-    /// The bytes of the message that isn't all there.
+    /// The bytes of the message that is not all there.
     pub framer: Framer<Fix44>,
     /// What has been handed the records of the messages before it, in order.
     pub entries: K,

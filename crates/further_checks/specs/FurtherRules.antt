@@ -42,7 +42,7 @@ abbrev pub is_before_orders : List Order → Deal → Moment → Bool
 is_before_orders orders d time = is_before time (order_at orders d.bid).time
     || is_before time (order_at orders d.ask).time
 
--- finding 17: the price isn't the limit of the resting order, the one of its two that came first
+-- finding 17: the price is not the limit of the resting order, the one of its two that came first
 -- (as in continuous trading). The resting order is shown, and the incoming one
 abbrev pub resting_price_failure : List Order → (ℕ → ℕ) → Deal → Option FurtherFinding
 resting_price_failure orders amount d =

@@ -118,7 +118,7 @@ abbrev pub with_target_ended : List Order → Option ℕ → ℕ → List Order
 with_target_ended orders None place = orders
 with_target_ended orders (Some t) place = slice_set orders t (with_ending place (order_at orders t))
 
--- the own place of a replacement, where its target isn't there any more
+-- the own place of a replacement, where its target is not there any more
 abbrev pub own_end : List Order → Option ℕ → ℕ → Option ℕ
 own_end orders None place = None
 own_end orders (Some t) place = if is_none (order_at orders t).cancelled then None else Some place

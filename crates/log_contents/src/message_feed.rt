@@ -19,7 +19,7 @@ use log_source::feed::Feed;
 use seeded_hash::seed::HashSeed;
 use std::alloc::Global;
 
-/// What is kept of a FIX log that comes in pieces: the message that isn't all there, and the
+/// What is kept of a FIX log that comes in pieces: the message that is not all there, and the
 /// contents of those before it. After a bad message further pieces are taken without being looked
 /// at. A bad message and its place are those of an audit: the place is one more than the number of
 /// records before it, whatever else was passed over.

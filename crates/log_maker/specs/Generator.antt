@@ -105,6 +105,6 @@ generated_orders entries = order_list generated_symbol entries
 abbrev pub AreOfSymbol : List ℕ → List OrderRecord → Type 0
 AreOfSymbol symbol entries = All (λ entry. symbol_of entry ≡ symbol) entries
 
--- no order of the list is of a life that isn't Rests, so a call has no finding 16
+-- no order of the list is of a life that is not Rests, so a call has no finding 16
 abbrev pub AllRest : List Order → Type 0
 AllRest orders = instant_order_finding orders ≡ None

@@ -1,5 +1,5 @@
--- Every offence under a rule of a call, deal by deal. A deal that offends counts in what its
--- orders trade up to later ones.
+-- The offences of each kind under a rule of a call, deal by deal. A deal that offends counts in
+-- what its orders trade up to later ones.
 use Rattle.std.specs.Prelude.{ℕ, Bool, List, Option, length}
 use Rattle.std.specs.Option.{option_or}
 use Rattle.audit_base.specs.declared.orders.Order.{Order}

@@ -1,4 +1,4 @@
--- Every offence of two logs, by the first: which findings stand behind a first finding.
+-- The offences of two logs, by the first: which findings stand behind a first finding.
 use Rattle.std.specs.Prelude.{ℕ, Bool, true, false, List, [], ◌∷◌, Option, None, Some, Result, is_some, if◌then◌else◌}
 use Rattle.audit_base.specs.declared.terms.Rule.{Rule}
 use Rattle.audit_base.specs.declared.terms.Rule.TheVariants as rule

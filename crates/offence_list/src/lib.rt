@@ -1,5 +1,5 @@
-//! Every offence of a log: the findings behind the one that its verdict tells, and how they are
-//! written.
+//! The offences of a log: the findings behind the one that its verdict tells, which under a rule of
+//! a call are those of its kind, and how they are written.
 //!
 //! Here: `offences` has what an offence is, and `kinds` what a first finding is of; `offence_lines`
 //! writes a line for each, and how many there are. The lists are made by the crates above.

@@ -16,7 +16,7 @@ pub record IsConformingDay (phases : List Phase) (orders : List Order) (deals : 
   pub totals_are : AreTotals orders deals totals.0
   pub volume_is : totals.1 ≡ volume deals
 
--- the day doesn't conform, and this is its first offence
+-- the day does not conform, and this is its first offence
 pub record IsBrokenDay (phases : List Phase) (orders : List Order) (deals : List Deal) (count : ℕ)
     (finding : Finding) : Type 0 where
   pub offence : IsDayOffence phases orders deals count finding

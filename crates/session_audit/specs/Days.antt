@@ -15,12 +15,12 @@ use Rattle.session_audit.specs.Phases.{rule_of, is_call, phase_kind, is_in_phase
 use Rattle.session_audit.specs.PhaseOrders.{takes_part, role_in_phase_at, phase_list_at}
 
 -- the order at i is an own order of the phase at index k: its place is in the phase, and it
--- isn't gone
+-- is not gone
 abbrev pub is_own : List Phase → List Order → List Deal → ℕ → ℕ → Bool
 is_own phases orders deals k i = is_in_phase phases k (place_at orders i)
     && takes_part (role_in_phase_at phases orders deals k i)
 
--- it is an own order of a call phase, and its life isn't Rests
+-- it is an own order of a call phase, and its life is not Rests
 abbrev pub is_instant_in_call : List Phase → List Order → List Deal → ℕ → Bool
 is_instant_in_call phases orders deals i = not (may_rest (order_at orders i).life)
     && any_below (λ k. is_call (phase_kind phases k) && is_own phases orders deals k i)
@@ -38,7 +38,7 @@ abbrev pub PhaseConforms : List Phase → List Order → List Deal → ℕ → T
 PhaseConforms phases orders deals k = Conforms (rule_of (phase_kind phases k))
     (phase_list_at phases orders deals k) (phase_deals phases orders deals k)
 
--- Conforms (day): no call phase has an own order whose life isn't Rests, and each phase conforms
+-- Conforms (day): no call phase has an own order whose life is not Rests, and each phase conforms
 pub record ConformsDay (phases : List Phase) (orders : List Order) (deals : List Deal)
     : Type 0 where
   pub admitted : instant_finding phases orders deals ≡ None

@@ -20,7 +20,7 @@ role_of_amount first amount o = if nat_lt 0 amount
     then (if nat_lt o.place first then Carried amount else Own amount)
     else Gone
 
--- the order has no target, or one whose number isn't 0
+-- the order has no target, or one whose number is not 0
 abbrev pub target_has_amount : Option ℕ → List ℕ → Bool
 target_has_amount None amounts = true
 target_has_amount (Some t) amounts = nat_lt 0 (number_at amounts t)

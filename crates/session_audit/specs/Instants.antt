@@ -18,7 +18,7 @@ abbrev pub is_in_any_call : List Phase → ℕ → Bool
 is_in_any_call phases place =
     any_below (λ k. is_call (phase_kind phases k) && is_in_phase phases k place) (length phases)
 
--- the order was placed in a call phase, and its life isn't Rests
+-- the order was placed in a call phase, and its life is not Rests
 abbrev pub is_instant_order : List Phase → Order → Bool
 is_instant_order phases o = not (may_rest o.life)
     && (not (is_cancelled_at_place o.cancelled o.place) && is_in_any_call phases o.place)

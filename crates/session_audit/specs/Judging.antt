@@ -17,7 +17,7 @@ pub record IsConformingPhase (the_rule : Rule) (orders : List Order) (deals : Li
   pub conforms : Conforms the_rule orders deals
   pub totals : AreTotals orders deals conforming.traded.0
 
--- the deals don't conform, and this is the first offence
+-- the deals do not conform, and this is the first offence
 pub record IsBrokenPhase (the_rule : Rule) (orders : List Order) (deals : List Deal) (count : ℕ)
     (finding : Finding) : Type 0 where
   pub offence : IsFirstOffence the_rule orders deals count finding

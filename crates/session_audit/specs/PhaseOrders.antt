@@ -27,7 +27,7 @@ pub data RoleInPhase : Type 0 where
   Own : (quantity : ℕ) → RoleInPhase
   Gone : RoleInPhase
 
--- the order takes part in the phase: it isn't gone
+-- the order takes part in the phase: it is not gone
 abbrev pub takes_part : RoleInPhase → Bool
 takes_part (Carried left) = true
 takes_part (Own quantity) = true
@@ -37,7 +37,7 @@ takes_part Gone = false
 abbrev pub carried_or_gone : ℕ → RoleInPhase
 carried_or_gone left = if nat_lt 0 left then Carried left else Gone
 
--- an order has no target, or one that isn't gone; `earlier` has what the orders before it are
+-- an order has no target, or one that is not gone; `earlier` has what the orders before it are
 abbrev pub target_takes_part : List RoleInPhase → Option ℕ → Bool
 target_takes_part earlier None = true
 target_takes_part earlier (Some t) = takes_part (slice_index_or earlier t Gone)
@@ -108,7 +108,7 @@ left_after_call orders deals i =
     if is_cancelled orders i then 0 else quantity_at orders i - traded deals i
 
 -- what a continuous phase that ends at `last` leaves of it: what is left then, but nothing where it
--- doesn't rest then
+-- does not rest then
 abbrev pub left_after_continuous : List Order → List Deal → ℕ → ℕ → ℕ
 left_after_continuous orders deals last i =
     if rests_after orders deals last i then left_after orders deals last i else 0

@@ -58,7 +58,7 @@ fn audit_phases(
 }
 
 /// The audit of a day over the deals of a log of `count` trades. Conforms exactly where no call
-/// phase has an own order whose life isn't Rests and each phase conforms, out of memory aside:
+/// phase has an own order whose life is not Rests and each phase conforms, out of memory aside:
 /// with what each order traded over the day, and the volume. Else Broken has the first offence:
 /// the least such order, or the first offence of the least phase that fails.
 ///

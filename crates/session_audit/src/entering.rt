@@ -19,7 +19,7 @@ use order_list::lists::OrderList;
 use order_list::stored::ChangedTerms;
 use std::alloc::Global;
 
-/// Whether the order was placed: it isn't cancelled at its own place.
+/// Whether the order was placed: it is not cancelled at its own place.
 pub fn was_placed(order: &ListedOrder<'_>) -> bool
     ensures { result ≡ not (is_cancelled_at_place order.now.cancelled order.now.place) }
 {
@@ -62,7 +62,7 @@ fn number_at(numbers: &[u64], index: usize) -> u64
     }
 }
 
-/// Whether an order has no target, or one that isn't gone.
+/// Whether an order has no target, or one that is not gone.
 fn target_has_amount(target: Option<usize>, amounts: &[u64]) -> bool
     ensures { result ≡ entering.target_has_amount target amounts.now }
 {

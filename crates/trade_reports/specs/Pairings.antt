@@ -146,7 +146,7 @@ pairing_newest_first all =
 unfoldable pub pairing : List Report → Result (List TradeRecord) Finding
 pairing reports = pairing_newest_first (reverse reports)
 
--- what a trade log that has been read gives: its trades, or the finding that its reports don't pair
+-- what a trade log that has been read gives: its trades, or that its reports do not pair
 abbrev pub result_of_paired : Paired → Result (List TradeRecord) Finding
 result_of_paired (Trades trades) = Ok trades
 result_of_paired (Alone finding) = Err finding

@@ -30,7 +30,7 @@ const GOOD: [(&[u8], &[u8]); 6] = [
 /// A day, the bodies before its first bad message, each with `;` after it, and that message: its
 /// place, its offset and its fault.
 const BAD: [(&[u8], &[u8], u32, u64, FrameFault); 11] = [
-    // A mark in the middle, a second one, and one that isn't all there.
+    // A mark in the middle, a second one, and one that is not all there.
     (
         b"8=FIX.4.2\x019=5\x0135=0\x0110=161\x01\xEF\xBB\xBF8=FIX.4.4\x019=5\x0135=0\x0110=163\x01",
         b"35=0\x01;",

@@ -71,7 +71,7 @@ fn feed_in_pieces<H: Headers>(rt: &(impl AllocGlobal + Abort), log: &Log<'_>, si
         };
         from += count;
         given = take_messages(rt, &mut framer, log, given);
-        // What is held is the message that isn't all there.
+        // What is held is the message that is not all there.
         assert!(rt; framer.held().len() < 165);
     }
     assert_eq!(rt; framer.finish(), Ok(()));
