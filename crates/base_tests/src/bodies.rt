@@ -2,7 +2,7 @@
 //! value is at byte 3, and ends before byte 4.
 use audit_base::sizes::LONGEST_BODY;
 use fix_fields::field::{Field, FieldFault};
-use fix_fields::split::{fields, read_fields};
+use fix_fields::split::read_fields;
 use std::alloc::{AllocError, Global};
 use std::fmt::Write;
 use std::process::Abort;
@@ -105,39 +105,15 @@ const FAULTS: [(&str, &str); 23] = [
     ("35=D", "field 0"),
 ];
 
+// Each body is read into a list that the bodies before it were read into.
 #[test]
-fn messages_are_read(rt: HostRuntime) -> Result<(), Fail> {
-    for &(body, want) in &MESSAGES {
-        let bytes = bytes_of(rt.alloc(), body)?;
-        assert!(rt; bytes.len() <= LONGEST_BODY);
-        let list = fields(rt.alloc(), &bytes)?;
-        assert_eq!(rt; ranges(rt.alloc(), &list)?.as_str(), want, "{body}");
-    }
-    Ok(())
-}
-
-#[test]
-fn data_is_read_by_length(rt: HostRuntime) -> Result<(), Fail> {
+fn bodies_are_read(rt: HostRuntime) -> Result<(), Fail> {
     let mut list = Vec::new(rt.alloc());
-    for &(body, want) in &DATA {
-        assert_eq!(rt;
-            answer(&rt, rt.alloc(), body, &mut list)?.as_str(),
-            want,
-            "{body}"
-        );
-    }
-    Ok(())
-}
-
-#[test]
-fn the_first_fault_is_given(rt: HostRuntime) -> Result<(), Fail> {
-    let mut list = Vec::new(rt.alloc());
-    for &(body, want) in &FAULTS {
-        assert_eq!(rt;
-            answer(&rt, rt.alloc(), body, &mut list)?.as_str(),
-            want,
-            "{body}"
-        );
+    for rows in [MESSAGES.as_slice(), DATA.as_slice(), FAULTS.as_slice()] {
+        for &(body, wanted) in rows {
+            let read = answer(&rt, rt.alloc(), body, &mut list)?;
+            assert!(rt; read.as_str() == wanted, "{body}");
+        }
     }
     Ok(())
 }

@@ -1,21 +1,17 @@
-//! Tests of what all else is built on: values and their texts, the lines of reports, the fields
-//! of FIX bodies, the reading and writing of logs, seeds of hashes, casebooks in memory, and
-//! the symbols and lines of a day. They stand in a crate of their own, so that no crate that
-//! they try is proved once more with its tests.
+//! Tests of what all else is built on: values and their texts, reports of bad places, the fields of
+//! FIX bodies, the reading and writing of logs, seeds of hashes, and casebooks in memory. They stand
+//! in a crate of their own, so that no crate that they try is proved once more with its tests. A test
+//! costs about seven seconds of proof whatever it does, so one goes through many rows.
 //!
-//! `values` has names, numbers, prices, times and words, `reports` whole texts of verdicts.
-//! `bodies` has bodies of FIX messages with their fields, `tags` what is found and written in
-//! them. `taking` reads logs from shelves, `opening` reads them from the files in memory of
-//! `stored_files`, and `putting` writes to sinks. `seeds` has seeds of hashes, `casebooks`
-//! files and lists cases, and `days` has the symbols of a day and its lines.
+//! `values` has names, numbers, prices and times, `bodies` bodies of FIX messages with their fields.
+//! `taking` reads logs from shelves, `opening` reads them from the files in memory of `stored_files`,
+//! and `putting` writes to sinks. `seeds` has seeds of hashes, and `casebooks` files cases.
 #![tactic(auto)]
 
 #[cfg(test)]
 mod bodies;
 #[cfg(test)]
 mod casebooks;
-#[cfg(test)]
-mod days;
 #[cfg(test)]
 mod opening;
 #[cfg(test)]
@@ -25,8 +21,6 @@ mod reports;
 #[cfg(test)]
 mod seeds;
 pub mod stored_files;
-#[cfg(test)]
-mod tags;
 #[cfg(test)]
 mod taking;
 #[cfg(test)]

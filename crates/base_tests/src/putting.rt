@@ -1,9 +1,7 @@
 //! Texts that are written to a sink, and writes that fail.
 use log_source::memory_sink::MemorySink;
 use log_source::put::put_all;
-use log_source::shelf::Failed;
 use log_source::std_sink::StdSink;
-use std::io;
 use std::test::Fail;
 
 const TEXT: &[u8] = b"accepted,matching,Z\ntotals,2,1,100\n";
@@ -15,32 +13,18 @@ fn a_failed_write_leaves_the_writes_before_it(rt: HostRuntime) -> Result<(), Fai
         let list = Vec::from_slice(rt.alloc(), &[fails])?;
         let mut sink = MemorySink::new(rt.alloc(), 35, 10, list)?;
         let result = put_all(&mut sink, TEXT);
-        assert_eq!(rt; result.is_ok(), written == 35, "write {fails}");
-        assert_eq!(rt; Some(sink.bytes()), TEXT.get(..written), "write {fails}");
+        assert!(rt; result.is_ok() == (written == 35), "write {fails}");
+        assert!(rt; Some(sink.bytes()) == TEXT.get(..written), "write {fails}");
     }
     Ok(())
 }
 
+// A writer that takes nothing more is a fault.
 #[test]
-fn a_text_past_the_room_fails_when_the_room_is_full(rt: HostRuntime) -> Result<(), Fail> {
-    let mut sink = MemorySink::new(rt.alloc(), 34, 50, Vec::new(rt.alloc()))?;
-    assert_eq!(rt; put_all(&mut sink, TEXT), Err(Failed));
-    assert_eq!(rt; Some(sink.bytes()), TEXT.get(..34));
-    assert_eq!(rt; put_all(&mut sink, b""), Ok(()));
-    Ok(())
-}
-
-#[test]
-fn a_text_reaches_its_writer(rt: HostRuntime) -> Result<(), Fail> {
-    let text = b"accepted,matching,Z\n";
+fn a_text_reaches_its_writer(rt: HostRuntime) {
     let mut written = Vec::new(rt.alloc());
-    assert_eq!(rt; put_all(&mut StdSink::new(&mut written), text), Ok(()));
-    assert!(rt; written.as_slice() == text.as_slice());
-    assert_eq!(rt; put_all(&mut StdSink::new(io::writer(&rt)), text), Ok(()));
-
-    // A writer that takes nothing more is a fault.
+    assert!(rt; put_all(&mut StdSink::new(&mut written), TEXT).is_ok());
+    assert!(rt; written.as_slice() == TEXT);
     let mut room = [0u8; 4];
-    let mut full = StdSink::new(room.as_mut_slice());
-    assert_eq!(rt; put_all(&mut full, text), Err(Failed));
-    Ok(())
+    assert!(rt; put_all(&mut StdSink::new(room.as_mut_slice()), TEXT).is_err());
 }

@@ -1,9 +1,8 @@
-//! Logs that are read from a shelf: taken whole or handed on in pieces, calls that fail, and files.
+//! Logs that are read from a shelf: taken whole or handed on in pieces, and calls that fail.
 use audit_base::faults::NoMemory;
 use audit_base::terms::Which;
 use log_source::endless_shelf::EndlessShelf;
 use log_source::feed::Feed;
-use log_source::file_shelf::FileShelf;
 use log_source::limits::LONGEST_READ;
 use log_source::memory_shelf::MemoryShelf;
 use log_source::pump::pump;
@@ -11,7 +10,6 @@ use log_source::quiet_shelf::QuietShelf;
 use log_source::take::{TakeFault, take_log};
 use std::alloc::Global;
 use std::test::Fail;
-use std::{env, fs, process};
 
 const ORDERS: &[u8] =
     b"kind,firm,id,time,symbol,side,quantity,price,target\nN,A,b1,20240102-09:00:00,Z,B,100,10,\nN,B,s1,20240102-09:00:00,Z,S,100,9,\n";
@@ -58,42 +56,10 @@ fn a_failed_call_is_a_fault_of_the_log_that_is_taken(rt: HostRuntime) -> Result<
 }
 
 #[test]
-fn a_name_that_is_not_there_is_a_fault(rt: HostRuntime) -> Result<(), Fail> {
-    let mut shelf = failing_shelf(rt.alloc(), 99)?;
-    let log = take_log(rt.alloc(), &mut shelf, Which::Orders, "order", LIMIT);
-    assert!(rt; log == Err(TakeFault::Fault));
-    Ok(())
-}
-
-#[test]
-fn a_name_is_given_new_bytes(rt: HostRuntime) -> Result<(), Fail> {
-    let mut shelf = failing_shelf(rt.alloc(), 99)?;
-    shelf.put(
-        String::from_str(rt.alloc(), "orders")?,
-        Vec::from_slice(rt.alloc(), TRADES)?,
-    )?;
-    let log = take_log(rt.alloc(), &mut shelf, Which::Orders, "orders", LIMIT)?;
-    assert!(rt; log.as_slice() == TRADES);
-    Ok(())
-}
-
-#[test]
 fn a_log_without_end_is_too_long(rt: HostRuntime) {
     let mut shelf = EndlessShelf::new(b'8');
     let log = take_log(rt.alloc(), &mut shelf, Which::Trades, "any", LIMIT);
     assert!(rt; log == Err(TakeFault::TooLong));
-}
-
-#[test]
-fn a_log_is_taken_whole_at_every_piece(rt: HostRuntime) -> Result<(), Fail> {
-    for piece in 1..=126 {
-        let orders = Vec::from_slice(rt.alloc(), ORDERS)?;
-        let trades = Vec::from_slice(rt.alloc(), TRADES)?;
-        let mut shelf = QuietShelf::new(orders, trades, piece);
-        let log = take_log(rt.alloc(), &mut shelf, Which::Orders, "any", LIMIT)?;
-        assert!(rt; log.as_slice() == ORDERS, "piece {piece}");
-    }
-    Ok(())
 }
 
 // A feed that counts, and says of what it has read only how long it is.
@@ -129,8 +95,8 @@ fn every_piece_is_handed_on(rt: HostRuntime) -> Result<(), Fail> {
         } else {
             Ok(())
         };
-        assert_eq!(rt; result, wanted, "call {fails}");
-        assert_eq!(rt; counter.bytes, handed, "call {fails}");
+        assert!(rt; result == wanted, "call {fails}");
+        assert!(rt; counter.bytes == handed, "call {fails}");
     }
     Ok(())
 }
@@ -144,11 +110,10 @@ fn a_log_is_too_long_where_it_passes_the_limit(rt: HostRuntime) -> Result<(), Fa
         let mut counter = ByteCount { bytes: 0 };
         let result = pump(&mut shelf, Which::Orders, "any", limit, &mut counter);
         if limit < 17 {
-            assert_eq!(rt; result, Err(TakeFault::TooLong), "limit {limit}");
-            assert_eq!(rt; counter.bytes as u64, limit / 7 * 7, "limit {limit}");
+            assert!(rt; result == Err(TakeFault::TooLong), "limit {limit}");
+            assert!(rt; counter.bytes as u64 == limit / 7 * 7, "limit {limit}");
         } else {
-            assert_eq!(rt; result, Ok(()), "limit {limit}");
-            assert_eq!(rt; counter.bytes, 17, "limit {limit}");
+            assert!(rt; result.is_ok() && counter.bytes == 17, "limit {limit}");
         }
     }
     Ok(())
@@ -159,32 +124,6 @@ fn the_piece_past_the_limit_is_not_handed_on(rt: HostRuntime) {
     let mut shelf = EndlessShelf::new(b'8');
     let mut counter = ByteCount { bytes: 0 };
     let result = pump(&mut shelf, Which::Orders, "any", LIMIT, &mut counter);
-    assert_eq!(rt; result, Err(TakeFault::TooLong));
-    assert_eq!(rt; counter.bytes, 67_108_864);
-}
-
-#[test]
-fn a_file_is_taken_whole_and_what_is_none_is_a_fault(rt: HostRuntime) -> Result<(), Fail> {
-    let folder = env::temp_dir(&rt)?;
-    let name = format!(in rt.alloc(); "file_shelf-{}.test", process::id(rt.process()))?;
-    let path = folder.join(rt.alloc(), name.as_str())?;
-    let log = vec![in rt.alloc(); b'x'; 200_000]?;
-    fs::write(&rt, path.as_str(), log.as_slice())?;
-    let mut shelf = FileShelf::new(&rt);
-    let taken = take_log(rt.alloc(), &mut shelf, Which::Orders, path.as_str(), LIMIT);
-    fs::remove_file(&rt, path.as_str())?;
-    assert!(rt; taken?.as_slice() == log.as_slice());
-
-    // The file is gone, and a folder is no file.
-    let gone = take_log(rt.alloc(), &mut shelf, Which::Orders, path.as_str(), LIMIT);
-    assert!(rt; gone == Err(TakeFault::Fault));
-    let none = take_log(
-        rt.alloc(),
-        &mut shelf,
-        Which::Trades,
-        folder.as_str(),
-        LIMIT,
-    );
-    assert!(rt; none == Err(TakeFault::Fault));
-    Ok(())
+    assert!(rt; result == Err(TakeFault::TooLong));
+    assert!(rt; counter.bytes == 67_108_864);
 }

@@ -13,9 +13,8 @@ use std::alloc::Global;
 use std::process::Abort;
 use std::test::Fail;
 
-/// The logs of the tests, by their names: those of one trade, a trade log of no trades, and a
-/// log that is in no grammar.
-const LOGS: [(&str, &str); 4] = [
+/// The logs of the tests, by their names: those of one trade, and a log that is in no grammar.
+const LOGS: [(&str, &str); 3] = [
     (
         "o",
         "kind,firm,id,time,symbol,side,quantity,price,target
@@ -29,20 +28,15 @@ N,B,s1,20240102-09:00:00,Z,S,100,9,
 T1,20240102-09:00:01,Z,A,b1,B,s1,100,9.5
 ",
     ),
-    (
-        "e",
-        "trade,time,symbol,buy_firm,buy_id,sell_firm,sell_id,quantity,price
-",
-    ),
     ("x", "no header\n"),
 ];
 
-pub(crate) const USAGE: &str =
+const USAGE: &str =
     "usage: DATABASE file LABEL RULE SYMBOL FORM ORDERS TRADES | list [SYMBOL [RESULT]] | show LABEL, joined by then
 ";
 
 /// The words of a command line, split at spaces.
-pub(crate) fn split_words(alloc: Global, line: &str) -> Result<Vec<String>, Fail> {
+fn split_words(alloc: Global, line: &str) -> Result<Vec<String>, Fail> {
     let mut words = Vec::new(alloc);
     for word in line.split(' ') {
         if !word.is_empty() {
@@ -53,7 +47,7 @@ pub(crate) fn split_words(alloc: Global, line: &str) -> Result<Vec<String>, Fail
 }
 
 /// A shelf that has the logs, and whose call of this number fails.
-pub(crate) fn shelf_of(alloc: Global, fails: u32) -> Result<MemoryShelf, Fail> {
+fn shelf_of(alloc: Global, fails: u32) -> Result<MemoryShelf, Fail> {
     let mut shelf = MemoryShelf::new(alloc, 64, Vec::from_slice(alloc, &[fails])?);
     for &(name, log) in &LOGS {
         shelf.put(
@@ -71,7 +65,7 @@ fn casebook_over(alloc: Global, fails: u32) -> Result<Casebook<MapKeeper>, Fail>
 }
 
 /// What the words give over a casebook: the status and the lines.
-pub(crate) fn run_line<B: Keeper>(
+fn run_line<B: Keeper>(
     alloc: Global,
     line: &str,
     book: &mut Casebook<B>,
@@ -84,9 +78,9 @@ pub(crate) fn run_line<B: Keeper>(
 }
 
 /// A row: the words, the status, and the lines.
-pub(crate) type Row = (&'static str, u8, &'static str);
+type Row = (&'static str, u8, &'static str);
 
-pub(crate) fn assert_row<R: AllocGlobal + Abort, B: Keeper>(
+fn assert_row<R: AllocGlobal + Abort, B: Keeper>(
     rt: &R,
     row: Row,
     book: &mut Casebook<B>,
@@ -95,121 +89,6 @@ pub(crate) fn assert_row<R: AllocGlobal + Abort, B: Keeper>(
     let (status, out) = run_line(rt.alloc(), line, book)?;
     assert_eq!(rt; status.number(), number, "{line}");
     assert_eq!(rt; out.bytes(), lines.as_bytes(), "{line}");
-    Ok(())
-}
-
-pub(crate) const FILED: [Row; 2] = [
-    (
-        "file c1 matching Z csv o t then file c1 fair Z csv o t then list",
-        0,
-        "case,c1,matching,Z,accepted
-known
-case,c1,matching,Z,accepted
-case,c1,matching,Z,accepted
-",
-    ),
-    (
-        "file c2 maximum Z csv o e then list Z volume then show c9",
-        1,
-        "case,c2,maximum,Z,volume,trades,1
-case,c2,maximum,Z,volume,trades,1
-nocase,c9
-",
-    ),
-];
-
-#[test]
-fn cases_are_filed_once_and_listed(rt: HostRuntime) -> Result<(), Fail> {
-    for &row in &FILED {
-        let mut book = casebook_over(rt.alloc(), 0)?;
-        assert_row(&rt, row, &mut book)?;
-    }
-    Ok(())
-}
-
-/// Words over one casebook, one line after another.
-const LINES: [Row; 14] = [
-    ("list", 0, ""),
-    ("show c1", 1, "nocase,c1\n"),
-    (
-        "file c1 matching Z csv o t",
-        0,
-        "case,c1,matching,Z,accepted\n",
-    ),
-    (
-        "file c2 maximum Z csv o e then show c1",
-        0,
-        "case,c2,maximum,Z,volume,trades,1\ncase,c1,matching,Z,accepted\n",
-    ),
-    ("list Z accepted", 0, "case,c1,matching,Z,accepted\n"),
-    ("list Z volume", 0, "case,c2,maximum,Z,volume,trades,1\n"),
-    ("list Z spread then list Y", 0, ""),
-    (
-        "file c3 fair Z csv x t then list",
-        3,
-        "malformed,orders,1,0,header\n",
-    ),
-    (
-        "file c3 fair Z csv o x then list",
-        3,
-        "malformed,trades,1,0,header\n",
-    ),
-    (
-        "list Y then file c3 fair Z csv n t then list",
-        4,
-        "readfault,orders\n",
-    ),
-    ("file c1 fair Z csv o n then list", 4, "readfault,trades\n"),
-    ("file c3 fair Z csv x n", 3, "malformed,orders,1,0,header\n"),
-    (
-        "show c9 then list Z",
-        0,
-        "nocase,c9\ncase,c1,matching,Z,accepted\ncase,c2,maximum,Z,volume,trades,1\n",
-    ),
-    (
-        "list then file c1 fair Z csv o e",
-        1,
-        "case,c1,matching,Z,accepted\ncase,c2,maximum,Z,volume,trades,1\nknown\ncase,c1,matching,Z,accepted\n",
-    ),
-];
-
-#[test]
-fn a_casebook_is_asked_again_and_again(rt: HostRuntime) -> Result<(), Fail> {
-    let mut book = casebook_over(rt.alloc(), 0)?;
-    for &row in &LINES {
-        assert_row(&rt, row, &mut book)?;
-    }
-    Ok(())
-}
-
-/// Words that are not well-formed.
-const FAULTY: [&str; 18] = [
-    "",
-    "then",
-    "list then",
-    "then list",
-    "list then then list",
-    "then then",
-    "lists",
-    "list -Z",
-    "list Z maximum",
-    "list Z accepted more",
-    "show",
-    "show c1 c2",
-    "show -c1",
-    "file c1 matching Z csv o",
-    "file c1 matching Z csv o t more",
-    "file c1 best Z csv o t",
-    "file c1 matching Z text o t",
-    "file then matching Z csv o t",
-];
-
-#[test]
-fn faulty_words_are_told_the_usage(rt: HostRuntime) -> Result<(), Fail> {
-    let mut book = casebook_over(rt.alloc(), 0)?;
-    for &line in &FAULTY {
-        assert_row(&rt, (line, 2, USAGE), &mut book)?;
-    }
     Ok(())
 }
 

@@ -2,22 +2,12 @@
 //! and shows them.
 //!
 //! What it does is `run_casebook` of `casebook_program`, which the gate runs a second time with a
-//! label that is known (`casebook_knows`). The tests of cases in databases are here, above all
-//! that they are made of.
+//! label that is known (`casebook_knows`). The tests are of casebooks in memory, whose keeper, sink
+//! or shelf fails.
 #![tactic(auto)]
 
 #[cfg(test)]
 mod case_tests;
-#[cfg(test)]
-mod database_tests;
-#[cfg(test)]
-mod file_books;
-#[cfg(test)]
-mod keeper_tests;
-#[cfg(test)]
-mod opener_tests;
-#[cfg(test)]
-mod stopped_tests;
 
 use casebook_program::program::run_casebook;
 use std::process::ExitCode;

@@ -6,12 +6,9 @@ use case_keeper::casebook::Casebook;
 use case_keeper::keeper::Keeper;
 use case_run::running::run_case;
 use case_run::statuses::CaseStatus;
-use casebook_program::closing::{Closing, run_and_close};
 use desk_filing::opener::DigestOpener;
 use desk_filing::running::run_filing;
-use digest_files::closing::{ClosingDigests, file_and_close};
 use log_source::memory_sink::MemorySink;
-use seeded_hash::seed::HashSeed;
 use std::alloc::Global;
 
 /// What a command says: the number of its status, and its lines.
@@ -25,6 +22,14 @@ impl Said {
     /// Whether it is this status with these lines.
     pub(crate) fn is(&self, number: u8, lines: &str) -> bool {
         self.number == number && self.lines.as_slice() == lines.as_bytes()
+    }
+}
+
+/// What is said without a line.
+pub(crate) fn said_nothing(alloc: Global, number: u8) -> Said {
+    Said {
+        number,
+        lines: Vec::new(alloc),
     }
 }
 
@@ -63,33 +68,6 @@ pub(crate) fn say_over_keeper<B: Keeper>(
     let mut book = Casebook::new(keeper);
     let said = say_over_book(alloc, line, &mut book);
     (said, book.into_keeper())
-}
-
-/// What `casebook` says to these words, the first of which names the database.
-pub(crate) fn say_by_casebook<O: Closing>(
-    alloc: Global,
-    line: &str,
-    opener: &mut O,
-) -> Result<Said, NoMemory> {
-    let words = split_words(alloc, line)?;
-    let mut out = empty_sink(alloc)?;
-    let mut shelf = shelf_of_logs(alloc)?;
-    let seed = HashSeed::fixed();
-    let ran = run_and_close(alloc, seed, &words, &mut shelf, &mut out, opener);
-    said_of(alloc, ran.status, &out)
-}
-
-/// What `desk` says to these words of a filing, and then closes.
-pub(crate) fn say_by_desk<O: ClosingDigests>(
-    alloc: Global,
-    line: &str,
-    opener: &mut O,
-) -> Result<Said, NoMemory> {
-    let words = split_words(alloc, line)?;
-    let mut out = empty_sink(alloc)?;
-    let shelf = shelf_of_logs(alloc)?;
-    let ran = file_and_close(alloc, HashSeed::fixed(), &words, shelf, &mut out, opener);
-    said_of(alloc, ran.status, &out)
 }
 
 /// What `desk` says to the words of a filing, and the keeper of what is on file, if it was opened.

@@ -1,8 +1,8 @@
 //! Commands over a connection to a database, over any store.
-use crate::calls::{Filed, Said, file_by_desk, say_over_keeper};
+use crate::calls::{Filed, Said, file_by_desk, said_nothing, say_over_keeper};
 use crate::connection_opener::ConnectionOpener;
 use crate::keepers::say_together;
-use crate::tables::{append_rows, digest_rows};
+use crate::tables::{append_rows, digest_rows, put_case};
 use audit_base::faults::NoMemory;
 use case_sqlite::sql_keeper::SqlKeeper;
 use digest_sqlite::sql_digest_keeper::SqlDigestKeeper;
@@ -19,6 +19,8 @@ pub(crate) enum Command {
     Desk(&'static str),
     /// Its keeper files cases together.
     Together,
+    /// Something else puts a row of these columns into the table of cases.
+    Put(&'static str),
     /// It is listed by `casebook`, and its rows of digests are shown behind that.
     Show,
 }
@@ -44,7 +46,16 @@ fn by_desk<R: AllocGlobal + Abort, S: Alter + Drop>(
 fn together<S: Alter>(alloc: Global, connection: Connection<S>) -> Answered<S> {
     let mut keeper = SqlDigestKeeper::new(alloc, connection);
     let said = say_together(alloc, &mut keeper);
-    (said, keeper.into_connection())
+    (Ok(said), keeper.into_connection())
+}
+
+/// Says with status 0 that the row was put into the table, and with 1 that it was not.
+fn put<S: Alter>(alloc: Global, columns: &str, mut connection: Connection<S>) -> Answered<S> {
+    let said = match put_case(alloc, &mut connection, columns) {
+        Ok(()) => said_nothing(alloc, 0),
+        Err(_) => said_nothing(alloc, 1),
+    };
+    (Ok(said), connection)
 }
 
 /// Appends the rows of digests to what was said, with the status of a keeper that failed where they
@@ -78,6 +89,7 @@ pub(crate) fn answer<R: AllocGlobal + Abort, S: Alter + Drop>(
         Command::Casebook(line) => by_casebook(rt.alloc(), line, connection),
         Command::Desk(line) => by_desk(rt, line, connection),
         Command::Together => together(rt.alloc(), connection),
+        Command::Put(columns) => put(rt.alloc(), columns, connection),
         Command::Show => show(rt.alloc(), connection),
     }
 }

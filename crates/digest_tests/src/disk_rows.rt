@@ -26,47 +26,6 @@ fn assert_rows<R: AllocGlobal + Abort>(rt: &R, rows: &[CommandRow]) -> Result<()
     Ok(())
 }
 
-/// Filed and checked: the same logs, one with another byte, and labels that are known.
-const FILED: [CommandRow; 10] = [
-    (
-        Command::Desk("file d c1 matching Z o t"),
-        0,
-        "case,c1,matching,Z,accepted\n",
-    ),
-    (Command::Desk("check d c1 o t"), 0, "same,c1\n"),
-    (Command::Desk("check d c1 o10 t"), 1, "differs,c1,orders\n"),
-    (Command::Desk("check d c1 o e"), 1, "differs,c1,trades\n"),
-    (Command::Desk("check d c2 o t"), 1, "nocase,c2\n"),
-    (
-        Command::Desk("file d c1 fair Z o e"),
-        1,
-        "known\ncase,c1,matching,Z,accepted\n",
-    ),
-    (
-        Command::Desk("file-all d day matching o3 e"),
-        0,
-        "case,day/X,matching,X,accepted
-case,day/Y,matching,Y,accepted
-case,day/Z,matching,Z,accepted
-",
-    ),
-    (
-        Command::Desk("file-all d day matching o3 e"),
-        1,
-        "known\ncase,day/X,matching,X,accepted\n",
-    ),
-    (Command::Desk("check d day/Z o3 e"), 0, "same,day/Z\n"),
-    (
-        Command::Casebook("list"),
-        0,
-        "case,c1,matching,Z,accepted
-case,day/X,matching,X,accepted
-case,day/Y,matching,Y,accepted
-case,day/Z,matching,Z,accepted
-",
-    ),
-];
-
 /// Cases that are filed together in a new database.
 const ALONE: [CommandRow; 2] = [
     (Command::Together, 0, ""),
@@ -107,12 +66,50 @@ e3b0c44298fc1c149afbf4c8996fb92427ae41e4649b934ca495991b7852b855
     ),
 ];
 
+/// Columns of rows that something else has put into the table of cases, each with whether it is the
+/// row of a case. The columns are label, rule, symbol, property, log and place.
+const ROWS: [(&str, bool); 19] = [
+    ("'c1', 1, 'Z', 0, 0, 0", true),
+    ("'c1', 5, 'Z', 16, 1, 1", true),
+    ("'c1', 5, 'Z', 1, 2, 4294967295", true),
+    ("'c1', 0, 'Z', 0, 0, 0", false),
+    ("'c1', 9, 'Z', 0, 0, 0", false),
+    ("'c1', 'matching', 'Z', 0, 0, 0", false),
+    ("'c1', 1.5, 'Z', 0, 0, 0", false),
+    ("'c1', -1, 'Z', 0, 0, 0", false),
+    ("'c1', 4294967297, 'Z', 0, 0, 0", false),
+    ("'', 1, 'Z', 0, 0, 0", false),
+    ("'c,1', 1, 'Z', 0, 0, 0", false),
+    ("x'6331', 1, 'Z', 0, 0, 0", false),
+    ("'c1', 1, '\"', 0, 0, 0", false),
+    ("'c1', 1, 'Z', 17, 1, 1", false),
+    ("'c1', 1, 'Z', 14, 3, 1", false),
+    ("'c1', 1, 'Z', 14, 2, 0", false),
+    ("'c1', 1, 'Z', 14, 2, 4294967296", false),
+    ("'c1', 1, 'Z', 0, 0, 1", false),
+    ("'c1', 1, 'Z', 0, 1, 0", false),
+];
+
+/// Whether the cases are listed once something else has put a row into a new table of them.
+fn lists_row<R: AllocGlobal + Abort>(rt: &R, columns: &'static str) -> Result<bool, NoMemory> {
+    let files = empty_files(rt.alloc(), u64::MAX, u64::MAX);
+    let made = come(rt, Command::Casebook("list"), files);
+    let put = come(rt, Command::Put(columns), made.files);
+    let listed = come(rt, Command::Casebook("list"), put.files);
+    let (made, put, listed) = (made.said?, put.said?, listed.said?);
+    assert!(rt; made.is(0, "") && put.is(0, ""), "{columns}");
+    assert!(rt; listed.number == 0 || listed.is(8, "keeperfault\n"), "{columns}");
+    Ok(listed.number == 0)
+}
+
 // Each test of a database costs the proof of all that it runs, so these are one.
 #[test]
-fn filed_and_checked_on_a_disk(rt: HostRuntime) -> Result<(), Fail> {
-    assert_rows(&rt, &FILED)?;
+fn filed_and_listed_on_a_disk(rt: HostRuntime) -> Result<(), Fail> {
     assert_rows(&rt, &ALONE)?;
     assert_rows(&rt, &BESIDE)?;
+    for &(columns, is_case) in &ROWS {
+        assert!(rt; lists_row(&rt, columns)? == is_case, "{columns}");
+    }
     Ok(())
 }
 

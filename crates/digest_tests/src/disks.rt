@@ -3,7 +3,7 @@
 //! A function that has a database of files by its own type takes long to prove, since the proof
 //! goes through all that a database is made of. They are these: what opens, does one command, and
 //! closes. All else speaks of what the command says and of the files.
-use crate::calls::Said;
+use crate::calls::{Said, said_nothing};
 use crate::commands::{Answered, Command, answer};
 use audit_base::faults::NoMemory;
 use sqlite::{Connection, FileStore, Files, Options};
@@ -65,10 +65,7 @@ pub(crate) struct Came<D: Disk> {
 /// keeper that failed.
 fn unopened<D: Disk>(alloc: Global, files: Files<D>) -> Came<D> {
     Came {
-        said: Ok(Said {
-            number: 8,
-            lines: Vec::new(alloc),
-        }),
+        said: Ok(said_nothing(alloc, 8)),
         closed: false,
         files,
     }

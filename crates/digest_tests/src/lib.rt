@@ -1,5 +1,5 @@
-//! Tests of cases with digests, as texts: what `desk` and `casebook` say over one database, and
-//! the rows that are in it. The database is on a disk in memory whose files may stop, or in a file.
+//! Tests of databases of cases, with digests and without, as texts: what `desk` and `casebook` say
+//! over one, and the rows that are in it. The database is on a disk in memory whose files may stop.
 #![tactic(auto)]
 
 #[cfg(test)]
@@ -12,8 +12,6 @@ mod connection_opener;
 mod disk_rows;
 #[cfg(test)]
 mod disks;
-#[cfg(test)]
-mod file_rows;
 #[cfg(test)]
 mod keepers;
 #[cfg(test)]

@@ -7,35 +7,14 @@ use audit_base::faults::NoMemory;
 use log_source::memory_shelf::MemoryShelf;
 use std::alloc::Global;
 
-/// The orders of one trade, the same with a price in another form, and those of three symbols; the
-/// trade log, and one of no trades.
-const LOGS: [(&str, &str); 5] = [
-    (
-        "o",
-        "kind,firm,id,time,symbol,side,quantity,price,target
-N,A,b1,20240102-09:00:00,Z,B,100,10,
-N,B,s1,20240102-09:00:00,Z,S,100,9,
-",
-    ),
-    (
-        "o10",
-        "kind,firm,id,time,symbol,side,quantity,price,target
-N,A,b1,20240102-09:00:00,Z,B,100,10.0,
-N,B,s1,20240102-09:00:00,Z,S,100,9,
-",
-    ),
+/// The orders of three symbols, and a trade log of no trades.
+const LOGS: [(&str, &str); 2] = [
     (
         "o3",
         "kind,firm,id,time,symbol,side,quantity,price,target
 N,A,b1,20240102-09:00:00,X,B,100,10,
 N,A,b2,20240102-09:00:00,Y,B,100,10,
 N,A,b3,20240102-09:00:00,Z,B,100,10,
-",
-    ),
-    (
-        "t",
-        "trade,time,symbol,buy_firm,buy_id,sell_firm,sell_id,quantity,price
-T1,20240102-09:00:01,Z,A,b1,B,s1,100,9.5
 ",
     ),
     (

@@ -1,11 +1,23 @@
-//! The rows of the table of digests, as a text.
+//! The rows of the table of digests, as a text, and a row that something else puts into that of cases.
 use audit_base::faults::NoMemory;
+use std::alloc::Global;
 use sqlite::types::ValueRef;
 use sqlite::{Alter, Connection, Error, Row};
 
 const FIND_TABLE: &str = "SELECT name FROM sqlite_schema WHERE type = 'table' AND name = 'digests'";
 
 const ALL_DIGESTS: &str = "SELECT label, orders, trades FROM digests ORDER BY label";
+
+/// Puts a row of these columns into the table of cases, behind its number.
+pub(crate) fn put_case<S: Alter>(
+    alloc: Global,
+    connection: &mut Connection<S>,
+    columns: &str,
+) -> Result<(), Error> {
+    let sql = format!(in alloc; "INSERT INTO cases VALUES (NULL, {columns})")?;
+    connection.execute(sql.as_str(), &[])?;
+    Ok(())
+}
 
 /// The rows of the table of digests; none where the table is not there.
 pub(crate) fn digest_rows<S: Alter>(connection: &mut Connection<S>) -> Result<Vec<Row>, Error> {
