@@ -1,5 +1,0 @@
-use Rattle.history_tests.proofs.deal_drafts.a_draft_keeps_the_deals_of_its_symbol.Given as goal
-
--- the draft is of the symbol and the history that it is made for
-abbrev pub ghosts-drafted : goal.ghosts-drafted
-ghosts-drafted g a = record { symbol = a.symbol; orders = a.history }
