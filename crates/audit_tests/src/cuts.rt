@@ -227,21 +227,9 @@ order,3,sell,B,s2,4,10,2
 };
 
 #[test]
-fn an_order_log_cut_at_every_length(rt: HostRuntime) -> Result<(), Fail> {
-    Ok(check_cuts(rt.alloc(), &ORDER_CUTS)?)
-}
-
-#[test]
-fn a_trade_log_cut_at_every_length(rt: HostRuntime) -> Result<(), Fail> {
-    Ok(check_cuts(rt.alloc(), &TRADE_CUTS)?)
-}
-
-#[test]
-fn an_order_log_of_a_day_cut_at_every_length(rt: HostRuntime) -> Result<(), Fail> {
-    Ok(check_cuts(rt.alloc(), &DAY_ORDER_CUTS)?)
-}
-
-#[test]
-fn a_trade_log_of_a_day_cut_at_every_length(rt: HostRuntime) -> Result<(), Fail> {
+fn logs_cut_at_every_length(rt: HostRuntime) -> Result<(), Fail> {
+    check_cuts(rt.alloc(), &ORDER_CUTS)?;
+    check_cuts(rt.alloc(), &TRADE_CUTS)?;
+    check_cuts(rt.alloc(), &DAY_ORDER_CUTS)?;
     Ok(check_cuts(rt.alloc(), &DAY_TRADE_CUTS)?)
 }

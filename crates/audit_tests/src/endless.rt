@@ -51,31 +51,11 @@ const DAYS: [&str; 2] = [
 ];
 
 #[test]
-fn audits_of_a_source_without_end(rt: HostRuntime) -> Result<(), Fail> {
-    Ok(check_all_endless(rt.alloc(), &AUDITS, TOO_LONG_ORDERS)?)
-}
-
-#[test]
-fn trades_expected_of_a_source_without_end(rt: HostRuntime) -> Result<(), Fail> {
-    Ok(check_all_endless(rt.alloc(), &EXPECTATIONS, TOO_LONG_ORDERS)?)
-}
-
-#[test]
-fn order_logs_without_end_are_not_converted(rt: HostRuntime) -> Result<(), Fail> {
-    Ok(check_all_endless(rt.alloc(), &ORDER_CONVERSIONS, TOO_LONG_ORDERS)?)
-}
-
-#[test]
-fn trade_logs_without_end_are_not_converted(rt: HostRuntime) -> Result<(), Fail> {
-    Ok(check_all_endless(rt.alloc(), &TRADE_CONVERSIONS, TOO_LONG_TRADES)?)
-}
-
-#[test]
-fn certificates_of_a_source_without_end(rt: HostRuntime) -> Result<(), Fail> {
-    Ok(check_all_endless(rt.alloc(), &CERTIFICATES, TOO_LONG_ORDERS)?)
-}
-
-#[test]
-fn days_of_a_source_without_end(rt: HostRuntime) -> Result<(), Fail> {
+fn a_source_without_end(rt: HostRuntime) -> Result<(), Fail> {
+    check_all_endless(rt.alloc(), &AUDITS, TOO_LONG_ORDERS)?;
+    check_all_endless(rt.alloc(), &EXPECTATIONS, TOO_LONG_ORDERS)?;
+    check_all_endless(rt.alloc(), &ORDER_CONVERSIONS, TOO_LONG_ORDERS)?;
+    check_all_endless(rt.alloc(), &TRADE_CONVERSIONS, TOO_LONG_TRADES)?;
+    check_all_endless(rt.alloc(), &CERTIFICATES, TOO_LONG_ORDERS)?;
     Ok(check_all_endless(rt.alloc(), &DAYS, TOO_LONG_ORDERS)?)
 }

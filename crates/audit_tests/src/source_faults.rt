@@ -262,26 +262,10 @@ const DAYS: [SourceRow; 4] = [
 ];
 
 #[test]
-fn an_audit_whose_source_fails_at_each_call(rt: HostRuntime) -> Result<(), Fail> {
-    Ok(check_source_faults(rt.alloc(), &AUDITS, 30)?)
-}
-
-#[test]
-fn a_log_whose_name_is_unknown(rt: HostRuntime) -> Result<(), Fail> {
-    Ok(check_source_faults(rt.alloc(), &UNKNOWN_NAMES, 30)?)
-}
-
-#[test]
-fn a_log_written_from_a_source_that_fails_at_each_call(rt: HostRuntime) -> Result<(), Fail> {
-    Ok(check_source_faults(rt.alloc(), &WRITING, 30)?)
-}
-
-#[test]
-fn a_certificate_whose_source_fails_at_each_call(rt: HostRuntime) -> Result<(), Fail> {
-    Ok(check_source_faults(rt.alloc(), &CERTIFICATES, 30)?)
-}
-
-#[test]
-fn a_day_whose_source_fails_at_each_call(rt: HostRuntime) -> Result<(), Fail> {
+fn a_source_that_fails_at_each_call(rt: HostRuntime) -> Result<(), Fail> {
+    check_source_faults(rt.alloc(), &AUDITS, 30)?;
+    check_source_faults(rt.alloc(), &UNKNOWN_NAMES, 30)?;
+    check_source_faults(rt.alloc(), &WRITING, 30)?;
+    check_source_faults(rt.alloc(), &CERTIFICATES, 30)?;
     Ok(check_source_faults(rt.alloc(), &DAYS, 30)?)
 }

@@ -151,16 +151,8 @@ times,orders,20240102-09:00:00,20240102-09:00:00
 };
 
 #[test]
-fn an_order_log_of_a_day_cut_anywhere(rt: HostRuntime) -> Result<(), Fail> {
-    Ok(check_cuts(rt.alloc(), &ORDER_CUTS)?)
-}
-
-#[test]
-fn a_trade_log_of_a_day_cut_anywhere(rt: HostRuntime) -> Result<(), Fail> {
-    Ok(check_cuts(rt.alloc(), &TRADE_CUTS)?)
-}
-
-#[test]
-fn an_order_log_of_contents_cut_anywhere(rt: HostRuntime) -> Result<(), Fail> {
+fn logs_cut_anywhere(rt: HostRuntime) -> Result<(), Fail> {
+    check_cuts(rt.alloc(), &ORDER_CUTS)?;
+    check_cuts(rt.alloc(), &TRADE_CUTS)?;
     Ok(check_cuts(rt.alloc(), &CONTENTS_CUTS)?)
 }

@@ -203,11 +203,7 @@ sha256,trades,e3b0c44298fc1c149afbf4c8996fb92427ae41e4649b934ca495991b7852b855
 ];
 
 #[test]
-fn each_call_of_the_shelf_fails(rt: HostRuntime) -> Result<(), Fail> {
-    Ok(check_shelf_faults(rt.alloc(), &SHELF_ROWS)?)
-}
-
-#[test]
-fn each_write_fails(rt: HostRuntime) -> Result<(), Fail> {
+fn each_call_of_the_shelf_and_each_write_fails(rt: HostRuntime) -> Result<(), Fail> {
+    check_shelf_faults(rt.alloc(), &SHELF_ROWS)?;
     Ok(check_sink_faults(rt.alloc(), &SINK_ROWS)?)
 }

@@ -140,12 +140,8 @@ fn generated_logs_in_both_forms(rt: HostRuntime) -> Result<(), Fail> {
 }
 
 #[test]
-fn each_call_of_the_shelf_fails(rt: HostRuntime) -> Result<(), Fail> {
-    Ok(check_shelf_faults(rt.alloc(), &SHELF_ROWS)?)
-}
-
-#[test]
-fn each_write_fails(rt: HostRuntime) -> Result<(), Fail> {
+fn each_call_of_the_shelf_and_each_write_fails(rt: HostRuntime) -> Result<(), Fail> {
+    check_shelf_faults(rt.alloc(), &SHELF_ROWS)?;
     check_sink_faults(rt.alloc(), &SINK_ROWS)?;
     Ok(check_rooms(rt.alloc(), &[TEN_GENERATED])?)
 }

@@ -150,12 +150,8 @@ const LINE_CUTS: CutLogs = CutLogs {
 };
 
 #[test]
-fn a_framed_day_cut_anywhere(rt: HostRuntime) -> Result<(), Fail> {
-    Ok(check_cuts(rt.alloc(), &FRAMED_CUTS)?)
-}
-
-#[test]
-fn a_day_on_lines_cut_anywhere(rt: HostRuntime) -> Result<(), Fail> {
+fn a_day_cut_anywhere(rt: HostRuntime) -> Result<(), Fail> {
+    check_cuts(rt.alloc(), &FRAMED_CUTS)?;
     Ok(check_cuts(rt.alloc(), &LINE_CUTS)?)
 }
 

@@ -209,21 +209,9 @@ const SESSION_TRADE_CUTS: CutLogs = CutLogs {
 };
 
 #[test]
-fn an_order_log_cut_at_every_length(rt: HostRuntime) -> Result<(), Fail> {
-    Ok(check_cuts(rt.alloc(), &ORDER_CUTS)?)
-}
-
-#[test]
-fn a_trade_log_cut_at_every_length(rt: HostRuntime) -> Result<(), Fail> {
-    Ok(check_cuts(rt.alloc(), &TRADE_CUTS)?)
-}
-
-#[test]
-fn an_order_log_of_a_day_cut_at_every_length(rt: HostRuntime) -> Result<(), Fail> {
-    Ok(check_cuts(rt.alloc(), &SESSION_ORDER_CUTS)?)
-}
-
-#[test]
-fn a_trade_log_of_a_day_cut_at_every_length(rt: HostRuntime) -> Result<(), Fail> {
+fn logs_cut_at_every_length(rt: HostRuntime) -> Result<(), Fail> {
+    check_cuts(rt.alloc(), &ORDER_CUTS)?;
+    check_cuts(rt.alloc(), &TRADE_CUTS)?;
+    check_cuts(rt.alloc(), &SESSION_ORDER_CUTS)?;
     Ok(check_cuts(rt.alloc(), &SESSION_TRADE_CUTS)?)
 }
