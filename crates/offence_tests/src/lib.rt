@@ -1,13 +1,9 @@
-//! Tests of the lists of offences and of the two further checks over small logs, in a crate of
-//! their own, so that no library is proved once more with its tests.
+//! Every offence in continuous trading over random small logs, beside a slow reading of the rules in
+//! code. It is a crate of its own, so that no library is proved once more with its tests.
 #![tactic(auto)]
 
 #[cfg(test)]
 mod every_place;
-#[cfg(test)]
-mod further;
-#[cfg(test)]
-mod listed;
 #[cfg(test)]
 mod random_logs;
 #[cfg(test)]

@@ -11,7 +11,7 @@ use instruction_history::history::History;
 use matching_core::resolving::resolve;
 use std::process::Abort;
 
-/// The time of the records that are given none.
+/// The time of every record but new orders.
 pub(crate) const NOON: Stamp = Stamp { second: 5, nano: 0 };
 
 fn name(rt: &impl Abort, text: &str) -> Name {
@@ -33,19 +33,7 @@ fn price(rt: &impl Abort, units: u64) -> Price {
     Price::of(units).expect(rt, "a price")
 }
 
-/// A new order that rests: id, side, quantity and limit.
-pub(crate) fn order(
-    rt: &impl Abort,
-    id: &str,
-    side: Side,
-    number: u64,
-    limit: u64,
-    time: Stamp,
-) -> OrderRecord {
-    order_of_life(rt, id, side, number, limit, time, Life::Rests)
-}
-
-/// The same of any life.
+/// A new order: id, side, quantity and limit.
 pub(crate) fn order_of_life(
     rt: &impl Abort,
     id: &str,
@@ -126,14 +114,6 @@ pub(crate) fn found_history<R: AllocGlobal + Abort>(
         Ok(history) => Some(history),
         Err(_) => None,
     }
-}
-
-/// The same, where it has to be.
-pub(crate) fn history_of<R: AllocGlobal + Abort>(rt: &R, entries: &[OrderRecord]) -> History {
-    let Some(history) = found_history(rt, entries) else {
-        panic!(rt; "no history");
-    };
-    history
 }
 
 /// The deals of these records.

@@ -26,7 +26,7 @@ fn key(rt: &impl Abort, id: &[u8]) -> Key {
 }
 
 /// The symbol of every record.
-pub(crate) fn symbol(rt: &impl Abort) -> Name {
+fn symbol(rt: &impl Abort) -> Name {
     name(rt, b"Z")
 }
 
@@ -61,26 +61,6 @@ pub(crate) fn new_order(
         quantity: quantity(rt, number),
         price,
         life,
-    }
-}
-
-/// An order in the place of the one with the second id.
-pub(crate) fn replacement_of(
-    rt: &impl Abort,
-    id: &[u8],
-    target: &[u8],
-    side: Side,
-    number: u64,
-    price: Price,
-) -> OrderRecord {
-    OrderRecord::Replace {
-        key: key(rt, id),
-        time: TIME,
-        symbol: symbol(rt),
-        target: name(rt, target),
-        side,
-        quantity: quantity(rt, number),
-        price,
     }
 }
 
