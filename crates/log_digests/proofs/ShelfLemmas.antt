@@ -1,5 +1,6 @@
 -- What was taken of a slot, as it is started and read.
 use Rattle.std.proofs.Common.{◌≡◌, ℕ, ◌+◌, Bool, false, List, [], ◌++◌, length, take, Some, None, Ok, Err, refl, sym, ap, ap₂, ◌∙◌, subst, append-nil, append_assoc, length-append, true≢false}
+use Rattle.std.proofs.Math.Logic.{∥∥₁_map}
 use Rattle.std.specs.Prelude.{Option, Result, IsSome, IsSomeAnd, option_map}
 use Rattle.std.specs.Io.KnownBytes.{IsAtEnd, Consumes, Keeps}
 use Rattle.audit_base.specs.declared.terms.Which.{Which}
@@ -9,7 +10,7 @@ use Rattle.log_source.specs.declared.shelf.Shelf as shelf
 use Rattle.log_source.specs.declared.shelf.Failed.{Failed}
 use Rattle.log_source.specs.declared.shelf.StartFault.{StartFault}
 use Rattle.log_digests.specs.Digests.{digest_of}
-use Rattle.log_digests.specs.DigestShelves.{IsFrontTaken, HasDigested, IsDigestAtEnd}
+use Rattle.log_digests.specs.DigestShelves.{IsFrontTaken, HasDigested, IsDigestAtEnd, IsDigestOfTaken}
 use Rattle.log_digests.specs.declared.feeds.DigestFeed.{DigestFeed}
 use Rattle.sha2.specs.Hashers.{Holds256}
 
@@ -32,6 +33,12 @@ digest_at_end feed tells log slot digest is had told started at_end =
     all : (left : Option (List ℕ)) → IsSomeAnd left (λ rest. log ≡ Some (had.bytes ++ rest)) → IsAtEnd left → log ≡ Some had.bytes
     all None front at_end = absurd front
     all (Some rest) front at_end = front ∙ ap Some (ap (λ r. had.bytes ++ r) at_end ∙ append-nil had.bytes)
+
+-- whatever is known of the log, the digest of the feed is that of as many bytes as were taken of it
+pub digest_of_taken : (feed : DigestFeed) (tells : Bool) (log : Option (List ℕ)) (slot : Slot) (digest : List ℕ)
+    → ((bytes : List ℕ) → Holds256 feed.hasher bytes → digest ≡ digest_of bytes) → ∥ HasDigested feed tells log slot ∥₁ → IsDigestOfTaken slot digest
+digest_of_taken feed tells log slot digest is had started =
+    ∥∥₁_map had (λ h. record { bytes = h.bytes; digest_is = is h.bytes h.held; count_is = h.taken.count started })
 
 -- a slot that stays
 pub digested_stays : (feed : DigestFeed) (tells told : Bool) (log known : Option (List ℕ)) (slot same : Slot) → told ≡ tells → known ≡ log → same ≡ slot

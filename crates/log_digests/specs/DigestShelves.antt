@@ -33,3 +33,14 @@ abbrev pub IsDigestAtEnd : Bool → Option (List ℕ) → Slot → List ℕ → 
 IsDigestAtEnd tells log slot digest =
     tells ≡ true → slot.started ≡ true → IsAtEnd slot.left
     → option_map digest_of log ≡ Some digest
+
+-- The digest is that of some bytes, of which there are so many.
+pub record IsDigestOfSome (count : ℕ) (digest : List ℕ) : Type 0 where
+  pub bytes : List ℕ
+  pub digest_is : digest ≡ digest_of bytes
+  pub count_is : length bytes ≡ count
+
+-- where a log was started, whether it is known or not, the digest is that of as many bytes as were
+-- taken of it
+abbrev pub IsDigestOfTaken : Slot → List ℕ → Type 0
+IsDigestOfTaken slot digest = slot.started ≡ true → ∥ IsDigestOfSome slot.taken digest ∥₁

@@ -4,7 +4,7 @@
 //! digests are those of the very bytes that were judged, and no log is read twice.
 ghost use Rattle.std.specs.Prelude.{◌≡◌, ℕ, List, false};
 ghost use Rattle.audit_base.specs.declared.terms.Which.{Which};
-ghost use Rattle.log_digests.specs.DigestShelves.{HasDigested, IsDigestAtEnd, name_of_log};
+ghost use Rattle.log_digests.specs.DigestShelves.{HasDigested, IsDigestAtEnd, IsDigestOfTaken, name_of_log};
 
 use crate::digests::LogDigest;
 use crate::feeds::DigestFeed;
@@ -50,9 +50,11 @@ impl<'a, F: Shelf> DigestShelf<'a, F> {
     /// The digest of what was read of a log since it was last started: of the whole log, where it
     /// was read to its end.
     pub fn digest(&self, which: Which) -> LogDigest
-        ensures { (name : List ℕ) → IsDigestAtEnd (⟦<DigestShelf<'a, F> as Shelf>⟧.tells self.now)
-            (⟦<DigestShelf<'a, F> as Shelf>⟧.log_of self.now which name)
-            (⟦<DigestShelf<'a, F> as Shelf>⟧.slot self.now which) result }
+        ensures at_end { let shelves = ⟦<DigestShelf<'a, F> as Shelf>⟧ in (name : List ℕ) →
+            IsDigestAtEnd (shelves.tells self.now) (shelves.log_of self.now which name)
+            (shelves.slot self.now which) result }
+        ensures taken { IsDigestOfTaken (⟦<DigestShelf<'a, F> as Shelf>⟧.slot self.now which)
+            result }
     {
         match which {
             Which::Orders => self.orders.digest_so_far(),
