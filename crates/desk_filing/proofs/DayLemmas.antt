@@ -1,5 +1,5 @@
 -- What a day of two logs that were read comes to.
-use Rattle.std.proofs.Common.{◌≡◌, ◌∙◌, sym, ap, ap₂, subst, refl, ◌⊎◌, ⊎_elim, ℕ, Bool, true, List, Option, Some, Result, Ok, Err}
+use Rattle.std.proofs.Common.{◌≡◌, ◌∙◌, sym, ap, ap₂, subst, refl, ◌⊎◌, ⊎_elim, ℕ, Bool, List, Option, Some, Result, Ok, Err}
 use Rattle.std.specs.Prelude.{option_map, IsOkAnd}
 use Rattle.std.proofs.lemmas.Option.{same_Some}
 use Rattle.audit_base.specs.declared.faults.BadPlace.{BadPlace}
@@ -23,22 +23,24 @@ use Rattle.day_records.specs.declared.day_trades.EndedTrades.{EndedTrades}
 use Rattle.desk_words.specs.declared.requests.NamedLogs.{NamedLogs}
 use Rattle.log_digests.specs.declared.digests.LogDigests.{LogDigests}
 use Rattle.digest_keeper.specs.declared.digested.KeptCase.{KeptCase}
-use Rattle.desk_filing.specs.Causes.{ReadsLogsFor}
+use Rattle.desk_filing.specs.Causes.{ReadsDigestedLogs, ReadsLogsFor}
+use Rattle.desk_filing.specs.DigestedVerdicts.{AreDigestsOfTaken}
 use Rattle.desk_filing.specs.Days.{JudgesDay, JudgesGiven, JudgesWithout, TellsUnpaired}
 use Rattle.desk_filing.specs.Judging.{TellsBadPlace}
 use Rattle.desk_filing.specs.Steps.{JudgesLogs, NamesLogs, ReadsJudged, ReadsBadPlace, ReadsRecords, ReadsRefusal}
-use Rattle.desk_filing.specs.Turns.{FilesDayOrNone, FilingTurn, IsFilingTurn, IsTurnOfRecords, cases_of_day, day_turn, filed_turn, symbols_of_whole_day, unfiled_turn}
+use Rattle.desk_filing.specs.Turns.{FilesDayOrNone, FilingTurn, IsTurnOfLogs, IsTurnOfRecords, cases_of_day, day_turn, filed_turn, symbols_of_whole_day, unfiled_turn}
 use Rattle.case_run.specs.declared.answers.CaseAnswer.{CaseAnswer}
 use Rattle.desk_filing.specs.declared.answers.FilingOutcome.{FilingOutcome}
 use Rattle.desk_filing.specs.declared.answers.FilingOutcome.TheVariants as judged
 use Rattle.desk_filing.specs.declared.requests.FilingCommand.{FilingCommand}
 use Rattle.desk_filing.specs.declared.requests.FilingCommand.TheVariants as command
 use Rattle.desk_filing.specs.declared.requests.FilingRequest.{FilingRequest}
-use Rattle.desk_filing.proofs.LogLemmas.{reads_either, stops_reading, turn_of_records}
+use Rattle.desk_filing.proofs.LogLemmas.{logs_of_records, reads_either, reads_of_records, stops_reading, turn_of_records}
 use Rattle.desk_filing.proofs.WritingLemmas.{ends_stopped}
+use Rattle.desk_filing.proofs.DigestedLemmas.{taken_digests}
 use Rattle.desk_filing.proofs.JudgeLemmas.{refuses}
 use Rattle.log_digests.specs.Digests.{digest_of}
-use Rattle.log_digests.specs.DigestShelves.{IsDigestAtEnd}
+use Rattle.log_digests.specs.DigestShelves.{IsDigestAtEnd, IsDigestOfTaken}
 use Rattle.log_source.specs.declared.shelf.Shelf.{Ghosts as Shelf}
 use Rattle.log_verdict.specs.Steps.{KeepsShelfLogs, Reading, reading_by}
 use Rattle.log_verdict.specs.declared.sources.Source.{Source}
@@ -50,13 +52,16 @@ use Rattle.record_verdict.specs.Scopes.{admission_of}
 
 -- The digests are those that the shelf took of both logs.
 pub record TakesDigests (r : Reading) (logs : NamedLogs) (digests : LogDigests) : Type 0 where
+  pub taken : AreDigestsOfTaken r digests
   pub of_orders : IsDigestAtEnd r.tells (r.log_of Orders logs.orders) (r.after Orders) digests.orders
   pub of_trades : IsDigestAtEnd r.tells (r.log_of Trades logs.trades) (r.after Trades) digests.trades
 
 -- they were taken after the reading, of a shelf that tells as before and has the same logs
 pub takes_digests : (r : Reading) (logs : NamedLogs) (digests : LogDigests) (told : Bool) (log_of : Which → List ℕ → Option (List ℕ)) → told ≡ r.tells → ((w : Which) (n : List ℕ) → log_of w n ≡ r.log_of w n)
-    → IsDigestAtEnd told (log_of Orders logs.orders) (r.after Orders) digests.orders → IsDigestAtEnd told (log_of Trades logs.trades) (r.after Trades) digests.trades → TakesDigests r logs digests
-takes_digests r logs digests told log_of is_told same first second = record {
+    → IsDigestAtEnd told (log_of Orders logs.orders) (r.after Orders) digests.orders → IsDigestAtEnd told (log_of Trades logs.trades) (r.after Trades) digests.trades
+    → IsDigestOfTaken (r.after Orders) digests.orders → IsDigestOfTaken (r.after Trades) digests.trades → TakesDigests r logs digests
+takes_digests r logs digests told log_of is_told same first second of_first of_second = record {
+  taken = taken_digests r digests of_first of_second;
   of_orders = λ tells started at_end. ap (option_map digest_of) (sym (same Orders logs.orders)) ∙ first (is_told ∙ tells) started at_end;
   of_trades = λ tells started at_end. ap (option_map digest_of) (sym (same Trades logs.trades)) ∙ second (is_told ∙ tells) started at_end;
 }
@@ -78,48 +83,57 @@ module _ (r : Reading) (request : FilingRequest) (orders trades : Source) (names
   either given reads = reads_either r request.logs orders trades names (On given) (λ log bad. ⊥) reads
 
   -- what the command leaves of records that are paired so
-  turns : (given : DayBeforeRule) (reads : ReadsRecords r request.logs (On given)) → r.tells ≡ true → (kept : List KeptCase) (turn : FilingTurn) (paired : Result (List TradeRecord) Finding) → reads.paired ≡ paired
-      → FilesDayOrNone (record { orders = digest_of reads.orders; trades = digest_of reads.trades }) kept request.label the_rule reads.entries paired turn → IsFilingTurn r.log_of kept request turn
-  turns given reads tells kept turn paired same is =
-      turn_of_records r request.logs (On given) reads tells kept request refl turn
-      (subst (λ (c : FilingCommand). IsTurnOfRecords (record { orders = digest_of reads.orders; trades = digest_of reads.trades }) kept request.label c turn reads.entries reads.paired) (sym asked)
-      (subst (λ (p : Result (List TradeRecord) Finding). FilesDayOrNone (record { orders = digest_of reads.orders; trades = digest_of reads.trades }) kept request.label the_rule reads.entries p turn) (sym same) is))
+  turns : (given : DayBeforeRule) (reads : ReadsRecords r request.logs (On given)) (digests : LogDigests) (kept : List KeptCase) (turn : FilingTurn) (paired : Result (List TradeRecord) Finding) → reads.paired ≡ paired
+      → FilesDayOrNone digests kept request.label the_rule reads.entries paired turn → IsTurnOfLogs (logs_of_records r request.logs (On given) reads digests) kept request turn
+  turns given reads digests kept turn paired same is =
+      turn_of_records r request.logs (On given) reads digests kept request refl turn
+      (subst (λ (c : FilingCommand). IsTurnOfRecords digests kept request.label c turn reads.entries reads.paired) (sym asked)
+      (subst (λ (p : Result (List TradeRecord) Finding). FilesDayOrNone digests kept request.label the_rule reads.entries p turn) (sym same) is))
+
+  -- the logs were read so, with the digests that were taken
+  digested : (given : DayBeforeRule) (reads : ReadsRecords r request.logs (On given)) (digests : LogDigests) → TakesDigests r request.logs digests → ReadsDigestedLogs r request.logs (logs_of_records r request.logs (On given) reads digests)
+  digested given reads digests takes =
+      reads_of_records r request.logs (On given) reads digests takes.taken
+      (λ tells. one_digest (r.log_of Orders request.logs.orders) reads.orders digests.orders (reads.orders_read.known tells) (takes.of_orders tells reads.orders_read.started reads.orders_read.at_end))
+      (λ tells. one_digest (r.log_of Trades request.logs.trades) reads.trades digests.trades (reads.trades_read.known tells) (takes.of_trades tells reads.trades_read.started reads.trades_read.at_end))
 
   module _ (ended : EndedTrades) (reads : ReadsRecords r request.logs (On (before_rule.Read ended))) (digests : LogDigests) (takes : TakesDigests r request.logs digests) where
-    same_digests : r.tells ≡ true → digests ≡ record { orders = digest_of reads.orders; trades = digest_of reads.trades }
-    same_digests tells =
-        let first : digests.orders ≡ digest_of reads.orders = one_digest (r.log_of Orders request.logs.orders) reads.orders digests.orders (reads.orders_known tells) (takes.of_orders tells (reads.good Orders).started (reads.good Orders).at_end) in
-        let second : digests.trades ≡ digest_of reads.trades = one_digest (r.log_of Trades request.logs.trades) reads.trades digests.trades (reads.trades_known tells) (takes.of_trades tells (reads.good Trades).started (reads.good Trades).at_end) in
-        ap₂ {C = LogDigests} (λ a b. record { orders = a; trades = b }) first second
-
     -- the cases of the records that the day has
     by_records : (given : FilingOutcome) → JudgesDay request.label the_rule digests ended given → (records : List TradeRecord) → reads.paired ≡ Ok records → HasTradesOf whole_day (admission_of the_rule) reads.entries ended records → ReadsJudged r request given
     by_records (judged.Cases cases) judges records same has =
         let is = judges reads.entries records has in
         record {
           read = reads.good;
-          turn = λ tells kept.
-              turns (before_rule.Read ended) reads tells kept (filed_turn kept cases.items) (Ok records) same (record {
-                verdicts = is.verdicts;
-                are = is.are;
-                is =
-                    ap (filed_turn kept) (is.is.1 ∙ ap (λ (d : LogDigests). cases_of_day request.label the_rule d (symbols_of_whole_day reads.entries records) is.verdicts) (same_digests tells))
-                    ∙ ap (λ (long : Option (List ℕ)). day_turn kept long (cases_of_day request.label the_rule (record { orders = digest_of reads.orders; trades = digest_of reads.trades }) (symbols_of_whole_day reads.entries records) is.verdicts)) (sym is.is.0);
-              });
+          turn = record {
+            given = logs_of_records r request.logs (On (before_rule.Read ended)) reads digests;
+            reads = digested (before_rule.Read ended) reads digests takes;
+            is = λ kept.
+                turns (before_rule.Read ended) reads digests kept (filed_turn kept cases.items) (Ok records) same (record {
+                  verdicts = is.verdicts;
+                  are = is.are;
+                  is =
+                      ap (filed_turn kept) is.is.1
+                      ∙ ap (λ (long : Option (List ℕ)). day_turn kept long (cases_of_day request.label the_rule digests (symbols_of_whole_day reads.entries records) is.verdicts)) (sym is.is.0);
+                });
+          };
         }
     by_records (judged.Refused answer) judges records same has =
         let is = judges reads.entries records has in
         record {
           read = subst (ReadsLogsFor r request.logs) (sym is.is.status_is) reads.good;
           not_done = λ e. refused_not_done (sym is.is.status_is ∙ e);
-          turn = λ tells kept.
-              turns (before_rule.Read ended) reads tells kept (unfiled_turn kept answer.status answer.text.items) (Ok records) same (record {
-                verdicts = is.verdicts;
-                are = is.are;
-                is =
-                    ap₂ (unfiled_turn kept) is.is.status_is is.is.text_is
-                    ∙ ap (λ (long : Option (List ℕ)). day_turn kept long (cases_of_day request.label the_rule (record { orders = digest_of reads.orders; trades = digest_of reads.trades }) (symbols_of_whole_day reads.entries records) is.verdicts)) (sym is.is.is);
-              });
+          turn = record {
+            given = logs_of_records r request.logs (On (before_rule.Read ended)) reads digests;
+            reads = digested (before_rule.Read ended) reads digests takes;
+            is = λ kept.
+                turns (before_rule.Read ended) reads digests kept (unfiled_turn kept answer.status answer.text.items) (Ok records) same (record {
+                  verdicts = is.verdicts;
+                  are = is.are;
+                  is =
+                      ap₂ (unfiled_turn kept) is.is.status_is is.is.text_is
+                      ∙ ap (λ (long : Option (List ℕ)). day_turn kept long (cases_of_day request.label the_rule digests (symbols_of_whole_day reads.entries records) is.verdicts)) (sym is.is.is);
+                });
+          };
         }
 
     by_paired : (given : FilingOutcome) → JudgesDay request.label the_rule digests ended given → (paired : Result (List TradeRecord) Finding) → reads.paired ≡ paired → IsOkAnd paired (HasTradesOf whole_day (admission_of the_rule) reads.entries ended) → ReadsJudged r request given
@@ -135,13 +149,17 @@ module _ (r : Reading) (request : FilingRequest) (orders trades : Source) (names
       (either (before_rule.Read ended) reads)
 
   -- its reports do not pair
-  judges_unpaired : (finding : Finding) (answer : CaseAnswer) → TellsUnpaired finding answer → AreRead (before_rule.Unpaired finding) → ReadsRefusal r request answer
-  judges_unpaired finding answer tells_finding reads = ⊎_elim
+  judges_unpaired : (finding : Finding) (digests : LogDigests) → TakesDigests r request.logs digests → (answer : CaseAnswer) → TellsUnpaired finding answer → AreRead (before_rule.Unpaired finding) → ReadsRefusal r request answer
+  judges_unpaired finding digests takes answer tells_finding reads = ⊎_elim
       (λ records. record {
         read = subst (ReadsLogsFor r request.logs) (sym tells_finding.status_is) records.good;
         not_done = λ e. refused_not_done (sym tells_finding.status_is ∙ e);
-        turn = λ tells kept.
-            turns (before_rule.Unpaired finding) records tells kept (unfiled_turn kept answer.status answer.text.items) (Err finding) records.holds (ap₂ (unfiled_turn kept) tells_finding.status_is tells_finding.text_is);
+        turn = record {
+          given = logs_of_records r request.logs (On (before_rule.Unpaired finding)) records digests;
+          reads = digested (before_rule.Unpaired finding) records digests takes;
+          is = λ kept.
+              turns (before_rule.Unpaired finding) records digests kept (unfiled_turn kept answer.status answer.text.items) (Err finding) records.holds (ap₂ (unfiled_turn kept) tells_finding.status_is tells_finding.text_is);
+        };
       })
       (λ place. absurd place.holds)
       (either (before_rule.Unpaired finding) reads)
@@ -165,7 +183,7 @@ module _ (r : Reading) (request : FilingRequest) (orders trades : Source) (names
       → ReadsJudged r request made
   judges_given (before_rule.Read ended) digests takes made judges reads = judges_read ended digests takes made judges reads
   judges_given (before_rule.Unpaired finding) digests takes (judged.Cases cases) judges reads = absurd judges
-  judges_given (before_rule.Unpaired finding) digests takes (judged.Refused answer) judges reads = judges_unpaired finding answer judges reads
+  judges_given (before_rule.Unpaired finding) digests takes (judged.Refused answer) judges reads = judges_unpaired finding digests takes answer judges reads
 
   -- the same of logs that were not read into records
   pub judges_without : (why : NoRecords) (result : Result FilingOutcome Halt) → JudgesWithout why result → IsUnreadOfTwoLogs r orders trades why → JudgesLogs r request result

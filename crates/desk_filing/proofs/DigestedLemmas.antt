@@ -7,14 +7,15 @@ use Rattle.audit_base.specs.declared.terms.Which.{Which}
 use Rattle.audit_base.specs.declared.terms.Which.TheVariants.{Orders, Trades}
 use Rattle.audit_report.specs.declared.verdicts.Verdict.TheVariants.{Malformed}
 use Rattle.log_digests.specs.Digests.{digest_of}
-use Rattle.log_digests.specs.DigestShelves.{IsDigestAtEnd}
+use Rattle.log_digests.specs.DigestShelves.{IsDigestAtEnd, IsDigestOfTaken}
+use Rattle.log_digests.specs.declared.digests.LogDigests.{LogDigests}
 use Rattle.log_verdict.specs.BothLogs.{ReadsVerdict, ReadsAfterOrders}
 use Rattle.log_verdict.specs.LogVerdicts.{records_of_order_log}
 use Rattle.log_verdict.specs.Steps.{Reading}
 use Rattle.log_verdict.specs.declared.sources.Source.{Source}
 use Rattle.record_verdict.specs.declared.questions.Question.{Question}
 use Rattle.record_verdict.specs.RecordVerdicts.{IsRecordVerdict}
-use Rattle.desk_filing.specs.DigestedVerdicts.{HasDigestsOfLogs}
+use Rattle.desk_filing.specs.DigestedVerdicts.{AreDigestsOfTaken, HasDigestsOfLogs}
 use Rattle.desk_filing.specs.declared.digested_verdicts.DigestedVerdict.{DigestedVerdict}
 
 -- the digest of a log, by what is known of the shelf before
@@ -39,3 +40,8 @@ has_digests r q orders trades made told log_of is_told logs first second reads =
     after (Err bad) holds tells good = absurd (good bad holds.0)
     after (Ok entries) holds tells good = of_log r.tells told (r.log_of Trades trades.name.now) (log_of Trades trades.name.now) made.digests.trades is_told (logs Trades trades.name.now)
         (λ t. second t holds.read.started holds.read.at_end) tells
+
+-- the digests of both logs
+pub taken_digests : (r : Reading) (digests : LogDigests) → IsDigestOfTaken (r.after Orders) digests.orders → IsDigestOfTaken (r.after Trades) digests.trades → AreDigestsOfTaken r digests
+taken_digests r digests first second Orders = first
+taken_digests r digests first second Trades = second

@@ -1,5 +1,5 @@
 -- What a verdict on two logs that were read comes to.
-use Rattle.std.proofs.Common.{◌≡◌, ◌∙◌, sym, ap, ap₂, subst, refl, inl, inr, ◌⊎◌, ⊎_elim, ℕ, Bool, true, false, List, [], ◌∷◌, Option, None, Some, Result}
+use Rattle.std.proofs.Common.{◌≡◌, ◌∙◌, sym, ap, subst, refl, inl, inr, ◌⊎◌, ⊎_elim, ℕ, Bool, false, List, Option, None, Some, Result}
 use Rattle.std.specs.Prelude.{option_map}
 use Rattle.std.proofs.lemmas.Option.{same_Some}
 use Rattle.audit_base.specs.declared.faults.BadPlace.{BadPlace}
@@ -21,13 +21,13 @@ use Rattle.case_run.specs.declared.statuses.CaseStatus.{CaseStatus}
 use Rattle.case_run.specs.declared.statuses.CaseStatus.TheVariants as status
 use Rattle.log_digests.specs.declared.digests.LogDigests.{LogDigests}
 use Rattle.digest_keeper.specs.declared.digested.KeptCase.{KeptCase}
-use Rattle.desk_filing.specs.DigestedVerdicts.{HasDigestsOfLogs}
+use Rattle.desk_filing.specs.DigestedVerdicts.{AreDigestsOfTaken, HasDigestsOfLogs}
 use Rattle.desk_filing.specs.declared.digested_verdicts.DigestedVerdict.{DigestedVerdict}
-use Rattle.desk_filing.specs.Causes.{ReadsGoodLogs, ReadsLogsFor}
+use Rattle.desk_filing.specs.Causes.{ReadsDigestedLogs, ReadsGoodLogs, ReadsLogsFor}
 use Rattle.desk_filing.specs.Lines.{comparison_line}
 use Rattle.desk_filing.specs.Judging.{IsComparedVerdict, IsJudgedVerdict, IsRefusalIn, TellsBadPlace}
 use Rattle.desk_filing.specs.Steps.{AnyRecords, LooksAtLogs, NamesLogs, ReadsBadPlace, ReadsJudged, ReadsRecords, ReadsRefusal, TellsOfKept}
-use Rattle.desk_filing.specs.Turns.{ChecksCase, FilingTurn, IsFilingTurn, IsFirstDifference, IsTurnOfRecords, comparison_status, digested_case, filed_turn, offence_in, unfiled_turn}
+use Rattle.desk_filing.specs.Turns.{ChecksCase, FilingTurn, IsTurnOfLogs, IsTurnOfRecords, comparison_status, filed_turn, unfiled_turn}
 use Rattle.case_run.specs.declared.answers.CaseAnswer.{CaseAnswer}
 use Rattle.desk_filing.specs.declared.answers.FilingOutcome.{FilingOutcome}
 use Rattle.desk_filing.specs.declared.answers.FilingOutcome.TheVariants as judged
@@ -35,7 +35,7 @@ use Rattle.desk_filing.specs.declared.differences.CaseDifference.{CaseDifference
 use Rattle.desk_filing.specs.declared.requests.FilingCommand.{FilingCommand}
 use Rattle.desk_filing.specs.declared.requests.FilingCommand.TheVariants as command
 use Rattle.desk_filing.specs.declared.requests.FilingRequest.{FilingRequest}
-use Rattle.desk_filing.proofs.LogLemmas.{reads_either, turn_of_records}
+use Rattle.desk_filing.proofs.LogLemmas.{logs_of_records, reads_either, reads_of_records, turn_of_records}
 use Rattle.log_digests.specs.Digests.{digest_of}
 use Rattle.log_verdict.specs.BothLogs.{ReadsVerdict}
 use Rattle.log_verdict.specs.Steps.{Reading}
@@ -62,9 +62,13 @@ refuses r request v answer bad_tells reads =
     record {
       read = subst (ReadsLogsFor r request.logs) (sym bad_tells.status_is) reads.read;
       not_done = λ e. not_done (sym bad_tells.status_is ∙ e);
-      turn = λ tells kept.
-          subst (λ (s : CaseStatus). IsFilingTurn r.log_of kept request (unfiled_turn kept s answer.text.items)) (sym bad_tells.status_is)
-          (subst (λ (t : List ℕ). IsFilingTurn r.log_of kept request (unfiled_turn kept status.Malformed t)) line (reads.turn tells kept request refl));
+      turn = record {
+        given = reads.turn.given;
+        reads = reads.turn.reads;
+        is = λ kept.
+            subst (λ (s : CaseStatus). IsTurnOfLogs reads.turn.given kept request (unfiled_turn kept s answer.text.items)) (sym bad_tells.status_is)
+            (subst (λ (t : List ℕ). IsTurnOfLogs reads.turn.given kept request (unfiled_turn kept status.Malformed t)) line (reads.turn.is kept request refl));
+      };
     }
   where
     not_done : status.Malformed ≡ status.Done → ⊥
@@ -86,14 +90,13 @@ module _ (r : Reading) (request : FilingRequest) (orders trades : Source) (names
   no_bad : (v : Verdict) → ReadsRecords r request.logs (On v) → (log : Which) (bad : BadPlace) → v ≡ verdict.Malformed log bad → ⊥
   no_bad v reads log bad e = judged_sound q reads.entries reads.paired log bad (subst (λ (w : Verdict). IsRecordVerdict q reads.entries reads.paired w) e reads.holds)
 
-  same_digests : (made : DigestedVerdict) (reads : ReadsRecords r request.logs (On made.verdict)) → r.tells ≡ true → HasDigestsOfLogs r.tells r.log_of orders trades made
-      → made.digests ≡ record { orders = digest_of reads.orders; trades = digest_of reads.trades }
-  same_digests made reads tells has =
-      let first : made.digests.orders ≡ digest_of reads.orders =
-      one_digest (r.log_of Orders orders.name.now) reads.orders made.digests.orders (ap (λ (n : List ℕ). r.log_of Orders n) names.orders_name ∙ reads.orders_known tells) (has.of_orders tells) in
-      let second : made.digests.trades ≡ digest_of reads.trades =
-      one_digest (r.log_of Trades trades.name.now) reads.trades made.digests.trades (ap (λ (n : List ℕ). r.log_of Trades n) names.trades_name ∙ reads.trades_known tells) (has.of_trades tells (no_bad made.verdict reads Orders)) in
-      ap₂ {C = LogDigests} (λ a b. record { orders = a; trades = b }) first second
+  -- the logs were read so, with the digests of the verdict
+  digested : (made : DigestedVerdict) (reads : ReadsRecords r request.logs (On made.verdict)) → HasDigestsOfLogs r.tells r.log_of orders trades made → AreDigestsOfTaken r made.digests
+      → ReadsDigestedLogs r request.logs (logs_of_records r request.logs (On made.verdict) reads made.digests)
+  digested made reads has taken =
+      reads_of_records r request.logs (On made.verdict) reads made.digests taken
+      (λ tells. one_digest (r.log_of Orders orders.name.now) reads.orders made.digests.orders (ap (λ (n : List ℕ). r.log_of Orders n) names.orders_name ∙ reads.orders_read.known tells) (has.of_orders tells))
+      (λ tells. one_digest (r.log_of Trades trades.name.now) reads.trades made.digests.trades (ap (λ (n : List ℕ). r.log_of Trades n) names.trades_name ∙ reads.trades_read.known tells) (has.of_trades tells (no_bad made.verdict reads Orders)))
 
   module _ (table : q.table ≡ false) where
     -- the same question, without a table
@@ -102,22 +105,26 @@ module _ (r : Reading) (request : FilingRequest) (orders trades : Source) (names
 
     -- `file`: a case, or a refusal
     pub judges_symbol : request.command ≡ command.File q.rule q.symbol → (made : DigestedVerdict) (given : FilingOutcome) → ReadsVerdict r q orders trades made.verdict → HasDigestsOfLogs r.tells r.log_of orders trades made
-        → IsJudgedVerdict made.digests request.label q made.verdict given → ReadsJudged r request given
-    judges_symbol asked made (judged.Cases cases) reads has is = ⊎_elim
+        → AreDigestsOfTaken r made.digests → IsJudgedVerdict made.digests request.label q made.verdict given → ReadsJudged r request given
+    judges_symbol asked made (judged.Cases cases) reads has taken is = ⊎_elim
         (λ records. record {
           read = records.good;
-          turn = λ tells kept.
-              turn_of_records r request.logs (On made.verdict) records tells kept request refl (filed_turn kept cases.items)
-              (subst (λ (c : FilingCommand). IsTurnOfRecords (record { orders = digest_of records.orders; trades = digest_of records.trades }) kept request.label c (filed_turn kept cases.items) records.entries records.paired) (sym asked)
-              (record {
-                the_verdict = made.verdict;
-                on = plain records.entries records.paired made.verdict records.holds;
-                is = ap (filed_turn kept) (is.0 ∙ ap (λ (d : LogDigests). digested_case request.label q.rule d q.symbol made.verdict ∷ []) (same_digests made records tells has));
-              }));
+          turn = record {
+            given = logs_of_records r request.logs (On made.verdict) records made.digests;
+            reads = digested made records has taken;
+            is = λ kept.
+                turn_of_records r request.logs (On made.verdict) records made.digests kept request refl (filed_turn kept cases.items)
+                (subst (λ (c : FilingCommand). IsTurnOfRecords made.digests kept request.label c (filed_turn kept cases.items) records.entries records.paired) (sym asked)
+                (record {
+                  the_verdict = made.verdict;
+                  on = plain records.entries records.paired made.verdict records.holds;
+                  is = ap (filed_turn kept) is.0;
+                }));
+          };
         })
         (λ place. absurd (is.1 place.log place.bad place.holds))
         (either made.verdict reads)
-    judges_symbol asked made (judged.Refused answer) reads has is = ⊎_elim
+    judges_symbol asked made (judged.Refused answer) reads has taken is = ⊎_elim
         (λ records. absurd (no_bad made.verdict records is.log is.bad is.is))
         (λ place. refuses r request made.verdict answer is place)
         (either made.verdict reads)
@@ -128,25 +135,30 @@ module _ (r : Reading) (request : FilingRequest) (orders trades : Source) (names
 
     -- `check`: a comparison, or a refusal
     pub compares_logs : request.command ≡ command.Check → (case : Case) → case.rule ≡ q.rule → case.symbol ≡ q.symbol → (filed : LogDigests) (made : DigestedVerdict) (answer : CaseAnswer) → ReadsVerdict r q orders trades made.verdict
-        → HasDigestsOfLogs r.tells r.log_of orders trades made → IsComparedVerdict request.label case filed made.digests made.verdict answer → TellsOfKept r request (Some (record { case = case; digests = Some filed })) answer
-    compares_logs asked case rule symbol filed made answer reads has (inl is) = ⊎_elim
+        → HasDigestsOfLogs r.tells r.log_of orders trades made → AreDigestsOfTaken r made.digests → IsComparedVerdict request.label case filed made.digests made.verdict answer
+        → TellsOfKept request (Some (record { case = case; digests = Some filed })) answer r
+    compares_logs asked case rule symbol filed made answer reads has taken (inl is) = ⊎_elim
         (λ records. record {
           read = going answer.status is.tells.difference is.tells.status_is records.good;
-          turn = λ tells kept found.
-              subst (λ (s : CaseStatus). IsFilingTurn r.log_of kept request (unfiled_turn kept s answer.text.items)) (sym is.tells.status_is)
-              (subst (λ (t : List ℕ). IsFilingTurn r.log_of kept request (unfiled_turn kept (comparison_status is.tells.difference) t)) (sym is.tells.text_is)
-              (turn_of_records r request.logs (On made.verdict) records tells kept request refl (compared kept is.tells.difference)
-              (subst (λ (c : FilingCommand). IsTurnOfRecords (record { orders = digest_of records.orders; trades = digest_of records.trades }) kept request.label c (compared kept is.tells.difference) records.entries records.paired) (sym asked)
-              (subst (λ (k : Option KeptCase). ChecksCase (record { orders = digest_of records.orders; trades = digest_of records.trades }) kept request.label records.entries records.paired (compared kept is.tells.difference) k) (sym found)
-              (record {
-                difference = is.tells.difference;
-                compares = record {
-                  the_verdict = made.verdict;
-                  is = rw (rule, symbol) (plain records.entries records.paired made.verdict records.holds);
-                  first = subst (λ (d : LogDigests). IsFirstDifference (record { digests = filed; offence = case.offence }) (record { digests = d; offence = offence_in made.verdict }) is.tells.difference) (same_digests made records tells has) is.tells.first;
-                };
-                is = refl;
-              })))));
+          turn = record {
+            given = logs_of_records r request.logs (On made.verdict) records made.digests;
+            reads = digested made records has taken;
+            is = λ kept found.
+                subst (λ (s : CaseStatus). IsTurnOfLogs (logs_of_records r request.logs (On made.verdict) records made.digests) kept request (unfiled_turn kept s answer.text.items)) (sym is.tells.status_is)
+                (subst (λ (t : List ℕ). IsTurnOfLogs (logs_of_records r request.logs (On made.verdict) records made.digests) kept request (unfiled_turn kept (comparison_status is.tells.difference) t)) (sym is.tells.text_is)
+                (turn_of_records r request.logs (On made.verdict) records made.digests kept request refl (compared kept is.tells.difference)
+                (subst (λ (c : FilingCommand). IsTurnOfRecords made.digests kept request.label c (compared kept is.tells.difference) records.entries records.paired) (sym asked)
+                (subst (λ (k : Option KeptCase). ChecksCase made.digests kept request.label records.entries records.paired (compared kept is.tells.difference) k) (sym found)
+                (record {
+                  difference = is.tells.difference;
+                  compares = record {
+                    the_verdict = made.verdict;
+                    is = rw (rule, symbol) (plain records.entries records.paired made.verdict records.holds);
+                    first = is.tells.first;
+                  };
+                  is = refl;
+                })))));
+          };
         })
         (λ place. absurd (is.no_bad_place place.log place.bad place.holds))
         (either made.verdict reads)
@@ -154,11 +166,11 @@ module _ (r : Reading) (request : FilingRequest) (orders trades : Source) (names
         going : (s : CaseStatus) (d : Option CaseDifference) → s ≡ comparison_status d → ReadsGoodLogs r request.logs → ReadsLogsFor r request.logs s
         going s None e good = subst (ReadsLogsFor r request.logs) (sym e) good
         going s (Some what) e good = subst (ReadsLogsFor r request.logs) (sym e) good
-    compares_logs asked case rule symbol filed made answer reads has (inr is) = ⊎_elim
+    compares_logs asked case rule symbol filed made answer reads has taken (inr is) = ⊎_elim
         (λ records. absurd (no_bad made.verdict records is.log is.bad is.is))
         (λ place.
         let refusal = refuses r request made.verdict answer is place in
-        record { read = refusal.read; turn = λ tells kept found. refusal.turn tells kept })
+        record { read = refusal.read; turn = record { given = refusal.turn.given; reads = refusal.turn.reads; is = λ kept found. refusal.turn.is kept } })
         (either made.verdict reads)
 
   any : (v : Verdict) → ReadsRecords r request.logs (On v) → ReadsRecords r request.logs AnyRecords
@@ -169,8 +181,8 @@ module _ (r : Reading) (request : FilingRequest) (orders trades : Source) (names
     paired = reads.paired;
     orders_say = reads.orders_say;
     trades_say = reads.trades_say;
-    orders_known = reads.orders_known;
-    trades_known = reads.trades_known;
+    orders_read = reads.orders_read;
+    trades_read = reads.trades_read;
     holds = tt;
     good = reads.good;
   }

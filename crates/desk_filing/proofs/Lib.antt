@@ -1,3 +1,4 @@
+mod PassLemmas
 mod LogLemmas
 mod JudgeLemmas
 mod FilingLemmas
@@ -10,3 +11,5 @@ mod DayCaseLemmas
 mod DayLemmas
 mod OneTurnLemmas
 mod DigestedLemmas
+mod SameTurnLemmas
+mod SameCallLemmas

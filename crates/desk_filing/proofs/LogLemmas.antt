@@ -1,6 +1,6 @@
 -- What two logs that were read say, as the commands of filing speak of them.
-use Rattle.std.proofs.Common.{◌≡◌, sym, ap, subst, refl, inl, inr, ◌⊎◌, ℕ, Bool, true, false, List, [], None, Some, Result, Ok, Err, IsOk}
-use Rattle.std.specs.Prelude.{◌<◌, MatchResult, IsSomeAnd, is_ok, length}
+use Rattle.std.proofs.Common.{◌≡◌, sym, ap, ap₂, subst, refl, inl, inr, ◌⊎◌, ℕ, true, List, [], Some, Result, Ok, Err, IsOk}
+use Rattle.std.specs.Prelude.{MatchResult, is_ok}
 use Rattle.audit_base.specs.declared.faults.BadPlace.{BadPlace}
 use Rattle.audit_base.specs.declared.findings.Finding.{Finding}
 use Rattle.audit_base.specs.declared.records.OrderRecord.{OrderRecord}
@@ -11,16 +11,18 @@ use Rattle.audit_base.specs.declared.terms.Which.TheVariants.{Orders, Trades}
 use Rattle.case_run.specs.Turns.{halt_of_stop}
 use Rattle.desk_words.specs.declared.requests.NamedLogs.{NamedLogs}
 use Rattle.digest_keeper.specs.declared.digested.KeptCase.{KeptCase}
-use Rattle.desk_filing.specs.Causes.{FindsLogTooLong, FindsLogUnreadable, IsLogInTurn, ReadsLogAs, day_log_name, is_good_log}
+use Rattle.desk_filing.specs.Causes.{IsLogInTurn, ReadsDigestedLog, ReadsDigestedLogs, ReadsLogAs, StopsAtLog, day_log_name}
+use Rattle.desk_filing.specs.DigestedVerdicts.{AreDigestsOfTaken}
 use Rattle.desk_filing.specs.Steps.{NamesLogs, ReadsBadPlace, ReadsRecords, StopsReading}
-use Rattle.desk_filing.specs.Turns.{FilingTurn, IsFilingTurn, IsTurnOfRecords}
+use Rattle.desk_filing.specs.Turns.{DigestedLogs, FilingTurn, IsBadTurn, IsFilingTurn, IsTurnOfLogs, IsTurnOfRecords, digested_logs}
 use Rattle.desk_filing.specs.declared.requests.FilingRequest.{FilingRequest}
 use Rattle.log_digests.specs.Digests.{digest_of}
-use Rattle.log_source.specs.Sources.{RoseOrIsFull}
+use Rattle.log_digests.specs.DigestShelves.{IsDigestOfSome, IsDigestOfTaken}
+use Rattle.log_digests.specs.declared.digests.LogDigests.{LogDigests}
 use Rattle.log_verdict.specs.BothLogs.{IsStopOfTwoLogs, ReadsAfterOrders, ReadsLogs}
 use Rattle.log_verdict.specs.BothLogs as both
 use Rattle.log_verdict.specs.LogVerdicts.{records_of_order_log, trades_of_trade_log}
-use Rattle.log_verdict.specs.Steps.{Reading, IsRead, IsReadFault, IsTooLong, step_of}
+use Rattle.log_verdict.specs.Steps.{Reading, LogStep, IsRead, IsReadFault, IsTooLong, IsUntouched, step_of}
 use Rattle.log_verdict.specs.declared.sources.Source.{Source}
 use Rattle.log_verdict.specs.declared.stops.Stop.{Stop}
 use Rattle.log_verdict.specs.declared.stops.Stop.TheVariants as stop
@@ -29,18 +31,53 @@ not_ok : {A B : Type 0} (said : Result A B) (bad : B) → said ≡ Err bad → I
 not_ok (Ok x) bad e good = cc
 not_ok (Err other) bad e good = cc
 
-module _ (r : Reading) (logs : NamedLogs) (orders trades : Source) (names : NamesLogs logs orders trades) where
-  -- a log that was read to its end
-  reads_as : (log : Which) (source : Source) (bytes : List ℕ) (good : Bool) → source.name.now ≡ day_log_name logs log → IsRead r (step_of r log source.name.now) bytes → is_good_log logs log bytes ≡ good → ReadsLogAs r logs log good
-  reads_as log source bytes good name read is = record {
-    bytes = bytes;
-    started = read.started;
-    at_end = read.at_end;
-    within = read.within;
-    taken = read.taken;
-    known = λ tells. subst (λ (n : List ℕ). r.log_of log n ≡ Some bytes) name (read.known tells);
-    good_is = is;
+-- The digests of what was read.
+
+-- a log with the digest that was taken of it
+pub digested_log : (r : Reading) (log : Which) (name bytes digest : List ℕ) → IsRead r (step_of r log name) bytes → IsDigestOfTaken (r.after log) digest → (r.tells ≡ true → digest ≡ digest_of bytes) → ReadsDigestedLog r log name bytes digest
+digested_log r log name bytes digest read taken known =
+    record { read = read; of_as_many = subst (λ (n : ℕ). ∥ IsDigestOfSome n digest ∥₁) (sym read.taken) (taken read.started); known = known }
+
+-- a log with its own digest
+own_digest : (r : Reading) (log : Which) (name bytes : List ℕ) → IsRead r (step_of r log name) bytes → ReadsDigestedLog r log name bytes (digest_of bytes)
+own_digest r log name bytes read = record { read = read; of_as_many = ∣ record { bytes = bytes; digest_is = refl; count_is = refl } ∣₁; known = λ tells. refl }
+
+module _ (r : Reading) (request : FilingRequest) (given : DigestedLogs) (kept : List KeptCase) (turn : FilingTurn) (tells : r.tells ≡ true) where
+  -- the trade log was read where the order log says so
+  abbrev AreTrades : Result (List OrderRecord) BadPlace → Type 0
+  AreTrades said = MatchResult said (λ entries. ReadsDigestedLog r Trades request.logs.trades given.trades given.digests.trades) (λ bad. IsUntouched r Trades)
+
+  trades_known : (said : Result (List OrderRecord) BadPlace) → AreTrades said → IsOk said → r.log_of Trades request.logs.trades ≡ Some given.trades
+  trades_known (Ok entries) read ok = read.read.known tells
+  trades_known (Err bad) read ok = absurd (cc)
+
+  -- what the order log said leaves this
+  abbrev Leaves : LogDigests → Result (List OrderRecord) BadPlace → Type 0
+  Leaves digests said =
+      MatchResult said
+      (λ entries. MatchResult (trades_of_trade_log request.logs.trades_form given.trades) (IsTurnOfRecords digests kept request.label request.command turn entries) (IsBadTurn kept turn Trades))
+      (IsBadTurn kept turn Orders)
+
+  own_leaves : given.digests.orders ≡ digest_of given.orders → (said : Result (List OrderRecord) BadPlace) → AreTrades said → Leaves given.digests said → Leaves (digested_logs given.orders given.trades).digests said
+  own_leaves first (Ok entries) read is =
+      let same : given.digests ≡ (digested_logs given.orders given.trades).digests = ap₂ {C = LogDigests} (λ a b. record { orders = a; trades = b }) first (read.known tells) in
+      subst (λ (d : LogDigests). Leaves d (Ok entries)) same is
+  own_leaves first (Err bad) read is = is
+
+  -- what a command leaves of logs that are known is what it leaves of what the shelf has
+  pub known_turn : ReadsDigestedLogs r request.logs given → IsTurnOfLogs given kept request turn → IsFilingTurn r.log_of kept request turn
+  known_turn reads is = record {
+    orders = given.orders;
+    trades = given.trades;
+    has_orders = reads.orders.read.known tells;
+    has_trades = λ ok. trades_known (records_of_order_log request.logs.orders_form given.orders) reads.trades ok;
+    is = own_leaves (reads.orders.known tells) (records_of_order_log request.logs.orders_form given.orders) reads.trades is;
   }
+
+module _ (r : Reading) (logs : NamedLogs) (orders trades : Source) (names : NamesLogs logs orders trades) where
+  -- a log that was read to its end, under the name of the request
+  named_read : (log : Which) (source : Source) (bytes : List ℕ) → source.name.now ≡ day_log_name logs log → IsRead r (step_of r log source.name.now) bytes → IsRead r (step_of r log (day_log_name logs log)) bytes
+  named_read log source bytes name read = subst (λ (n : List ℕ). IsRead r (step_of r log n) bytes) name read
 
   orders_said : (bytes : List ℕ) (said : Result (List OrderRecord) BadPlace) → records_of_order_log orders.form bytes ≡ said → records_of_order_log logs.orders_form bytes ≡ said
   orders_said bytes said says = subst (λ (f : Form). records_of_order_log f bytes ≡ said) names.orders_form says
@@ -48,71 +85,69 @@ module _ (r : Reading) (logs : NamedLogs) (orders trades : Source) (names : Name
   trades_said : (bytes : List ℕ) (said : Result (Result (List TradeRecord) Finding) BadPlace) → trades_of_trade_log trades.form bytes ≡ said → trades_of_trade_log logs.trades_form bytes ≡ said
   trades_said bytes said says = subst (λ (f : Form). trades_of_trade_log f bytes ≡ said) names.trades_form says
 
-  -- the order log is good, where these are its records
-  good_orders : (bytes : List ℕ) (entries : List OrderRecord) → IsRead r (step_of r Orders orders.name.now) bytes → records_of_order_log orders.form bytes ≡ Ok entries → ReadsLogAs r logs Orders true
-  good_orders bytes entries read says = reads_as Orders orders bytes true names.orders_name read (ap is_ok (orders_said bytes (Ok entries) says))
-
   module _ (P : List OrderRecord → Result (List TradeRecord) Finding → Type 0) (Q : Which → BadPlace → Type 0) where
-    bad_orders : (one : List ℕ) (bad : BadPlace) → IsRead r (step_of r Orders orders.name.now) one → records_of_order_log orders.form one ≡ Err bad → Q Orders bad → ReadsBadPlace r logs Q
-    unfolding reads_as
-    bad_orders one bad read says holds =
-        let reads : ReadsLogAs r logs Orders false = reads_as Orders orders one false names.orders_name read (ap is_ok (orders_said one (Err bad) says)) in
+    bad_orders : (one : List ℕ) (bad : BadPlace) → IsRead r (step_of r Orders orders.name.now) one → records_of_order_log orders.form one ≡ Err bad → Q Orders bad → IsUntouched r Trades → ReadsBadPlace r logs Q
+    bad_orders one bad read says holds untouched =
+        let here : IsRead r (step_of r Orders logs.orders) one = named_read Orders orders one names.orders_name read in
+        let says_so : records_of_order_log logs.orders_form one ≡ Err bad = orders_said one (Err bad) says in
         record {
           log = Orders;
           bad = bad;
           holds = holds;
-          read = record { log = Orders; in_turn = tt; bad = reads };
-          turn = λ tells kept request same.
-              let said : records_of_order_log request.logs.orders_form one ≡ Err bad = subst (λ (l : NamedLogs). records_of_order_log l.orders_form one ≡ Err bad) (sym same) (orders_said one (Err bad) says) in
-              record {
-                orders = one;
-                trades = [];
-                has_orders = subst (λ (l : NamedLogs). r.log_of Orders l.orders ≡ Some one) (sym same) (reads.known tells);
-                has_trades = λ good. absurd (not_ok (records_of_order_log request.logs.orders_form one) bad said good);
-                is = rw said refl;
-              };
+          read = record { log = Orders; in_turn = untouched; bad = record { bytes = one; read = here; holds = ap is_ok says_so } };
+          turn = record {
+            given = digested_logs one [];
+            reads = record { orders = own_digest r Orders logs.orders one here; trades = rw says_so untouched };
+            is = λ kept request same.
+                let said : records_of_order_log request.logs.orders_form one ≡ Err bad = subst (λ (l : NamedLogs). records_of_order_log l.orders_form one ≡ Err bad) (sym same) says_so in
+                rw said refl;
+          };
         }
 
     bad_trades : (one two : List ℕ) (entries : List OrderRecord) (bad : BadPlace) → IsRead r (step_of r Orders orders.name.now) one → records_of_order_log orders.form one ≡ Ok entries → IsRead r (step_of r Trades trades.name.now) two
         → trades_of_trade_log trades.form two ≡ Err bad → Q Trades bad → ReadsBadPlace r logs Q
-    unfolding good_orders reads_as
     bad_trades one two entries bad first says second said holds =
-        let good : ReadsLogAs r logs Orders true = good_orders one entries first says in
-        let reads : ReadsLogAs r logs Trades false = reads_as Trades trades two false names.trades_name second (ap is_ok (trades_said two (Err bad) said)) in
+        let here : IsRead r (step_of r Orders logs.orders) one = named_read Orders orders one names.orders_name first in
+        let there : IsRead r (step_of r Trades logs.trades) two = named_read Trades trades two names.trades_name second in
+        let first_says : records_of_order_log logs.orders_form one ≡ Ok entries = orders_said one (Ok entries) says in
+        let second_says : trades_of_trade_log logs.trades_form two ≡ Err bad = trades_said two (Err bad) said in
         record {
           log = Trades;
           bad = bad;
           holds = holds;
-          read = record { log = Trades; in_turn = good; bad = reads };
-          turn = λ tells kept request same.
-              let first_said : records_of_order_log request.logs.orders_form one ≡ Ok entries = subst (λ (l : NamedLogs). records_of_order_log l.orders_form one ≡ Ok entries) (sym same) (orders_said one (Ok entries) says) in
-              let second_said : trades_of_trade_log request.logs.trades_form two ≡ Err bad = subst (λ (l : NamedLogs). trades_of_trade_log l.trades_form two ≡ Err bad) (sym same) (trades_said two (Err bad) said) in
-              record {
-                orders = one;
-                trades = two;
-                has_orders = subst (λ (l : NamedLogs). r.log_of Orders l.orders ≡ Some one) (sym same) (good.known tells);
-                has_trades = λ ok. subst (λ (l : NamedLogs). r.log_of Trades l.trades ≡ Some two) (sym same) (reads.known tells);
-                is = rw (first_said, second_said) refl;
-              };
+          read = record {
+            log = Trades;
+            in_turn = record { bytes = one; read = here; holds = ap is_ok first_says };
+            bad = record { bytes = two; read = there; holds = ap is_ok second_says };
+          };
+          turn = record {
+            given = digested_logs one two;
+            reads = record { orders = own_digest r Orders logs.orders one here; trades = rw first_says (own_digest r Trades logs.trades two there) };
+            is = λ kept request same.
+                let first_said : records_of_order_log request.logs.orders_form one ≡ Ok entries = subst (λ (l : NamedLogs). records_of_order_log l.orders_form one ≡ Ok entries) (sym same) first_says in
+                let second_said : trades_of_trade_log request.logs.trades_form two ≡ Err bad = subst (λ (l : NamedLogs). trades_of_trade_log l.trades_form two ≡ Err bad) (sym same) second_says in
+                rw (first_said, second_said) refl;
+          };
         }
 
     both_good : (one two : List ℕ) (entries : List OrderRecord) (paired : Result (List TradeRecord) Finding) → IsRead r (step_of r Orders orders.name.now) one → records_of_order_log orders.form one ≡ Ok entries → IsRead r (step_of r Trades trades.name.now) two
         → trades_of_trade_log trades.form two ≡ Ok paired → P entries paired → ReadsRecords r logs P
-    unfolding good_orders reads_as
     both_good one two entries paired first says second said holds =
-        let good : ReadsLogAs r logs Orders true = good_orders one entries first says in
-        let reads : ReadsLogAs r logs Trades true = reads_as Trades trades two true names.trades_name second (ap is_ok (trades_said two (Ok paired) said)) in
+        let here : IsRead r (step_of r Orders logs.orders) one = named_read Orders orders one names.orders_name first in
+        let there : IsRead r (step_of r Trades logs.trades) two = named_read Trades trades two names.trades_name second in
+        let first_says : records_of_order_log logs.orders_form one ≡ Ok entries = orders_said one (Ok entries) says in
+        let second_says : trades_of_trade_log logs.trades_form two ≡ Ok paired = trades_said two (Ok paired) said in
         record {
           orders = one;
           trades = two;
           entries = entries;
           paired = paired;
-          orders_say = orders_said one (Ok entries) says;
-          trades_say = trades_said two (Ok paired) said;
-          orders_known = good.known;
-          trades_known = reads.known;
+          orders_say = first_says;
+          trades_say = second_says;
+          orders_read = here;
+          trades_read = there;
           holds = holds;
-          good = each good reads;
+          good = each (record { bytes = one; read = here; holds = ap is_ok first_says }) (record { bytes = two; read = there; holds = ap is_ok second_says });
         }
       where
         each : ReadsLogAs r logs Orders true → ReadsLogAs r logs Trades true → (log : Which) → ReadsLogAs r logs log true
@@ -130,51 +165,53 @@ module _ (r : Reading) (logs : NamedLogs) (orders trades : Source) (names : Name
 
         by_orders : (said : Result (List OrderRecord) BadPlace) → records_of_order_log orders.form is.bytes ≡ said → ReadsAfterOrders r trades P Q said → ReadsRecords r logs P ⊎ ReadsBadPlace r logs Q
         by_orders (Ok entries) says holds = by_trades entries says holds.bytes holds.read (trades_of_trade_log trades.form holds.bytes) refl holds.holds
-        by_orders (Err bad) says holds = inr (bad_orders is.bytes bad is.read says holds.0)
+        by_orders (Err bad) says holds = inr (bad_orders is.bytes bad is.read says holds.0 holds.1)
 
   in_turn : (log : Which) → both.IsLogInTurn r orders log → IsLogInTurn r logs log
-  in_turn Orders is = tt
-  in_turn Trades is = reads_as Orders orders is.bytes true names.orders_name is.read (good_is (records_of_order_log logs.orders_form is.bytes) (subst (λ (f : Form). IsOk (records_of_order_log f is.bytes)) names.orders_form is.holds))
-    where
-      good_is : (said : Result (List OrderRecord) BadPlace) → IsOk said → is_ok said ≡ true
-      good_is (Ok x) good = refl
-      good_is (Err bad) good = good
+  in_turn Orders is = is
+  in_turn Trades is = record {
+    bytes = is.bytes;
+    read = named_read Orders orders is.bytes names.orders_name is.read;
+    holds = subst (λ (f : Form). IsOk (records_of_order_log f is.bytes)) names.orders_form is.holds;
+  }
 
   named : (log : Which) → (both.source_of orders trades log).name.now ≡ day_log_name logs log
   named Orders = names.orders_name
   named Trades = names.trades_name
 
-  unreadable : (log : Which) → both.IsLogInTurn r orders log → IsReadFault r (step_of r log (both.source_of orders trades log).name.now) → FindsLogUnreadable r logs log
-  unreadable log turn is = record {
-    in_turn = in_turn log turn;
-    cause = subst (λ (n : List ℕ). RoseOrIsFull (r.before log).faults (r.after log).faults ⊎ ((r.tells ≡ true) × (r.log_of log n ≡ None))) (named log) is.cause;
-  }
-
-  overlong : (log : Which) → both.IsLogInTurn r orders log → IsTooLong r (step_of r log (both.source_of orders trades log).name.now) → FindsLogTooLong r logs log
-  overlong log turn is = record {
-    in_turn = in_turn log turn;
-    taken = is.taken;
-    longer = subst (λ (n : List ℕ). r.tells ≡ true → IsSomeAnd (r.log_of log n) (λ bytes. r.limit < length bytes)) (named log) is.longer;
-  }
+  stops_at : (became : Reading → LogStep → Type 0) (log : Which) → both.IsLogInTurn r orders log → became r (step_of r log (both.source_of orders trades log).name.now) → StopsAtLog became r logs log
+  stops_at became log turn is = record { in_turn = in_turn log turn; holds = subst (λ (n : List ℕ). became r (step_of r log n)) (named log) is }
 
   -- why nothing is known of both logs is why a command has no answer
   pub stops_reading : (request : FilingRequest) → request.logs ≡ logs → (why : Stop) → IsStopOfTwoLogs r orders trades why → StopsReading r request (halt_of_stop why)
   stops_reading request same (stop.ReadFault log) is =
-      record { read = subst (λ (l : NamedLogs). FindsLogUnreadable r l log) (sym same) (unreadable log is.in_turn is.fault); no_keeper = λ e. cc }
+      record { read = subst (λ (l : NamedLogs). StopsAtLog IsReadFault r l log) (sym same) (stops_at IsReadFault log is.in_turn is.fault); no_keeper = λ e. cc }
   stops_reading request same (stop.TooLong log) is =
-      record { read = subst (λ (l : NamedLogs). FindsLogTooLong r l log) (sym same) (overlong log is.in_turn is.long); no_keeper = λ e. cc }
+      record { read = subst (λ (l : NamedLogs). StopsAtLog IsTooLong r l log) (sym same) (stops_at IsTooLong log is.in_turn is.long); no_keeper = λ e. cc }
   stops_reading request same stop.Memory is = record { read = tt; no_keeper = λ e. cc }
 
--- what a command leaves of logs that have records
-pub turn_of_records : (r : Reading) (logs : NamedLogs) (P : List OrderRecord → Result (List TradeRecord) Finding → Type 0) (reads : ReadsRecords r logs P) → r.tells ≡ true → (kept : List KeptCase) (request : FilingRequest) → request.logs ≡ logs → (turn : FilingTurn)
-    → IsTurnOfRecords (record { orders = digest_of reads.orders; trades = digest_of reads.trades }) kept request.label request.command turn reads.entries reads.paired → IsFilingTurn r.log_of kept request turn
-turn_of_records r logs P reads tells kept request same turn is =
-    let first_said : records_of_order_log request.logs.orders_form reads.orders ≡ Ok reads.entries = subst (λ (l : NamedLogs). records_of_order_log l.orders_form reads.orders ≡ Ok reads.entries) (sym same) reads.orders_say in
-    let second_said : trades_of_trade_log request.logs.trades_form reads.trades ≡ Ok reads.paired = subst (λ (l : NamedLogs). trades_of_trade_log l.trades_form reads.trades ≡ Ok reads.paired) (sym same) reads.trades_say in
-    record {
-      orders = reads.orders;
-      trades = reads.trades;
-      has_orders = subst (λ (l : NamedLogs). r.log_of Orders l.orders ≡ Some reads.orders) (sym same) (reads.orders_known tells);
-      has_trades = λ ok. subst (λ (l : NamedLogs). r.log_of Trades l.trades ≡ Some reads.trades) (sym same) (reads.trades_known tells);
-      is = rw (first_said, second_said) is;
-    }
+module _ (r : Reading) (logs : NamedLogs) (P : List OrderRecord → Result (List TradeRecord) Finding → Type 0) (reads : ReadsRecords r logs P) (digests : LogDigests) where
+  -- the logs that have these records, with these digests
+  abbrev pub logs_of_records : DigestedLogs
+  logs_of_records = record { orders = reads.orders; trades = reads.trades; digests = digests }
+
+  -- they were read so, where the digests were taken of them
+  pub reads_of_records : AreDigestsOfTaken r digests → (r.tells ≡ true → digests.orders ≡ digest_of reads.orders) → (r.tells ≡ true → digests.trades ≡ digest_of reads.trades) → ReadsDigestedLogs r logs logs_of_records
+  reads_of_records taken first second = record {
+    orders = digested_log r Orders logs.orders reads.orders digests.orders reads.orders_read (taken Orders) first;
+    trades = rw reads.orders_say (digested_log r Trades logs.trades reads.trades digests.trades reads.trades_read (taken Trades) second);
+  }
+
+  -- what a command leaves of them
+  pub turn_of_records : (kept : List KeptCase) (request : FilingRequest) → request.logs ≡ logs → (turn : FilingTurn) → IsTurnOfRecords digests kept request.label request.command turn reads.entries reads.paired → IsTurnOfLogs logs_of_records kept request turn
+  turn_of_records kept request same turn is =
+      let first_said : records_of_order_log request.logs.orders_form reads.orders ≡ Ok reads.entries = subst (λ (l : NamedLogs). records_of_order_log l.orders_form reads.orders ≡ Ok reads.entries) (sym same) reads.orders_say in
+      let second_said : trades_of_trade_log request.logs.trades_form reads.trades ≡ Ok reads.paired = subst (λ (l : NamedLogs). trades_of_trade_log l.trades_form reads.trades ≡ Ok reads.paired) (sym same) reads.trades_say in
+      rw (first_said, second_said) is
+
+-- they were read so, with their own digests
+pub reads_own : (r : Reading) (logs : NamedLogs) (P : List OrderRecord → Result (List TradeRecord) Finding → Type 0) (reads : ReadsRecords r logs P) → ReadsDigestedLogs r logs (digested_logs reads.orders reads.trades)
+reads_own r logs P reads = record {
+  orders = own_digest r Orders logs.orders reads.orders reads.orders_read;
+  trades = rw reads.orders_say (own_digest r Trades logs.trades reads.trades reads.trades_read);
+}

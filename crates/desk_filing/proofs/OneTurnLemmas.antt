@@ -28,7 +28,7 @@ use Rattle.record_verdict.specs.Laws.{RecordVerdictIsOne}
 use Rattle.record_verdict.specs.RecordVerdicts.{question}
 
 -- a shelf has one log under a name
-one_log : (found : Option (List ℕ)) (a b : List ℕ) → found ≡ Some a → found ≡ Some b → a ≡ b
+pub one_log : (found : Option (List ℕ)) (a b : List ℕ) → found ≡ Some a → found ≡ Some b → a ≡ b
 one_log found a b x y = cc
 
 -- there is one first difference

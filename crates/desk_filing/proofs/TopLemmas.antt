@@ -13,12 +13,13 @@ use Rattle.command_words.specs.declared.requests.WordsFault.{WordsFault}
 use Rattle.command_words.specs.declared.requests.WordsFault.TheVariants as words_fault
 use Rattle.desk_words.specs.declared.requests.NamedLogs.{NamedLogs}
 use Rattle.digest_keeper.specs.DigestKeepers.{DigestKeeperState}
-use Rattle.desk_filing.specs.Causes.{day_log_name}
+use Rattle.desk_filing.specs.Causes.{ReadsLogsUpTo, day_log_name}
 use Rattle.desk_filing.specs.DigestOpeners.{DigestOpenerState}
 use Rattle.desk_filing.specs.Runs.{EndsWithinOrAnswers, FilesAsked, FilesRequest, RunsRequest, filing_call, filing_reading}
 use Rattle.desk_filing.specs.Steps.{RefusesWords}
 use Rattle.desk_filing.specs.declared.answers.FilingOutcome.{FilingOutcome}
 use Rattle.desk_filing.specs.declared.requests.FilingRequest.{FilingRequest}
+use Rattle.desk_filing.proofs.PassLemmas.{one_pass}
 use Rattle.desk_filing.proofs.ReadyLemmas.{files_request}
 use Rattle.log_digests.specs.DigestShelves.{name_of_log}
 use Rattle.log_source.specs.Sinks.{SinkState}
@@ -72,7 +73,7 @@ files_memory shelf old request opener sink =
     (record {
       decided = status.Memory;
       text = [];
-      answers = inr (record { why = halt.Memory; read = tt; by = λ e. cc; status_is = refl; text_is = refl });
+      answers = inr (record { why = halt.Memory; read = one_pass request.command (λ pass. ReadsLogsUpTo pass request.logs halt.Memory) (filing_reading shelf request.logs old old) request.logs tt; by = λ e. cc; status_is = refl; text_is = refl });
       writes = inl (record { answer_is = refl; wrote = Appends-nil sink.wrote });
     })
     (λ begins. inl begins) (λ log. omega arith)

@@ -14,9 +14,9 @@ use Rattle.desk_words.specs.Texts.{desk_usage_line}
 use Rattle.desk_words.specs.declared.requests.NamedLogs.{NamedLogs}
 use Rattle.digest_keeper.specs.DigestKeepers.{DigestKeeperState}
 use Rattle.digest_keeper.specs.declared.digested.KeptCase.{KeptCase}
-use Rattle.desk_filing.specs.Causes.{ReadsLogsFor, ReadsLogsUpTo, day_log_name}
+use Rattle.desk_filing.specs.Causes.{HoldsOfPass, OfDigestedLogs, ReadsLogsFor, ReadsLogsUpTo, day_log_name}
 use Rattle.desk_filing.specs.DigestOpeners.{DigestOpenerState, IsDatabaseOpened, IsDatabaseRefused, kept_once_opened}
-use Rattle.desk_filing.specs.Turns.{FilingTurn, IsFilingTurn, unfiled_turn}
+use Rattle.desk_filing.specs.Turns.{DigestedLogs, FilingTurn, IsFilingTurn, IsTurnOfLogs, unfiled_turn}
 use Rattle.desk_filing.specs.declared.opener.Missing.{Missing}
 use Rattle.desk_filing.specs.declared.opener.Missing.TheVariants.{Make, Refuse}
 use Rattle.desk_filing.specs.declared.requests.FilingCommand.{FilingCommand}
@@ -75,43 +75,51 @@ pub record FilesOnNothing (logs : Which → List ℕ → Option (List ℕ)) (req
 abbrev pub NeedsDatabase : (Which → List ℕ → Option (List ℕ)) → FilingRequest → Type 0
 NeedsDatabase logs request = (request.command ≡ command.Check) ⊎ FilesOnNothing logs request
 
--- The answer is what the command leaves of what is on file, and that is on file afterwards.
-pub record LeavesTurn (logs : Which → List ℕ → Option (List ℕ)) (request : FilingRequest)
-    (the_status : CaseStatus) (text : List ℕ) (kept : List KeptCase)
-    (keeper : DigestKeeperState) : Type 0 where
+-- The answer is what the command leaves of these logs and of what is on file, and that is on file
+-- afterwards.
+pub record LeavesTurn (given : DigestedLogs) (request : FilingRequest) (the_status : CaseStatus)
+    (text : List ℕ) (kept : List KeptCase) (keeper : DigestKeeperState) : Type 0 where
   pub left : List KeptCase
-  pub is : IsFilingTurn logs kept request (record { kept = left; text = text; status = the_status })
+  pub is : IsTurnOfLogs given kept request
+      (record { kept = left; text = text; status = the_status })
   pub kept_is : keeper.kept ≡ Some left
 
 -- The command was answered over a database that was opened, and that it needed: where it is known
--- which logs there are and what is on file, by these; and only a command that is done changes what
--- is on file.
-pub record AnswersOver (call : FilingCall) (request : FilingRequest) (the_status : CaseStatus)
-    (text : List ℕ) (keeper : DigestKeeperState) : Type 0 where
+-- what is on file, by that and by the logs that were read; and only a command that is done changes
+-- what is on file.
+pub record AnswersOver (call : FilingCall) (given : DigestedLogs) (request : FilingRequest)
+    (the_status : CaseStatus) (text : List ℕ) (keeper : DigestKeeperState) : Type 0 where
   pub opened : DigestKeeperState
   pub is_opened : IsDatabaseOpened call.opener_old request.database
       (missing_database request.command) opened
-  pub turn : call.reading.tells ≡ true → (kept : List KeptCase) → opened.kept ≡ Some kept
-      → LeavesTurn call.reading.log_of request the_status text kept keeper
+  pub turn : (kept : List KeptCase) → opened.kept ≡ Some kept
+      → LeavesTurn given request the_status text kept keeper
   pub needed : call.reading.tells ≡ true → NeedsDatabase call.reading.log_of request
   pub stays : the_status ≢ status.Done → keeper.kept ≡ opened.kept
 
 -- where the database was not opened, the answer is the same whatever is on file, and changes
 -- nothing of it
-abbrev pub AnswersBy : FilingCall → FilingRequest → CaseStatus → List ℕ → Option DigestKeeperState
-    → Type 0
-AnswersBy call request the_status text None =
-    (the_status ≢ status.Done) × (call.reading.tells ≡ true → (kept : List KeptCase)
-    → IsFilingTurn call.reading.log_of kept request (unfiled_turn kept the_status text))
-AnswersBy call request the_status text (Some keeper) =
-    AnswersOver call request the_status text keeper
+abbrev pub AnswersBy : FilingCall → DigestedLogs → FilingRequest → CaseStatus → List ℕ
+    → Option DigestKeeperState → Type 0
+AnswersBy call given request the_status text None =
+    (the_status ≢ status.Done) × ((kept : List KeptCase)
+    → IsTurnOfLogs given kept request (unfiled_turn kept the_status text))
+AnswersBy call given request the_status text (Some keeper) =
+    AnswersOver call given request the_status text keeper
 
--- The command was answered: its logs were read as its status says, and the answer is that of what
--- they are and of what is on file.
-pub record AnswersRequest (call : FilingCall) (request : FilingRequest) (the_status : CaseStatus)
-    (text : List ℕ) : Type 0 where
-  pub read : ReadsLogsFor call.reading request.logs the_status
-  pub by : AnswersBy call request the_status text call.keeper
+-- The command was answered of one pass over its logs: they were read as its status says, and the
+-- answer is that of the bytes and digests that they gave and of what is on file.
+pub record AnswersOfPass (call : FilingCall) (request : FilingRequest) (the_status : CaseStatus)
+    (text : List ℕ) (pass : Reading) : Type 0 where
+  pub read : ReadsLogsFor pass request.logs the_status
+  pub by : OfDigestedLogs
+      (λ given. AnswersBy call given request the_status text call.keeper) pass request.logs
+
+-- the command was answered, of the last pass over its logs
+abbrev pub AnswersRequest : FilingCall → FilingRequest → CaseStatus → List ℕ → Type 0
+AnswersRequest call request the_status text =
+    HoldsOfPass request.command (AnswersOfPass call request the_status text) call.reading
+    request.logs
 
 -- Why there is no answer.
 
@@ -137,11 +145,13 @@ abbrev pub HaltsBy : FilingCall → FilingRequest → Halt → Option DigestKeep
 HaltsBy call request why None = why ≡ halt.KeeperFault → LacksDatabase call request
 HaltsBy call request why (Some keeper) = HaltsOver call request why keeper
 
--- The command has no answer for this cause, and nothing is filed: its line is written.
+-- The command has no answer for this cause, which is that of the last pass over its logs, and
+-- nothing is filed: its line is written.
 pub record HaltsRequest (call : FilingCall) (request : FilingRequest) (the_status : CaseStatus)
     (text : List ℕ) : Type 0 where
   pub why : Halt
-  pub read : ReadsLogsUpTo call.reading request.logs why
+  pub read : HoldsOfPass request.command (λ pass. ReadsLogsUpTo pass request.logs why)
+      call.reading request.logs
   pub by : HaltsBy call request why call.keeper
   pub status_is : the_status ≡ halt_status why
   pub text_is : text ≡ halt_line why

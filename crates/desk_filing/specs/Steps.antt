@@ -1,5 +1,5 @@
 -- What private functions pass on to one another.
-use Rattle.std.specs.Prelude.{◌≡◌, ◌≢◌, ◌⊎◌, ◌≤◌, ℕ, true, List, Option, Some, None, Result, Ok, IfOk, IsErrOf, MatchResult}
+use Rattle.std.specs.Prelude.{◌≡◌, ◌≢◌, ◌⊎◌, ◌≤◌, ℕ, List, Option, Some, None, Result, Ok, IfOk, IsErrOf, MatchResult}
 use Rattle.std.specs.List.{flat_map}
 use Rattle.audit_base.specs.declared.faults.BadPlace.{BadPlace}
 use Rattle.audit_base.specs.declared.findings.Finding.{Finding}
@@ -27,17 +27,18 @@ use Rattle.digest_keeper.specs.KeptCases.{kept_under}
 use Rattle.log_digests.specs.declared.digests.LogDigests.{LogDigests}
 use Rattle.digest_keeper.specs.declared.digested.DigestedCase.{DigestedCase}
 use Rattle.digest_keeper.specs.declared.digested.KeptCase.{KeptCase}
-use Rattle.desk_filing.specs.Causes.{ReadsBadLog, ReadsGoodLogs, ReadsLogsFor, ReadsLogsUpTo}
+use Rattle.desk_filing.specs.Causes.{HoldsOfPass, OfDigestedLogs, ReadsBadLog, ReadsGoodLogs, ReadsLogsFor, ReadsLogsUpTo}
 use Rattle.desk_filing.specs.Runs.{AnswersRequest, FilingCall, HaltsRequest}
-use Rattle.desk_filing.specs.Turns.{FilingTurn, IsFilingTurn, filed_turn, first_known, unfiled_turn}
+use Rattle.desk_filing.specs.Turns.{FilingTurn, IsTurnOfLogs, filed_turn, first_known, unfiled_turn}
 use Rattle.case_run.specs.declared.answers.CaseAnswer.{CaseAnswer}
 use Rattle.desk_filing.specs.declared.answers.FilingOutcome.{FilingOutcome}
 use Rattle.desk_filing.specs.declared.answers.FilingOutcome.TheVariants as judged
+use Rattle.desk_filing.specs.declared.requests.FilingCommand.TheVariants.{Check}
 use Rattle.desk_filing.specs.declared.requests.FilingRequest.{FilingRequest}
 use Rattle.log_source.specs.Sinks.{SinkState}
 use Rattle.log_source.specs.Sources.{RoseOrIsFull}
 use Rattle.log_verdict.specs.LogVerdicts.{records_of_order_log, trades_of_trade_log}
-use Rattle.log_verdict.specs.Steps.{Reading, FaultsNeverFall}
+use Rattle.log_verdict.specs.Steps.{Reading, FaultsNeverFall, IsRead, step_of}
 use Rattle.log_verdict.specs.declared.sources.Source.{Source}
 
 -- the lines of cases, in their order
@@ -62,8 +63,8 @@ pub record ReadsRecords (r : Reading) (logs : NamedLogs)
   pub paired : Result (List TradeRecord) Finding
   pub orders_say : records_of_order_log logs.orders_form orders ≡ Ok entries
   pub trades_say : trades_of_trade_log logs.trades_form trades ≡ Ok paired
-  pub orders_known : r.tells ≡ true → r.log_of Orders logs.orders ≡ Some orders
-  pub trades_known : r.tells ≡ true → r.log_of Trades logs.trades ≡ Some trades
+  pub orders_read : IsRead r (step_of r Orders logs.orders) orders
+  pub trades_read : IsRead r (step_of r Trades logs.trades) trades
   pub holds : of_records entries paired
   pub good : ReadsGoodLogs r logs
 
@@ -74,9 +75,9 @@ pub record ReadsBadPlace (r : Reading) (logs : NamedLogs) (of_bad : Which → Ba
   pub bad : BadPlace
   pub holds : of_bad log bad
   pub read : ReadsBadLog r logs
-  pub turn : r.tells ≡ true → (kept : List KeptCase) (request : FilingRequest)
-      → request.logs ≡ logs → IsFilingTurn r.log_of kept request
-      (unfiled_turn kept status.Malformed (malformed_line log bad))
+  pub turn : OfDigestedLogs (λ given. (kept : List KeptCase) (request : FilingRequest)
+      → request.logs ≡ logs → IsTurnOfLogs given kept request
+      (unfiled_turn kept status.Malformed (malformed_line log bad))) r logs
 
 -- whatever the records are
 abbrev pub AnyRecords : List OrderRecord → Result (List TradeRecord) Finding → Type 0
@@ -88,15 +89,16 @@ AnyRecords entries paired = Unit {0}
 pub record ReadsCases (r : Reading) (request : FilingRequest) (cases : List DigestedCase)
     : Type 0 where
   pub read : ReadsGoodLogs r request.logs
-  pub turn : r.tells ≡ true → (kept : List KeptCase)
-      → IsFilingTurn r.log_of kept request (filed_turn kept cases)
+  pub turn : OfDigestedLogs (λ given. (kept : List KeptCase)
+      → IsTurnOfLogs given kept request (filed_turn kept cases)) r request.logs
 
 -- This is the answer to two logs of which nothing is filed.
 pub record ReadsRefusal (r : Reading) (request : FilingRequest) (answer : CaseAnswer) : Type 0 where
   pub read : ReadsLogsFor r request.logs answer.status
   pub not_done : answer.status ≢ status.Done
-  pub turn : r.tells ≡ true → (kept : List KeptCase)
-      → IsFilingTurn r.log_of kept request (unfiled_turn kept answer.status answer.text.items)
+  pub turn : OfDigestedLogs (λ given. (kept : List KeptCase)
+      → IsTurnOfLogs given kept request (unfiled_turn kept answer.status answer.text.items))
+      r request.logs
 
 -- what two logs come to
 abbrev pub ReadsJudged : Reading → FilingRequest → FilingOutcome → Type 0
@@ -179,37 +181,46 @@ abbrev pub both_readings : Reading → Reading → Reading
 both_readings first second = record first { after = second.after }
 
 -- The answer is that about the case that is on file under the label, or about none.
-pub record TellsOfKept (r : Reading) (request : FilingRequest) (found : Option KeptCase)
-    (answer : CaseAnswer) : Type 0 where
+pub record TellsOfKept (request : FilingRequest) (found : Option KeptCase) (answer : CaseAnswer)
+    (r : Reading) : Type 0 where
   pub read : ReadsLogsFor r request.logs answer.status
-  pub turn : r.tells ≡ true → (kept : List KeptCase) → kept_under kept request.label ≡ found
-      → IsFilingTurn r.log_of kept request (unfiled_turn kept answer.status answer.text.items)
+  pub turn : OfDigestedLogs (λ given. (kept : List KeptCase)
+      → kept_under kept request.label ≡ found → IsTurnOfLogs given kept request
+      (unfiled_turn kept answer.status answer.text.items)) r request.logs
 
 -- the answer about a case and its digests, or why there is none
 abbrev pub ComparesOrStops : Reading → FilingRequest → Case → LogDigests → Result CaseAnswer Halt
     → Type 0
 ComparesOrStops r request case filed result =
     MatchResult result
-    (TellsOfKept r request (Some (record { case = case; digests = Some filed })))
+    (λ answer. TellsOfKept request (Some (record { case = case; digests = Some filed })) answer r)
     (StopsReading r request)
 
--- the answer about the case that is on file, or why there is none
+-- the answer about the case that is on file, or why there is none, of one pass or of two
 abbrev pub ChecksKept : Reading → FilingRequest → Option KeptCase → Result CaseAnswer Halt → Type 0
 ChecksKept r request found result =
-    MatchResult result (TellsOfKept r request found) (StopsReading r request)
+    MatchResult result
+    (λ answer. HoldsOfPass Check (TellsOfKept request found answer) r request.logs)
+    (λ why. HoldsOfPass Check (λ pass. StopsReading pass request why) r request.logs)
+
+-- The answer is that of checking.
+pub record ChecksPass (old : DigestKeeperState) (request : FilingRequest) (answer : CaseAnswer)
+    (r : Reading) : Type 0 where
+  pub read : ReadsLogsFor r request.logs answer.status
+  pub turn : OfDigestedLogs (λ given. (kept : List KeptCase) → old.kept ≡ Some kept
+      → IsTurnOfLogs given kept request (unfiled_turn kept answer.status answer.text.items))
+      r request.logs
 
 -- The answer is that of checking, and what is on file stays.
 pub record ChecksLogs (r : Reading) (old new : DigestKeeperState) (request : FilingRequest)
     (answer : CaseAnswer) : Type 0 where
-  pub read : ReadsLogsFor r request.logs answer.status
+  pub passes : HoldsOfPass Check (ChecksPass old request answer) r request.logs
   pub stays : new.kept ≡ old.kept
-  pub turn : r.tells ≡ true → (kept : List KeptCase) → old.kept ≡ Some kept
-      → IsFilingTurn r.log_of kept request (unfiled_turn kept answer.status answer.text.items)
 
 -- Checking stopped for this cause, and what is on file stays.
 pub record StopsChecking (r : Reading) (old new : DigestKeeperState) (request : FilingRequest)
     (why : Halt) : Type 0 where
-  pub read : ReadsLogsUpTo r request.logs why
+  pub read : HoldsOfPass Check (λ pass. ReadsLogsUpTo pass request.logs why) r request.logs
   pub stays : new.kept ≡ old.kept
   pub fault : why ≡ halt.KeeperFault → RoseOrIsFull old.faults new.faults
 

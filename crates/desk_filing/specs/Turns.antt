@@ -212,6 +212,27 @@ IsTurnOfRecords digests kept label command.Check turn entries paired =
 abbrev pub IsBadTurn : List KeptCase → FilingTurn → Which → BadPlace → Type 0
 IsBadTurn kept turn log bad = turn ≡ unfiled_turn kept status.Malformed (malformed_line log bad)
 
+-- Two logs: their bytes, and their digests.
+pub record DigestedLogs : Type 0 where
+  pub orders : List ℕ
+  pub trades : List ℕ
+  pub digests : LogDigests
+
+-- logs of these bytes, with the digests of these
+abbrev pub digested_logs : List ℕ → List ℕ → DigestedLogs
+digested_logs orders trades = record {
+  orders = orders;
+  trades = trades;
+  digests = record { orders = digest_of orders; trades = digest_of trades };
+}
+
+-- what a command leaves of two logs that have these bytes and digests
+abbrev pub IsTurnOfLogs : DigestedLogs → List KeptCase → FilingRequest → FilingTurn → Type 0
+IsTurnOfLogs given kept request turn =
+    OfLogs (IsTurnOfRecords given.digests kept request.label request.command turn)
+    (IsBadTurn kept turn)
+    (log_in request.logs.orders_form given.orders) (log_in request.logs.trades_form given.trades)
+
 -- What a command leaves, of the logs under its names. The trade log is needed only where the order
 -- log is good; the digests are those of the whole bytes of both.
 pub record IsFilingTurn (logs : Which → List ℕ → Option (List ℕ)) (kept : List KeptCase)
@@ -221,8 +242,4 @@ pub record IsFilingTurn (logs : Which → List ℕ → Option (List ℕ)) (kept 
   pub has_orders : logs Orders request.logs.orders ≡ Some orders
   pub has_trades : IsOk (records_of_order_log request.logs.orders_form orders)
       → logs Trades request.logs.trades ≡ Some trades
-  pub is : OfLogs
-      (IsTurnOfRecords (record { orders = digest_of orders; trades = digest_of trades })
-      kept request.label request.command turn)
-      (IsBadTurn kept turn)
-      (log_in request.logs.orders_form orders) (log_in request.logs.trades_form trades)
+  pub is : IsTurnOfLogs (digested_logs orders trades) kept request turn

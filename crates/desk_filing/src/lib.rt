@@ -8,7 +8,7 @@
 //! files the cases (`filing`), or tells what is not as a case has it (`checking`, `differences`).
 //!
 //! Proved: what one command leaves is said over the bytes of the logs and what is on file
-//! (`specs/Turns`), and is one (`laws`). Not proved: what the database has on its disk.
+//! (`specs/Turns`), and is one, and what was filed is found to be the same (`laws`). Not proved: what the database has on its disk.
 #![tactic(auto)]
 
 mod answers;

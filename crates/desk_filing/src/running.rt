@@ -1,6 +1,6 @@
 //! The top call of filing: from the words of a command line to what is on file, the text that is
 //! written and the status.
-ghost use Rattle.std.specs.Prelude.{◌≡◌, false, map};
+ghost use Rattle.std.specs.Prelude.{◌≡◌, ℕ, List, false, map};
 ghost use Rattle.std.specs.Option.{option_map};
 ghost use Rattle.std.specs.String.{string_bytes};
 ghost use Rattle.audit_base.specs.declared.terms.Which.{Which};
@@ -11,7 +11,7 @@ ghost use Rattle.desk_filing.specs.Steps.{RefusesWords};
 ghost use Rattle.desk_filing.specs.Words.{filing_request_of};
 ghost use Rattle.log_source.specs.Sinks.{SinkStays};
 ghost use Rattle.log_source.specs.Sources.{longest_read};
-ghost use Rattle.log_verdict.specs.Steps.{reading_within};
+ghost use Rattle.log_verdict.specs.Steps.{reading_within, KeepsShelfLogs};
 
 use crate::checking_databases::check;
 use crate::databases::file_judged;
@@ -26,6 +26,7 @@ use case_run::writing::write_text;
 use command_words::requests::WordsFault;
 use desk_words::texts::desk_usage_text;
 use log_digests::digest_shelf::DigestShelf;
+use log_digests::same_logs::{SameLogs, ShelfLogs};
 use log_source::shelf::Shelf;
 use log_source::sink::Sink;
 use log_verdict::runs::Ran;
@@ -33,6 +34,7 @@ use log_verdict::sources::{LogSources, Source};
 use record_verdict::questions::Question;
 use seeded_hash::seed::HashSeed;
 use std::alloc::Global;
+use std::marker::Brand;
 
 /// What a call hands back: the shelf that its logs were read from; and the keeper of what is on
 /// file, where the database was opened.
@@ -94,8 +96,8 @@ fn run_over<'a, F: Shelf, K: Sink, O: DigestOpener>(
     }
 }
 
-/// Does what a request asks for, with the logs under its names.
-fn run_request<F: Shelf, K: Sink, O: DigestOpener>(
+/// Does what a request asks for over a shelf of these logs, with those under its names.
+fn run_request<L: ShelfLogs, F: Shelf, K: Sink, O: DigestOpener>(
     alloc: Global,
     seed: HashSeed,
     request: &FilingRequest,
@@ -104,6 +106,10 @@ fn run_request<F: Shelf, K: Sink, O: DigestOpener>(
     opener: &mut O,
 ) -> Ran<CaseStatus, HandedBack<F, O::Book>>
     requires fresh { (which : Which) → (F.slot shelf which).started ≡ false }
+    requires tells { F.tells shelf ≡ L.tells }
+    requires logs { (which : Which) (name : List ℕ) →
+        F.log_of shelf which name ≡ L.log_of which name }
+    ensures logs { KeepsShelfLogs F.Shelf shelf result.back.shelf }
     ensures files { let r = filing_reading F.Shelf request.now.logs shelf result.back.shelf in
         FilesRequest (filing_call r (O.state opener.old) (O.state opener.new)
         (option_map O.Book.state result.back.keeper)) request.now (K.state out.old)
@@ -112,13 +118,14 @@ fn run_request<F: Shelf, K: Sink, O: DigestOpener>(
     ensures stays { SinkStays (K.state out.old) (K.state out.new) }
 {
     let (orders, trades) = (request.logs.orders.as_str(), request.logs.trades.as_str());
-    let mut taking = DigestShelf::over(shelf, orders, trades);
+    let same = SameLogs::<L, F>::of(shelf);
+    let mut taking = DigestShelf::over(same, orders, trades);
     let ran = run_over(alloc, seed, request, &mut taking, out, opener);
     Ran {
         status: ran.status,
         stop: ran.stop,
         back: HandedBack {
-            shelf: taking.into_shelf(),
+            shelf: taking.into_shelf().into_shelf(),
             keeper: ran.back,
         },
     }
@@ -131,13 +138,16 @@ fn run_request<F: Shelf, K: Sink, O: DigestOpener>(
 /// The words are those of `read_filing_words`. `Usage` comes exactly where they are not well-formed
 /// (`WriteFault` where the usage line could not be written), and the shelf is then as it was. Both
 /// logs are read and judged before the database is opened, and it is opened only to check, or where
-/// they come to cases that are to be filed. `ReadFault` comes only where a log could not be read,
-/// `TooLong` where one has more than 34,359,738,368 bytes, `Malformed` where one is not in its
-/// grammar, `KeeperFault` only where the database could not be opened or its keeper's faults rose,
+/// they come to cases that are to be filed. Each log is started once, the trade log only after an
+/// order log in its grammar; `check` goes over them at most twice. The verdict that is filed or
+/// compared is of the bytes that were read last; so are the digests, where the logs of the shelf
+/// are known, and else each is that of as many bytes. The shelf has under every name what it had.
+/// `ReadFault` comes only where a log could not be read, `TooLong` where one has more than
+/// 34,359,738,368 bytes, `Malformed` where one is not in its grammar, `KeeperFault` only where the database could not be opened or its keeper's faults rose,
 /// `WriteFault` only where the sink's did, and `Memory` where memory ran out. Only after `Done`,
 /// and after `WriteFault` in its place, something was filed: all cases of the command, or none. Of
 /// a log that was refused nothing is filed. What a command leaves of logs and of what is on file is
-/// one (`one_filing_turn`).
+/// one (`one_filing_turn`), and `check` finds what `file` filed to be the same (`filed_is_same`).
 ///
 /// The hashes by which names are found begin with the fixed seed: see `run_filing_seeded` for logs
 /// whose names may have been chosen to make this slow.
@@ -153,6 +163,7 @@ pub fn run_filing<F: Shelf, K: Sink, O: DigestOpener>(
         (filing_request_of (map string_bytes words.now)) (O.state opener.old) (O.state opener.new)
         (option_map O.Book.state result.back.keeper) (K.state out.old) (K.state out.new)
         result.status }
+    ensures logs { KeepsShelfLogs F.Shelf shelf result.back.shelf }
     ensures opener { KeepsDatabases (O.state opener.old) (O.state opener.new) }
     ensures sink { SinkStays (K.state out.old) (K.state out.new) }
     ensures one { OneFilingTurn }
@@ -174,13 +185,14 @@ pub fn run_filing_seeded<F: Shelf, K: Sink, O: DigestOpener>(
         (filing_request_of (map string_bytes words.now)) (O.state opener.old) (O.state opener.new)
         (option_map O.Book.state result.back.keeper) (K.state out.old) (K.state out.new)
         result.status }
+    ensures logs { KeepsShelfLogs F.Shelf shelf result.back.shelf }
     ensures opener { KeepsDatabases (O.state opener.old) (O.state opener.new) }
     ensures sink { SinkStays (K.state out.old) (K.state out.new) }
     ensures one { OneFilingTurn }
 {
     one_filing_turn();
     match read_filing_words(alloc, words) {
-        Ok(request) => run_request(alloc, seed, &request, shelf, out, opener),
+        Ok(request) => { run_request::<Brand, F, K, O>(alloc, seed, &request, shelf, out, opener) }
         Err(fault) => Ran {
             status: refuse_words(out, fault),
             stop: None,

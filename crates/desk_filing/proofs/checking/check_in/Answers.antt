@@ -8,8 +8,8 @@ returns-in-Ok-Some-clause-checks g c = λ first on reads.
 
 pub returns-in_ok-no_case_text-in-Ok-None-clause-checks : goal.returns-in_ok-no_case_text-in-Ok-None-clause-checks
 returns-in_ok-no_case_text-in-Ok-None-clause-checks g c = λ first on reads.
-    checks_none _ c.args.request.now _ _ _ (rw c.in-Ok-None.field-0-is at c.in-Ok-None.ensures) (tells_no_case first _ on c.args.request.now refl reads c.requires.asked _ refl c.in_ok-no_case_text-in-Ok-None.ensures)
+    checks_none _ c.args.request.now _ _ _ (rw c.in-Ok-None.field-0-is at c.in-Ok-None.ensures) (tells_no_case first _ on c.args.request.now reads refl c.requires.asked _ refl c.in_ok-no_case_text-in-Ok-None.ensures)
 
 pub returns-in-Err-clause-checks : goal.returns-in-Err-clause-checks
 returns-in-Err-clause-checks g c = λ first on reads.
-    rw c.from.ensures (keeper_stops first _ on c.args.request.now refl reads _ _ c.in-Err.fault c.in-Err.ensures)
+    rw c.from.ensures (keeper_stops first _ on c.args.request.now reads refl _ _ c.in-Err.fault c.in-Err.ensures)

@@ -18,7 +18,7 @@ returns-in-Ok-clause-length g c = ends_at c.args.logs.now.orders _ _ _ c.check_i
 pub returns-in-Err-clause-runs : goal.returns-in-Err-clause-runs
 returns-in-Err-clause-runs g c = λ first on reads.
     rw c.end_unopened.ensures.unopened (c.end_unopened.ensures.runs _ c.args.request.now
-    (rw c.from.ensures (decides_unopened _ (g.O.DigestOpener.state c.args.opener.now) (g.O.DigestOpener.state c.open.new.self) c.args.request.now (good_both first _ on c.args.request.now refl reads) (λ tells. inl c.requires.asked) Refuse (ap missing_database c.requires.asked) c.in-Err.fault
+    (rw c.from.ensures (decides_unopened _ (g.O.DigestOpener.state c.args.opener.now) (g.O.DigestOpener.state c.open.new.self) c.args.request.now (good_both first _ on c.args.request.now reads refl) (λ tells. inl c.requires.asked) Refuse (ap missing_database c.requires.asked) c.in-Err.fault
     (λ e. rw c.as_str.ensures at (c.in-Err.ensures.cause (ap Err e))))))
 
 pub returns-in-Err-clause-length : goal.returns-in-Err-clause-length
