@@ -1,6 +1,6 @@
 -- The columns of the picture: some places each, with the least and the greatest best limit and
 -- price there.
-use Rattle.std.specs.Prelude.{◌≡◌, ◌<◌, ◌≤◌, ◌+◌, ◌-◌, ℕ, suc, max, nat_lt, List, [], ◌∷◌, Option, None, Some, if◌then◌else◌, All, length}
+use Rattle.std.specs.Prelude.{◌≡◌, ◌<◌, ◌≤◌, ◌+◌, ◌-◌, ◌/◌, ℕ, suc, max, min, nat_lt, List, [], ◌∷◌, Option, None, Some, if◌then◌else◌, All, length}
 use Rattle.audit_base.specs.declared.orders.Deal.{Deal}
 use Rattle.audit_base.specs.declared.orders.Order.{Order}
 use Rattle.audit_base.specs.declared.terms.Side.{Side}
@@ -58,11 +58,23 @@ AreInRow from end (column ∷ columns) =
 abbrev pub next_edge : ℕ → ℕ → ℕ → ℕ
 next_edge first end width = if nat_lt width (end - first) then first + width else end
 
+-- how many places a column has: ⌈n/1000⌉ of n
+abbrev pub column_width : ℕ → ℕ
+column_width places = (places + 999) / 1000
+
+-- the column has as many places as this, or what is left before the end
+abbrev pub HasWidth : ℕ → ℕ → PlaceColumn → Type 0
+HasWidth width end column = column.next ≡ min (column.first + width) end
+
 -- the columns have all places from that of the first order to before another, one after another;
--- there are at most 1,000 of them, and with as many places each has one
+-- there are at most 1,000 of them, and with as many places each has one; each has ⌈n/1000⌉ of the n
+-- places, and the last one what is left, so that of more than 1,000 places there are more than 500
+-- columns
 pub record AreColumns (orders : List Order) (deals : List Deal) (end : ℕ)
     (columns : List PlaceColumn) : Type 0 where
   pub row : AreInRow (place_at orders 0) (max (place_at orders 0) end) columns
   pub each : All (IsColumn orders deals) columns
   pub few : length columns ≤ 1000
+  pub wide : All (HasWidth (column_width (end - place_at orders 0)) end) columns
+  pub many : place_at orders 0 + 1000 < end → 500 < length columns
   pub single : end ≤ place_at orders 0 + 1000 → All (λ c. c.next ≡ suc c.first) columns

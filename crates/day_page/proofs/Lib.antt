@@ -4,3 +4,4 @@ mod FieldLemmas
 mod FileLemmas
 mod LineLemmas
 mod RowLemmas
+mod RelativeLemmas

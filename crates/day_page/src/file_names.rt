@@ -1,6 +1,7 @@
 //! The name of the page of a symbol, and the address of a link to it.
-ghost use Rattle.std.specs.Prelude.{◌≡◌, ◌<◌, ◌++◌, true, IfOk, OnOk};
+ghost use Rattle.std.specs.Prelude.{◌≡◌, ◌<◌, ◌++◌, true, IfOk, IsTrue, OnOk};
 ghost use Rattle.std.specs.List.{flat_map};
+ghost use Rattle.page_markup.specs.Addresses.{is_relative};
 ghost use Rattle.day_page.specs.FileNames as spec;
 
 use audit_base::faults::NoMemory;
@@ -34,7 +35,8 @@ fn hex_digit(number: u8) -> u8
 
 /// Appends a byte of a symbol as it stands in a file name.
 fn append_file_byte(is_first: bool, byte: u8, out: &mut Vec<u8>) -> Result<(), NoMemory>
-    ensures { OnOk result (out.new.items ≡ out.old.items ++ spec.file_byte is_first byte) }
+    ensures written { OnOk result (out.new.items ≡ out.old.items ++ spec.file_byte is_first byte) }
+    ensures relative { IsTrue (is_relative (spec.file_byte is_first byte)) }
 {
     if is_file_byte(is_first, byte) {
         out.push(byte)?;
@@ -48,7 +50,9 @@ fn append_file_byte(is_first: bool, byte: u8, out: &mut Vec<u8>) -> Result<(), N
 
 /// Appends the bytes of a symbol as they stand in a file name.
 fn append_file_bytes(symbol: &[u8], out: &mut Vec<u8>) -> Result<(), NoMemory>
-    ensures { OnOk result (out.new.items ≡ out.old.items ++ spec.file_bytes true symbol.now) }
+    ensures written { OnOk result
+        (out.new.items ≡ out.old.items ++ spec.file_bytes true symbol.now) }
+    ensures relative { OnOk result (IsTrue (is_relative (spec.file_bytes true symbol.now))) }
 {
     let mut is_first = true;
     for byte in symbol {
@@ -58,9 +62,10 @@ fn append_file_bytes(symbol: &[u8], out: &mut Vec<u8>) -> Result<(), NoMemory>
     Ok(())
 }
 
-/// The name of the page of a symbol.
+/// The name of the page of a symbol, which is that of a file beside other pages.
 pub fn file_name(alloc: Global, symbol: &[u8]) -> Result<Vec<u8>, NoMemory>
-    ensures { IfOk result (λ name. name.items ≡ spec.file_name symbol.now) }
+    ensures written { IfOk result (λ name. name.items ≡ spec.file_name symbol.now) }
+    ensures relative { IfOk result (λ name. IsTrue (is_relative name.items)) }
 {
     let mut name = Vec::new(alloc);
     append_file_bytes(symbol, &mut name)?;
@@ -93,7 +98,8 @@ fn append_address(name: &[u8], out: &mut Vec<u8>) -> Result<(), NoMemory>
 
 /// The address of a link to the page of a symbol.
 pub fn page_address(alloc: Global, symbol: &[u8]) -> Result<Vec<u8>, NoMemory>
-    ensures { IfOk result (λ address. address.items ≡ spec.page_address symbol.now) }
+    ensures written { IfOk result (λ address. address.items ≡ spec.page_address symbol.now) }
+    ensures relative { IfOk result (λ address. IsTrue (is_relative address.items)) }
 {
     let name = file_name(alloc, symbol)?;
     let mut address = Vec::new(alloc);

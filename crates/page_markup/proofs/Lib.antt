@@ -1,2 +1,3 @@
 mod EscapeLemmas
 mod TreeLemmas
+mod NameLemmas

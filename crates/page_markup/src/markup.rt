@@ -1,8 +1,10 @@
 //! Markup that is put together from texts and elements.
-ghost use Rattle.std.specs.Prelude.{◌≡◌, ◌++◌, [], IfOk, OnOk};
+ghost use Rattle.std.specs.Prelude.{◌≡◌, ◌++◌, [], IfOk, IsTrue, OnOk};
 ghost use Rattle.std.specs.List.{flat_map};
+ghost use Rattle.page_markup.specs.Addresses.{is_relative};
 ghost use Rattle.page_markup.specs.Escapes.{escaped};
-ghost use Rattle.page_markup.specs.Trees.{attribute_text, element_text, end_text, meta_text, page_text, start_text};
+ghost use Rattle.page_markup.specs.Trees.{IsNestedPage, attribute_text, element_text, end_text};
+ghost use Rattle.page_markup.specs.Trees.{link_start, link_text, meta_text, page_text, start_text};
 
 use crate::escapes::append_escaped;
 use crate::words::{AttributeName, Tag};
@@ -17,8 +19,8 @@ pub struct Attribute<'a> {
     pub value: &'a [u8],
 }
 
-/// Texts and elements, one after another, each element with what is in it and its end. Contracts
-/// see how it is written.
+/// Texts, elements and links, one after another, each element and link with what is in it and its
+/// end. Contracts see how it is written.
 #[derive(Drop)]
 pub struct Markup {
     text: Vec<u8>,
@@ -84,6 +86,16 @@ fn append_end(tag: Tag, out: &mut Vec<u8>) -> Result<(), NoMemory>
     Ok(())
 }
 
+/// Appends the start of a link.
+fn append_link_start(address: &[u8], out: &mut Vec<u8>) -> Result<(), NoMemory>
+    ensures { OnOk result (out.new.items ≡ out.old.items ++ link_start address.now) }
+{
+    out.extend_from_slice(b"<a href=\"")?;
+    append_escaped(address, out)?;
+    out.extend_from_slice(b"\">")?;
+    Ok(())
+}
+
 impl Markup {
     /// No markup.
     pub fn new(alloc: Global) -> Self
@@ -128,6 +140,18 @@ impl Markup {
         Ok(Markup { text })
     }
 
+    /// With a link behind it to this address, which names a file beside the page, on what is in it.
+    pub fn with_link(self, address: &[u8], inner: &Markup) -> Result<Self, NoMemory>
+        requires { IsTrue (is_relative address.now) }
+        ensures { IfOk result (λ made. made ≡ self ++ link_text address.now inner.now) }
+    {
+        let mut text = self.text;
+        append_link_start(address, &mut text)?;
+        text.extend_from_slice(inner.text.as_slice())?;
+        text.extend_from_slice(b"</a>")?;
+        Ok(Markup { text })
+    }
+
     /// With a `meta` behind it, which has nothing in it and no end.
     pub fn with_meta(self, attributes: &[Attribute<'_>]) -> Result<Self, NoMemory>
         ensures { IfOk result (λ made. made ≡ self ++ meta_text attributes.now) }
@@ -148,7 +172,8 @@ impl Markup {
 
     /// The text of the page whose root this is.
     pub fn page(&self, alloc: Global) -> Result<Vec<u8>, NoMemory>
-        ensures { IfOk result (λ made. made.items ≡ page_text self.now) }
+        ensures page { IfOk result (λ made. made.items ≡ page_text self.now) }
+        ensures nested { IfOk result (λ made. IsNestedPage made.items) }
     {
         let mut text = Vec::new(alloc);
         text.extend_from_slice(b"<!DOCTYPE html>\n")?;

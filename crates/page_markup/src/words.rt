@@ -27,8 +27,6 @@ pub enum Tag {
     Paragraph,
     /// Words of a command line.
     Code,
-    /// A link.
-    Link,
     /// A table.
     Table,
     /// What a table is about.
@@ -80,7 +78,6 @@ impl Tag {
             Tag::H2 => b"h2",
             Tag::Paragraph => b"p",
             Tag::Code => b"code",
-            Tag::Link => b"a",
             Tag::Table => b"table",
             Tag::Caption => b"caption",
             Tag::TableHead => b"thead",
@@ -114,8 +111,6 @@ pub enum AttributeName {
     Content,
     /// The style that an element has.
     Class,
-    /// Where a link leads.
-    Href,
     /// Whether a heading is that of a column or of a row.
     Scope,
     /// What a picture is to a screen reader.
@@ -161,7 +156,6 @@ impl AttributeName {
             AttributeName::Name => b"name",
             AttributeName::Content => b"content",
             AttributeName::Class => b"class",
-            AttributeName::Href => b"href",
             AttributeName::Scope => b"scope",
             AttributeName::Role => b"role",
             AttributeName::ViewBox => b"viewBox",

@@ -1,11 +1,10 @@
 -- Elements of a page, by their attributes as names and texts.
 use Rattle.std.specs.Prelude.{ℕ, List, [], ◌++◌, codes}
 use Rattle.page_markup.specs.declared.words.AttributeName.{AttributeName}
-use Rattle.page_markup.specs.declared.words.AttributeName.TheVariants as name
 use Rattle.page_markup.specs.declared.words.Tag.{Tag}
 use Rattle.page_markup.specs.declared.words.Tag.TheVariants as tag
 use Rattle.page_markup.specs.Escapes.{escaped}
-use Rattle.page_markup.specs.Trees.{end_text}
+use Rattle.page_markup.specs.Trees.{end_text, link_text}
 use Rattle.page_markup.specs.Words.{attribute_word, tag_word}
 
 -- an attribute: its name, and its value between quotes
@@ -23,7 +22,7 @@ text_element tag words = element tag [] (escaped words)
 
 -- a link to this address, on these words
 abbrev pub link : List ℕ → List ℕ → List ℕ
-link address words = element tag.Link (said name.Href address) (escaped words)
+link address words = link_text address (escaped words)
 
 -- a section: its heading, and what is in it
 abbrev pub section : List ℕ → List ℕ → List ℕ

@@ -97,9 +97,14 @@ abbrev pub evidence_head : Bool → List ℕ
 evidence_head false = head_of_table evidence_columns
 evidence_head true = head_of_table (evidence_columns ++ Due ∷ [])
 
+-- what the table has, and what is due to an order where that is told
+unfoldable pub evidence_caption : Bool → List ℕ
+evidence_caption false = codes "Records of the two logs"
+evidence_caption true = codes "Records of the two logs. Due: what it trades in every list of trades that conforms."
+
 -- the record that offends, and what the report shows beside it
 abbrev pub evidence_table : Finding → List ℕ
-evidence_table finding = table_element (codes "Records of the two logs")
+evidence_table finding = table_element (evidence_caption (finding_tells_due finding))
     (evidence_head (finding_tells_due finding))
     (offending_row finding ++ shown_row_if_there finding.property true finding.first
     ++ shown_row_if_there finding.property false finding.second)

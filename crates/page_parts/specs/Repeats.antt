@@ -1,5 +1,6 @@
--- How a verdict is seen again: the words of `auditor audit` for its question, and the digests.
-use Rattle.std.specs.Prelude.{ℕ, List, [], ◌++◌, codes}
+-- How a verdict is seen again: the words of `desk offences` for its question, and the digests.
+use Rattle.std.specs.Prelude.{ℕ, List, [], ◌∷◌, ◌++◌, codes}
+use Rattle.std.specs.List.{flat_map}
 use Rattle.audit_base.specs.declared.terms.Form.{Form}
 use Rattle.audit_base.specs.declared.terms.Form.TheVariants.{Csv, Fix}
 use Rattle.audit_base.specs.Words.{rule_word}
@@ -9,21 +10,28 @@ use Rattle.page_parts.specs.declared.repeats.PageLogs.{PageLogs}
 use Rattle.page_parts.specs.declared.sentences.VerdictInWords.{VerdictInWords}
 use Rattle.page_parts.specs.ShellWords.{next_word}
 
--- the option that names the form of a log, which CSV needs not
-abbrev pub form_option : List ℕ → Form → List ℕ
+-- the words of the option that names the form of a log, which CSV needs not
+abbrev pub form_option : List ℕ → Form → List (List ℕ)
 form_option option Csv = []
-form_option option Fix = next_word option ++ next_word (codes "fix")
+form_option option Fix = option ∷ codes "fix" ∷ []
 
 -- the options of both logs
-abbrev pub form_options : PageLogs → List ℕ
+abbrev pub form_options : PageLogs → List (List ℕ)
 form_options logs = form_option (codes "--orders-form") logs.orders_form
     ++ form_option (codes "--trades-form") logs.trades_form
 
+-- the words that ask `desk` for the verdict, with the offences of a log that it rejects
+abbrev pub command_words : VerdictInWords → PageLogs → List (List ℕ)
+command_words said logs = codes "offences" ∷ rule_word said.rule ∷ said.symbol ∷ logs.orders.now
+    ∷ logs.trades.now ∷ form_options logs
+
+-- a command of `desk` as it is typed into a shell
+abbrev pub typed_command : List (List ℕ) → List ℕ
+typed_command words = codes "desk" ++ flat_map next_word words
+
 -- the command that gives the verdict
 abbrev pub command_text : VerdictInWords → PageLogs → List ℕ
-command_text said logs = codes "auditor audit" ++ next_word (rule_word said.rule)
-    ++ next_word said.symbol ++ next_word logs.orders.now ++ next_word logs.trades.now
-    ++ form_options logs
+command_text said logs = typed_command (command_words said logs)
 
 -- the digest of a log behind its name
 abbrev pub digest_part : List ℕ → List ℕ → List ℕ

@@ -40,6 +40,11 @@ abbrev pub best_words : Side → List ℕ
 best_words Buy = codes "the best bid"
 best_words Sell = codes "the best ask"
 
+-- and the best order of a side that is not fully traded
+abbrev pub best_untraded_words : Side → List ℕ
+best_untraded_words Buy = codes "the best bid that is not fully traded"
+best_untraded_words Sell = codes "the best ask that is not fully traded"
+
 -- what an order is to a finding of priority, where it is shown first or second
 abbrev pub priority_words : Bool → Side → List ℕ
 priority_words true side = codes "the better order that is not fully traded"
@@ -49,7 +54,7 @@ priority_words false side = own_words side
 abbrev pub role_words : Property → Bool → Side → List ℕ
 role_words property.BuyPriority is_first side = priority_words is_first side
 role_words property.SellPriority is_first side = priority_words is_first side
-role_words property.Volume is_first side = best_words side
+role_words property.Volume is_first side = best_untraded_words side
 role_words property.Spread is_first side = best_words side
 role_words property.DuplicateId is_first side = own_words side
 role_words property.TimeBack is_first side = own_words side

@@ -1,5 +1,6 @@
 //! A page round its chief part.
 ghost use Rattle.std.specs.Prelude.{◌≡◌, IfOk};
+ghost use Rattle.page_markup.specs.Trees.{IsNestedPage};
 ghost use Rattle.page_parts.specs.Documents as spec;
 
 use crate::elements::{says, with_text_element};
@@ -35,8 +36,9 @@ fn styled_page(
     title: &[u8],
     main: &Markup,
 ) -> Result<Vec<u8>, NoMemory>
-    ensures { IfOk result
+    ensures written { IfOk result
         (λ text. text.items ≡ spec.styled_page style.now title.now main.now) }
+    ensures nested { IfOk result (λ text. IsNestedPage text.items) }
 {
     let head = head_of(alloc, style, title)?;
     let chief = Markup::new(alloc).with_element(Tag::Main, &[], main)?;

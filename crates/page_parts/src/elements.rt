@@ -1,5 +1,6 @@
 //! Elements of a page, each with its attributes and a text or markup in it.
-ghost use Rattle.std.specs.Prelude.{◌≡◌, ◌++◌, IfOk};
+ghost use Rattle.std.specs.Prelude.{◌≡◌, ◌++◌, IfOk, IsTrue};
+ghost use Rattle.page_markup.specs.Addresses.{is_relative};
 ghost use Rattle.page_parts.specs.Elements as spec;
 
 use audit_base::faults::NoMemory;
@@ -28,17 +29,18 @@ pub fn with_text_element(
     made.with_element(tag, &[], &text)
 }
 
-/// With a link behind it to this address.
+/// With a link behind it to this address, which names a file beside the page.
 pub fn with_link(
     alloc: Global,
     made: Markup,
     address: &[u8],
     words: &[u8],
 ) -> Result<Markup, NoMemory>
+    requires { IsTrue (is_relative address.now) }
     ensures { IfOk result (λ more. more ≡ made ++ spec.link address.now words.now) }
 {
     let text = Markup::new(alloc).with_text(words)?;
-    made.with_element(Tag::Link, &[says(AttributeName::Href, address)], &text)
+    made.with_link(address, &text)
 }
 
 /// With a section of this heading behind it.

@@ -210,6 +210,18 @@ fn evidence_head(alloc: Global, due: bool) -> Result<Markup, NoMemory>
     }
 }
 
+/// What the table has, and what is due to an order where that is told.
+#[tactic(auto, unfolding(crate::specs::Evidence::evidence_caption))]
+fn evidence_caption(due: bool) -> &'static [u8]
+    ensures { result.now ≡ spec.evidence_caption due }
+{
+    if due {
+        b"Records of the two logs. Due: what it trades in every list of trades that conforms."
+    } else {
+        b"Records of the two logs"
+    }
+}
+
 /// The table of what shows a finding: the record that offends, and what the report shows beside it.
 pub fn evidence_table(alloc: Global, finding: &Finding) -> Result<Markup, NoMemory>
     ensures { IfOk result (λ made. made ≡ spec.evidence_table finding.now) }
@@ -217,6 +229,7 @@ pub fn evidence_table(alloc: Global, finding: &Finding) -> Result<Markup, NoMemo
     let rows = offending_row(alloc, finding)?;
     let rows = with_shown(alloc, rows, finding.property, true, &finding.first)?;
     let rows = with_shown(alloc, rows, finding.property, false, &finding.second)?;
-    let head = evidence_head(alloc, finding_tells_due(finding))?;
-    table_of(alloc, b"Records of the two logs", &head, &rows)
+    let due = finding_tells_due(finding);
+    let head = evidence_head(alloc, due)?;
+    table_of(alloc, evidence_caption(due), &head, &rows)
 }

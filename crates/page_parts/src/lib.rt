@@ -16,6 +16,7 @@ pub mod cells;
 pub mod documents;
 pub mod elements;
 pub mod evidence;
+pub mod laws;
 pub mod repeats;
 pub mod sentences;
 pub mod shell_words;

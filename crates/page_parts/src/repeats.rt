@@ -1,6 +1,8 @@
 //! How a verdict is seen again: the words of a command, and the digests of both logs.
 ghost use Rattle.std.specs.Prelude.{◌≡◌, ◌++◌, IfOk, OnOk};
+ghost use Rattle.std.specs.List.{flat_map};
 ghost use Rattle.page_parts.specs.Repeats as spec;
+ghost use Rattle.page_parts.specs.ShellWords.{next_word};
 
 use crate::elements::with_text_element;
 use crate::sentences::VerdictInWords;
@@ -22,9 +24,10 @@ pub struct PageLogs<'a> {
     pub trades_digest: &'a [u8],
 }
 
-/// Appends the option that names the form of a log, which CSV needs not.
+/// Appends the words of the option that names the form of a log, which CSV needs not.
 fn append_form(option: &[u8], form: Form, out: &mut Vec<u8>) -> Result<(), NoMemory>
-    ensures { OnOk result (out.new.items ≡ out.old.items ++ spec.form_option option.now form) }
+    ensures { OnOk result (out.new.items
+        ≡ out.old.items ++ flat_map next_word (spec.form_option option.now form)) }
 {
     match form {
         Form::Csv => Ok(()),
@@ -37,7 +40,8 @@ fn append_form(option: &[u8], form: Form, out: &mut Vec<u8>) -> Result<(), NoMem
 
 /// Appends the options of both logs.
 fn append_forms(logs: &PageLogs<'_>, out: &mut Vec<u8>) -> Result<(), NoMemory>
-    ensures { OnOk result (out.new.items ≡ out.old.items ++ spec.form_options logs.now) }
+    ensures { OnOk result
+        (out.new.items ≡ out.old.items ++ flat_map next_word (spec.form_options logs.now)) }
 {
     append_form(b"--orders-form", logs.orders_form, out)?;
     append_form(b"--trades-form", logs.trades_form, out)
@@ -51,7 +55,8 @@ fn command_text(
 ) -> Result<Vec<u8>, NoMemory>
     ensures { IfOk result (λ text. text.items ≡ spec.command_text said.now logs.now) }
 {
-    let mut text = Vec::from_slice(alloc, b"auditor audit")?;
+    let mut text = Vec::from_slice(alloc, b"desk")?;
+    append_word(b"offences", &mut text)?;
     append_word(said.rule.word(), &mut text)?;
     append_word(said.symbol.bytes(), &mut text)?;
     append_word(logs.orders, &mut text)?;

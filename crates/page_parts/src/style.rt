@@ -1,8 +1,9 @@
 //! How pages look: one typeface of the system, two colours with a tint of each, and ink for trades
 //! and the offence. The two differ in lightness as well as in hue, so that they are told apart
 //! without colour sight and in print.
-ghost use Rattle.std.specs.Prelude.{◌≡◌};
+ghost use Rattle.std.specs.Prelude.{◌≡◌, false};
 ghost use Rattle.page_markup.specs.Escapes.{escaped};
+ghost use Rattle.page_parts.specs.Outside.{names_outside};
 
 /// The style of a page. A row of a table may end before its last column, so rows have the lines.
 const STYLE: &[u8] = b":root{--ink:#1c2128;--soft:#57606a;--rule:#d0d7de;\
@@ -58,9 +59,11 @@ print-color-adjust:exact}section,figure,tr{break-inside:avoid}section{overflow:v
 table{font-size:.72rem}th,td{padding:.25rem}td.number{overflow-wrap:anywhere;min-width:4.5em}}";
 
 /// The style of a page. It holds none of the bytes that are written as entities, since a browser
-/// reads no entity in a style.
+/// reads no entity in a style, and names nothing outside of the page. No contract says which colour
+/// anything has.
 pub fn style_text() -> &'static [u8]
-    ensures { escaped result.now ≡ result.now }
+    ensures plain { escaped result.now ≡ result.now }
+    ensures inside { names_outside result.now ≡ false }
 {
     STYLE
 }

@@ -66,6 +66,16 @@ fn best_words(side: Side) -> &'static [u8]
     }
 }
 
+/// What the best order of a side that is not fully traded is called.
+fn best_untraded_words(side: Side) -> &'static [u8]
+    ensures { result.now ≡ spec.best_untraded_words side }
+{
+    match side {
+        Side::Buy => b"the best bid that is not fully traded",
+        Side::Sell => b"the best ask that is not fully traded",
+    }
+}
+
 /// What an order of a side is to a finding of this property, where it is shown first or second.
 pub fn role_words(property: Property, is_first: bool, side: Side) -> &'static [u8]
     ensures { result.now ≡ spec.role_words property is_first side }
@@ -78,7 +88,8 @@ pub fn role_words(property: Property, is_first: bool, side: Side) -> &'static [u
                 own_words(side)
             }
         }
-        Property::Volume | Property::Spread => best_words(side),
+        Property::Volume => best_untraded_words(side),
+        Property::Spread => best_words(side),
         _ => own_words(side),
     }
 }
