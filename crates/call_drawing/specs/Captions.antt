@@ -1,12 +1,10 @@
 -- What stands below the picture of a call: what its colours and marks are, and what is not drawn.
 use Rattle.std.specs.Prelude.{ℕ, Bool, true, false, not, ◌||◌, ◌&&◌, nat_lt, List, [], ◌++◌, codes, decimal, if◌then◌else◌}
-use Rattle.call_drawing.specs.declared.sections.MarkedCall.{MarkedCall}
 use Rattle.call_picture.specs.declared.pictures.CallPicture.{CallPicture}
 use Rattle.call_picture.specs.declared.pictures.SidePicture.{SidePicture}
 use Rattle.call_picture.specs.declared.windows.Drawn.{Drawn}
 use Rattle.page_markup.specs.declared.words.Tag.TheVariants as tag
 use Rattle.page_parts.specs.Elements.{text_element}
-use Rattle.page_plots.specs.Marks.{marks_some}
 use Rattle.page_plots.specs.Sides.{sides_legend}
 
 -- where the colour of asks begins in the legend, behind the words of bids
@@ -42,14 +40,14 @@ side_words name picture =
 unfoldable pub call_words : List ℕ
 call_words = codes "A bar is as wide as its quantity, and filled as far as it traded. Bids lie above their limit, asks below, the best ones at the left."
 
--- what the marks are, where an order is marked
-abbrev pub marks_words : MarkedCall → List ℕ
-marks_words marked = if marks_some marked.orders
-    then codes " The marks are those of the table." else []
+-- what the marks are, where one is drawn
+unfoldable pub marks_words : Bool → List ℕ
+marks_words false = []
+marks_words true = codes " The marks are those of the table."
 
--- what the picture shows, and what its marks are
-abbrev pub whole_words : MarkedCall → List ℕ
-whole_words marked = call_words ++ marks_words marked
+-- what the picture shows, and what its marks are, where one is drawn
+abbrev pub whole_words : Bool → List ℕ
+whole_words has_marks = call_words ++ marks_words has_marks
 
 -- each step of the side is an order's, and none is left out
 abbrev pub is_plain : SidePicture → Bool
@@ -68,6 +66,6 @@ abbrev pub bars : CallPicture → List ℕ
 bars picture = if is_plain picture.bids && is_plain picture.asks
     then text_element tag.Paragraph (codes "Each bar is an order.") else each_side picture
 
--- the caption, with what is marked in the picture
-abbrev pub caption : CallPicture → MarkedCall → List ℕ
-caption picture marked = text_element tag.Paragraph (whole_words marked) ++ bars picture
+-- the caption, by whether a mark is drawn
+abbrev pub caption : CallPicture → Bool → List ℕ
+caption picture has_marks = text_element tag.Paragraph (whole_words has_marks) ++ bars picture

@@ -1,6 +1,6 @@
 -- The marks of the orders of the evidence, with the numbers of their rows in the table.
 use Rattle.std.specs.Prelude.{ℕ, Bool, true, false, ◌==◌, List, [], ◌++◌, codes, slice_get, if◌then◌else◌}
-use Rattle.std.specs.List.{flat_map}
+use Rattle.std.specs.List.{flat_map, list_any}
 use Rattle.audit_base.specs.declared.findings.OrderLine.{OrderLine}
 use Rattle.audit_base.specs.declared.orders.Order.{Order}
 use Rattle.audit_base.specs.declared.terms.Side.{Side}
@@ -47,3 +47,12 @@ steps_of_side layout Sell = layout.asks
 abbrev pub step_mark : CallLayout → List Order → List ℕ → OrderLine → List ℕ
 step_mark layout orders number line =
     mark_on_side orders number line (steps_of_side layout line.side)
+
+-- a step that is drawn is that of an order
+abbrev pub has_step_of : List Order → OrderLine → PlacedSide → Bool
+has_step_of orders line placed =
+    list_any (λ p. is_step_of orders placed.by_limit p.step line) placed.steps.items
+
+-- the mark of an order is drawn: a step of its side is that of the order
+abbrev pub has_step_mark : CallLayout → List Order → OrderLine → Bool
+has_step_mark layout orders line = has_step_of orders line (steps_of_side layout line.side)

@@ -9,13 +9,13 @@ use Rattle.call_picture.specs.declared.pictures.CallPicture.{CallPicture}
 use Rattle.call_picture.specs.Pictures.{IsCallPicture}
 use Rattle.page_plots.specs.PlotAxes.{axes_shapes}
 use Rattle.page_plots.specs.Figures.{figure_section}
-use Rattle.page_plots.specs.Marks.{marks_of, orders_marked_by}
+use Rattle.page_plots.specs.Marks.{draws_some, marks_of, orders_marked_by}
 use Rattle.page_plots.specs.Papers.{plot_paper}
 use Rattle.call_drawing.specs.declared.layouts.CallLayout.{CallLayout}
 use Rattle.call_drawing.specs.declared.sections.MarkedCall.{MarkedCall}
 use Rattle.call_drawing.specs.Captions.{call_legend, caption}
 use Rattle.call_drawing.specs.Lines.{greatest_shapes, price_shapes, volume_shapes}
-use Rattle.call_drawing.specs.Marks.{step_mark}
+use Rattle.call_drawing.specs.Marks.{has_step_mark, step_mark}
 use Rattle.call_drawing.specs.Extents.{plot_of_call}
 use Rattle.call_drawing.specs.Placed.{IsLayoutOf}
 use Rattle.call_drawing.specs.Steps.{side_shapes}
@@ -49,11 +49,16 @@ call_shapes orders numbers marked layout =
     ++ call_lines numbers marked layout
     ++ marks_of (step_mark layout orders) marked.orders ++ call_legend
 
+-- the caption, which speaks of marks where one is drawn
+abbrev pub call_caption : List Order → CallPicture → MarkedCall → CallLayout → List ℕ
+call_caption orders numbers marked layout =
+    caption numbers (draws_some (has_step_mark layout orders) marked.orders)
+
 -- the section: the picture, and its caption
 abbrev pub call_section : List Order → CallPicture → MarkedCall → CallLayout → List ℕ
 call_section orders numbers marked layout = figure_section (codes "The orders of the call")
     (codes "Bids and asks by price and quantity") (plot_paper layout.axes)
-    (call_shapes orders numbers marked layout) (caption numbers marked)
+    (call_shapes orders numbers marked layout) (call_caption orders numbers marked layout)
 
 -- the greatest volume, where the finding tells it
 abbrev pub greatest_of : Option Short → ℕ

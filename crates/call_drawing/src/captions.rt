@@ -2,7 +2,6 @@
 ghost use Rattle.std.specs.Prelude.{◌≡◌, ◌++◌, IfOk, OnOk};
 ghost use Rattle.call_drawing.specs.Captions as spec;
 
-use crate::sections::MarkedCall;
 use audit_base::faults::NoMemory;
 use audit_base::texts::write_number;
 use call_picture::pictures::{CallPicture, SidePicture};
@@ -75,23 +74,24 @@ fn call_words() -> &'static [u8]
       Bids lie above their limit, asks below, the best ones at the left."
 }
 
-/// What the marks are, where an order is marked.
-fn marks_words(marked: &MarkedCall) -> &'static [u8]
-    ensures { result.now ≡ spec.marks_words marked.now }
+/// What the marks are, where one is drawn.
+#[tactic(auto, unfolding(crate::specs::Captions::marks_words))]
+fn marks_words(has_marks: bool) -> &'static [u8]
+    ensures { result.now ≡ spec.marks_words has_marks }
 {
-    if marked.orders.are_some() {
+    if has_marks {
         b" The marks are those of the table."
     } else {
         b""
     }
 }
 
-/// What the picture shows, and what its marks are.
-fn whole_words(alloc: Global, marked: &MarkedCall) -> Result<Vec<u8>, NoMemory>
-    ensures { IfOk result (λ text. text.items ≡ spec.whole_words marked.now) }
+/// What the picture shows, and what its marks are, where one is drawn.
+fn whole_words(alloc: Global, has_marks: bool) -> Result<Vec<u8>, NoMemory>
+    ensures { IfOk result (λ text. text.items ≡ spec.whole_words has_marks) }
 {
     let mut text = Vec::from_slice(alloc, call_words())?;
-    text.extend_from_slice(marks_words(marked))?;
+    text.extend_from_slice(marks_words(has_marks))?;
     Ok(text)
 }
 
@@ -133,15 +133,11 @@ fn with_bars(alloc: Global, made: Markup, picture: &CallPicture) -> Result<Marku
     with_each_side(alloc, made, picture)
 }
 
-/// The caption of the picture, with what is marked in it.
-pub fn caption_of(
-    alloc: Global,
-    picture: &CallPicture,
-    marked: &MarkedCall,
-) -> Result<Markup, NoMemory>
-    ensures { IfOk result (λ made. made ≡ spec.caption picture.now marked.now) }
+/// The caption of the picture, by whether a mark is drawn in it.
+pub fn caption_of(alloc: Global, picture: &CallPicture, has_marks: bool) -> Result<Markup, NoMemory>
+    ensures { IfOk result (λ made. made ≡ spec.caption picture.now has_marks) }
 {
-    let words = whole_words(alloc, marked)?;
+    let words = whole_words(alloc, has_marks)?;
     let made = with_text_element(alloc, Markup::new(alloc), Tag::Paragraph, &words)?;
     with_bars(alloc, made, picture)
 }

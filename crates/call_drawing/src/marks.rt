@@ -1,6 +1,6 @@
 //! The marks of the orders of the evidence.
 ghost use Rattle.std.specs.Prelude.{◌≡◌, ◌++◌, IfOk};
-ghost use Rattle.std.specs.List.{flat_map};
+ghost use Rattle.std.specs.List.{flat_map, list_any};
 ghost use Rattle.call_drawing.specs.Marks as spec;
 
 use crate::bars::{Bar, PlacedSide, PlacedStep};
@@ -107,10 +107,26 @@ fn with_mark_on_side(
     with_mark_at_steps(alloc, made, orders, side.by_limit, mark, &side.steps)
 }
 
+/// Whether one of these steps is that of an order.
+fn has_step_of(
+    orders: &OrderList<'_>,
+    by_limit: bool,
+    line: &OrderLine,
+    steps: &[PlacedStep],
+) -> bool
+    ensures { result ≡ list_any (λ p. spec.is_step_of orders.now by_limit p.step line.now) steps.now }
+{
+    steps
+        .iter()
+        .any(|placed| is_step_of(orders, by_limit, &placed.step, line))
+}
+
 impl MarkedPicture for CallLayout {
-    ghost use Rattle.call_drawing.specs.Marks.{step_mark};
+    ghost use Rattle.call_drawing.specs.Marks.{has_step_mark, step_mark};
 
     ghost order_mark = { step_mark };
+
+    ghost has_mark = { has_step_mark };
 
     fn with_order_mark(
         &self,
@@ -124,6 +140,13 @@ impl MarkedPicture for CallLayout {
         match line.side {
             Side::Buy => with_mark_on_side(alloc, made, orders, &mark, &self.bids),
             Side::Sell => with_mark_on_side(alloc, made, orders, &mark, &self.asks),
+        }
+    }
+
+    fn draws_mark(&self, orders: &OrderList<'_>, line: &OrderLine) -> bool {
+        match line.side {
+            Side::Buy => has_step_of(orders, self.bids.by_limit, line, &self.bids.steps),
+            Side::Sell => has_step_of(orders, self.asks.by_limit, line, &self.asks.steps),
         }
     }
 }

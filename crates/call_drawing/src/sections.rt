@@ -18,7 +18,7 @@ use call_picture::pictures::{CallPicture, call_picture};
 use order_list::lists::OrderList;
 use page_markup::markup::Markup;
 use page_plots::figures::with_figure;
-use page_plots::marks::{MarkedOrders, with_marks};
+use page_plots::marks::{MarkedOrders, draws_some, with_marks};
 use page_plots::papers::plot_paper;
 use page_plots::plot_axes::with_axes;
 use page_plots::shapes::Picture;
@@ -116,6 +116,20 @@ fn call_shapes(
     with_call_legend(alloc, made)
 }
 
+/// The caption, which speaks of marks where one is drawn.
+fn call_caption(
+    alloc: Global,
+    orders: &OrderList<'_>,
+    numbers: &CallPicture,
+    marked: &MarkedCall,
+    layout: &CallLayout,
+) -> Result<Markup, NoMemory>
+    ensures { IfOk result
+        (λ made. made ≡ spec.call_caption orders.now numbers.now marked.now layout.now) }
+{
+    caption_of(alloc, numbers, draws_some(orders, layout, &marked.orders))
+}
+
 /// The section of the picture that is laid out so.
 fn section_of(
     alloc: Global,
@@ -128,7 +142,7 @@ fn section_of(
         (λ made. made ≡ spec.call_section orders.now numbers.now marked.now layout.now) }
 {
     let shapes = call_shapes(alloc, orders, numbers, marked, layout)?;
-    let caption = caption_of(alloc, numbers, marked)?;
+    let caption = call_caption(alloc, orders, numbers, marked, layout)?;
     let paper = plot_paper(alloc, &layout.axes)?;
     let picture = Picture {
         paper: &paper,

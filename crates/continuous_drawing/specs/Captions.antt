@@ -1,5 +1,5 @@
 -- What stands below the pictures, and the legend of the plot.
-use Rattle.std.specs.Prelude.{ℕ, List, ◌++◌, codes}
+use Rattle.std.specs.Prelude.{ℕ, Bool, true, false, List, [], ◌++◌, codes}
 use Rattle.page_plots.specs.declared.shapes.Anchor.TheVariants.{Start}
 use Rattle.page_plots.specs.declared.shapes.Point.{Point}
 use Rattle.page_plots.specs.Measures.{legend_foot}
@@ -31,8 +31,26 @@ trading_legend =
 
 -- what the picture of the best limits shows
 unfoldable pub quotes_words : List ℕ
-quotes_words = codes "The best bid and, above it, the best ask after each record; of many records together the least and the greatest. A dot is a trade, at the record that caused it; of more than 1,000 trades there is a bar from the least to the greatest price. The upright line is the offending record."
+quotes_words = codes "The best bid and, above it, the best ask after each record; of many records together the least and the greatest. A dot is a trade, at the record that caused it; of more than 1,000 trades there is a bar from the least to the greatest price."
+
+-- what the upright line is, where there is one
+unfoldable pub line_words : Bool → List ℕ
+line_words false = []
+line_words true = codes " The upright line is the offending record."
+
+-- the words below the picture of the best limits, by whether there is such a line
+abbrev pub quotes_caption : Bool → List ℕ
+quotes_caption has_line = quotes_words ++ line_words has_line
 
 -- what the picture of the book shows
 unfoldable pub book_words : List ℕ
-book_words = codes "At most ten orders of each side, best first: the bids, and below them the asks. A bar is as long as the quantity of its order, and filled as far as is left of it; its limit is at the left, what is left at the right. The marks 1 and 2 are those of the table."
+book_words = codes "At most ten orders of each side, best first: the bids, and below them the asks. A bar is as long as the quantity of its order, and filled as far as is left of it; its limit is at the left, what is left at the right."
+
+-- what the marks are, where one is drawn
+unfoldable pub marks_words : Bool → List ℕ
+marks_words false = []
+marks_words true = codes " The marks 1 and 2 are those of the table."
+
+-- the words below the picture of the book, by whether a mark is drawn
+abbrev pub book_caption : Bool → List ℕ
+book_caption has_marks = book_words ++ marks_words has_marks

@@ -1,6 +1,6 @@
 -- The marks of the orders of the evidence in the book, with the numbers of their rows in the table.
-use Rattle.std.specs.Prelude.{ℕ, List, [], slice_get, if◌then◌else◌}
-use Rattle.std.specs.List.{flat_map}
+use Rattle.std.specs.Prelude.{ℕ, Bool, List, [], slice_get, if◌then◌else◌}
+use Rattle.std.specs.List.{flat_map, list_any}
 use Rattle.audit_base.specs.declared.findings.OrderLine.{OrderLine}
 use Rattle.audit_base.specs.declared.orders.Order.{Order}
 use Rattle.audit_base.specs.declared.terms.Side.{Side}
@@ -37,3 +37,9 @@ lines_of_side layout Sell = layout.asks.items
 abbrev pub book_mark : BookLayout → List Order → List ℕ → OrderLine → List ℕ
 book_mark layout orders number line =
     flat_map (mark_at_line orders number line) (lines_of_side layout line.side)
+
+-- the mark of an order is drawn: a line of its side is that of the order
+abbrev pub has_book_mark : BookLayout → List Order → OrderLine → Bool
+has_book_mark layout orders line =
+    list_any (λ p. has_place (slice_get orders p.line.index) line.place)
+    (lines_of_side layout line.side)

@@ -1,5 +1,5 @@
 -- The sections of a page that have the picture of continuous trading.
-use Rattle.std.specs.Prelude.{◌≡◌, ℕ, List, ◌++◌, Option, None, Some, codes}
+use Rattle.std.specs.Prelude.{◌≡◌, ℕ, Bool, List, ◌++◌, Option, None, Some, codes, is_some}
 use Rattle.std.specs.List.{flat_map}
 use Rattle.audit_base.specs.declared.findings.Finding.{Finding}
 use Rattle.audit_base.specs.declared.orders.Deal.{Deal}
@@ -16,17 +16,17 @@ use Rattle.page_plots.specs.PlotAxes.{axes_shapes}
 use Rattle.page_plots.specs.Plots.{AreAxesOf}
 use Rattle.page_parts.specs.Elements.{text_element}
 use Rattle.page_plots.specs.Figures.{figure_section}
-use Rattle.page_plots.specs.Marks.{marks_of, orders_marked_by}
+use Rattle.page_plots.specs.Marks.{draws_some, marks_of, orders_marked_by}
 use Rattle.page_plots.specs.Papers.{plot_paper}
 use Rattle.continuous_drawing.specs.declared.book_layouts.BookLayout.{BookLayout}
 use Rattle.continuous_drawing.specs.declared.offending.OffendingPlace.{OffendingPlace}
 use Rattle.continuous_drawing.specs.declared.sections.MarkedTrading.{MarkedTrading}
 use Rattle.continuous_drawing.specs.BookLayouts.{IsBookLayoutOf}
 use Rattle.continuous_drawing.specs.Books.{book_paper, line_shapes}
-use Rattle.continuous_drawing.specs.Captions.{book_words, quotes_words, trading_legend}
+use Rattle.continuous_drawing.specs.Captions.{book_caption, quotes_caption, trading_legend}
 use Rattle.continuous_drawing.specs.Columns.{quote_shapes}
 use Rattle.continuous_drawing.specs.Extents.{plot_of_trading}
-use Rattle.continuous_drawing.specs.Marks.{book_mark}
+use Rattle.continuous_drawing.specs.Marks.{book_mark, has_book_mark}
 use Rattle.continuous_drawing.specs.Offending.{offending_shapes, place_of_offence}
 use Rattle.continuous_drawing.specs.Trades.{trades_shapes}
 
@@ -59,10 +59,10 @@ picture_shapes plot axes orders deals columns offence =
     axes_shapes axes (codes "record") ++ number_shapes plot orders deals columns
     ++ offending_shapes plot offence ++ trading_legend
 
--- the section that has these shapes
-abbrev pub picture_section : Axes → List ℕ → List ℕ
-picture_section axes shapes =
-    worded_figure (codes "Best bid and best ask by record") (plot_paper axes) shapes quotes_words
+-- the section that has these shapes, and an upright line or none
+abbrev pub picture_section : Axes → Bool → List ℕ → List ℕ
+picture_section axes has_line shapes = worded_figure (codes "Best bid and best ask by record")
+    (plot_paper axes) shapes (quotes_caption has_line)
 
 -- the lines of both sides of a book, and the marks
 abbrev pub book_shapes : List Order → MarkedTrading → BookLayout → List ℕ
@@ -71,10 +71,15 @@ book_shapes orders marked layout =
     ++ flat_map (line_shapes orders Sell) layout.asks.items
     ++ marks_of (book_mark layout orders) marked.orders
 
+-- a mark of an order of the evidence is drawn there
+abbrev pub marks_a_line : List Order → MarkedTrading → BookLayout → Bool
+marks_a_line orders marked layout = draws_some (has_book_mark layout orders) marked.orders
+
 -- the section that has them
 abbrev pub book_section : List Order → MarkedTrading → BookLayout → List ℕ
 book_section orders marked layout = worded_figure (codes "The book right before the record")
-    (book_paper layout) (book_shapes orders marked layout) book_words
+    (book_paper layout) (book_shapes orders marked layout)
+    (book_caption (marks_a_line orders marked layout))
 
 -- the section of a book behind what is made: its lines lie where their numbers say
 pub record IsWithDrawnBook (orders : List Order) (marked : MarkedTrading) (book : BookBefore)
@@ -94,8 +99,8 @@ pub record IsPlottedPicture (plot : Plot) (orders : List Order) (deals : List De
     (columns : List PlaceColumn) (offence : Option OffendingPlace) (text : List ℕ) : Type 0 where
   pub axes : Axes
   pub axes_are : AreAxesOf plot axes
-  pub written : text
-      ≡ picture_section axes (picture_shapes plot axes orders deals columns offence)
+  pub written : text ≡ picture_section axes (is_some offence)
+      (picture_shapes plot axes orders deals columns offence)
 
 -- the same in the plot of these places and prices
 abbrev pub IsDrawnPicture : List Order → List Deal → ℕ → List PlaceColumn → Option OffendingPlace → List ℕ

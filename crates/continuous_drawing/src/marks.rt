@@ -1,6 +1,7 @@
 //! The marks of the orders of the evidence, in the book.
-ghost use Rattle.std.specs.Prelude.{◌≡◌, ◌++◌, IfOk};
-ghost use Rattle.std.specs.List.{flat_map};
+ghost use Rattle.std.specs.Prelude.{◌≡◌, ◌++◌, IfOk, slice_get};
+ghost use Rattle.std.specs.List.{flat_map, list_any};
+ghost use Rattle.page_plots.specs.Orders.{has_place};
 ghost use Rattle.continuous_drawing.specs.Marks as spec;
 
 use crate::book_layouts::{BookLayout, PlacedLine};
@@ -70,10 +71,22 @@ fn with_mark_at_lines(
     Ok(made)
 }
 
+/// Whether one of these lines is that of the order at a place.
+fn has_line_of(orders: &OrderList<'_>, place: u32, lines: &[PlacedLine]) -> bool
+    ensures { result
+        ≡ list_any (λ p. has_place (slice_get orders.now p.line.index) place) lines.now }
+{
+    lines
+        .iter()
+        .any(|placed| has_place(orders, placed.line.index, place))
+}
+
 impl MarkedPicture for BookLayout {
-    ghost use Rattle.continuous_drawing.specs.Marks.{book_mark};
+    ghost use Rattle.continuous_drawing.specs.Marks.{book_mark, has_book_mark};
 
     ghost order_mark = { book_mark };
+
+    ghost has_mark = { has_book_mark };
 
     fn with_order_mark(
         &self,
@@ -86,6 +99,13 @@ impl MarkedPicture for BookLayout {
         match line.side {
             Side::Buy => with_mark_at_lines(alloc, made, orders, number, line, &self.bids),
             Side::Sell => with_mark_at_lines(alloc, made, orders, number, line, &self.asks),
+        }
+    }
+
+    fn draws_mark(&self, orders: &OrderList<'_>, line: &OrderLine) -> bool {
+        match line.side {
+            Side::Buy => has_line_of(orders, line.place, &self.bids),
+            Side::Sell => has_line_of(orders, line.place, &self.asks),
         }
     }
 }

@@ -7,7 +7,7 @@ ghost use Rattle.page_plots.specs.Plots.{IsPlot};
 
 use crate::book_layouts::{BookLayout, book_layout_of};
 use crate::books::{book_paper, with_book};
-use crate::captions::{book_words, quotes_words, with_trading_legend};
+use crate::captions::{book_caption, quotes_caption, with_trading_legend};
 use crate::columns::with_all_quotes;
 use crate::extents::plot_of_trading;
 use crate::offending::{OffendingPlace, place_of_offence, with_offending};
@@ -23,7 +23,7 @@ use page_markup::markup::Markup;
 use page_markup::words::Tag;
 use page_parts::elements::with_text_element;
 use page_plots::figures::with_figure;
-use page_plots::marks::{MarkedOrders, with_marks};
+use page_plots::marks::{MarkedOrders, draws_some, with_marks};
 use page_plots::papers::plot_paper;
 use page_plots::plot_axes::{Axes, with_axes};
 use page_plots::plots::Plot;
@@ -132,14 +132,20 @@ fn picture_shapes(
     with_trading_legend(alloc, made)
 }
 
-/// The section of a picture of these shapes.
-fn picture_section(alloc: Global, axes: &Axes, shapes: &Markup) -> Result<Markup, NoMemory>
-    ensures { IfOk result (λ made. made ≡ spec.picture_section axes.now shapes.now) }
+/// The section of a picture of these shapes, with an upright line or none.
+fn picture_section(
+    alloc: Global,
+    axes: &Axes,
+    has_line: bool,
+    shapes: &Markup,
+) -> Result<Markup, NoMemory>
+    ensures { IfOk result (λ made. made ≡ spec.picture_section axes.now has_line shapes.now) }
 {
     let paper = plot_paper(alloc, axes)?;
+    let words = quotes_caption(alloc, has_line)?;
     let made = Markup::new(alloc);
     let heading = b"Best bid and best ask by record";
-    with_worded_figure(alloc, made, heading, &paper, shapes, quotes_words())
+    with_worded_figure(alloc, made, heading, &paper, shapes, &words)
 }
 
 /// The shapes of the picture of a book.
@@ -169,8 +175,9 @@ fn with_book_section(
 {
     let shapes = book_shapes(alloc, orders, marked, layout)?;
     let paper = book_paper(alloc, layout)?;
+    let words = book_caption(alloc, draws_some(orders, layout, &marked.orders))?;
     let heading = b"The book right before the record";
-    with_worded_figure(alloc, made, heading, &paper, &shapes, book_words())
+    with_worded_figure(alloc, made, heading, &paper, &shapes, &words)
 }
 
 /// With the section of a book behind it.
@@ -221,7 +228,7 @@ fn plotted_picture(
     let axes = plot.axes(alloc)?;
     let plotted = PlotWithAxes { plot, axes: &axes };
     let shapes = picture_shapes(alloc, &plotted, orders, deals, columns, offence)?;
-    let made = picture_section(alloc, &axes, &shapes)?;
+    let made = picture_section(alloc, &axes, offence.is_some(), &shapes)?;
     Ok(made)
 }
 

@@ -1,5 +1,5 @@
 -- The orders of the evidence that a picture marks, each with the number of its row in the table.
-use Rattle.std.specs.Prelude.{ℕ, Bool, ◌||◌, List, [], ◌++◌, Option, None, Some, codes, is_some}
+use Rattle.std.specs.Prelude.{ℕ, Bool, false, ◌||◌, List, [], ◌++◌, Option, None, Some, codes}
 use Rattle.audit_base.specs.declared.findings.Finding.{Finding}
 use Rattle.audit_base.specs.declared.findings.OrderLine.{OrderLine}
 use Rattle.page_plots.specs.declared.marks.MarkedOrders.{MarkedOrders}
@@ -11,9 +11,14 @@ orders_marked_by None = record { first = None; second = None }
 orders_marked_by (Some finding) =
     record { first = order_shown finding.first; second = order_shown finding.second }
 
--- an order is marked
-abbrev pub marks_some : MarkedOrders → Bool
-marks_some marked = is_some marked.first || is_some marked.second
+-- the mark of an order is drawn, where there is an order, by a test of what is drawn
+abbrev pub draws_if_there : (OrderLine → Bool) → Option OrderLine → Bool
+draws_if_there drawn None = false
+draws_if_there drawn (Some line) = drawn line
+
+-- a mark is drawn
+abbrev pub draws_some : (OrderLine → Bool) → MarkedOrders → Bool
+draws_some drawn marked = draws_if_there drawn marked.first || draws_if_there drawn marked.second
 
 -- the mark of an order, where there is one
 abbrev pub mark_if_there : (OrderLine → List ℕ) → Option OrderLine → List ℕ

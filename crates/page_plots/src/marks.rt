@@ -1,5 +1,5 @@
 //! The orders of the evidence that a picture marks, each with the number of its row in the table.
-ghost use Rattle.std.specs.Prelude.{◌≡◌, ◌++◌, ℕ, List, IfOk};
+ghost use Rattle.std.specs.Prelude.{◌≡◌, ◌++◌, ℕ, Bool, List, IfOk};
 ghost use Rattle.audit_base.specs.declared.findings.OrderLine.{OrderLine};
 ghost use Rattle.audit_base.specs.declared.orders.Order.{Order};
 ghost use Rattle.page_plots.specs.Marks as spec;
@@ -34,19 +34,15 @@ impl MarkedOrders {
             },
         }
     }
-
-    /// Whether there is an order.
-    pub fn are_some(&self) -> bool
-        ensures { result ≡ spec.marks_some self.now }
-    {
-        self.first.is_some() || self.second.is_some()
-    }
 }
 
 /// Where the parts of a picture lie in which orders can be marked.
 pub trait MarkedPicture {
     // The mark of an order of the list with this number.
     ghost order_mark: { Self → List Order → List ℕ → OrderLine → List ℕ };
+
+    // Whether the mark of an order of the list is drawn.
+    ghost has_mark: { Self → List Order → OrderLine → Bool };
 
     /// With the mark of an order behind it, where it is drawn.
     fn with_order_mark(
@@ -59,6 +55,36 @@ pub trait MarkedPicture {
     ) -> Result<Markup, NoMemory>
         ensures { IfOk result
             (λ more. more ≡ made ++ order_mark self.now orders.now number.now line.now) };
+
+    /// Whether the mark of an order is drawn.
+    fn draws_mark(&self, orders: &OrderList<'_>, line: &OrderLine) -> bool
+        ensures { result ≡ has_mark self.now orders.now line.now };
+}
+
+/// Whether the mark of an order is drawn, where there is one.
+fn draws_if_there<P: MarkedPicture>(
+    orders: &OrderList<'_>,
+    picture: &P,
+    line: &Option<OrderLine>,
+) -> bool
+    ensures { result ≡ spec.draws_if_there (P.has_mark picture.now orders.now) line.now }
+{
+    match line {
+        Some(line) => picture.draws_mark(orders, line),
+        None => false,
+    }
+}
+
+/// Whether a mark is drawn.
+pub fn draws_some<P: MarkedPicture>(
+    orders: &OrderList<'_>,
+    picture: &P,
+    marked: &MarkedOrders,
+) -> bool
+    ensures { result ≡ spec.draws_some (P.has_mark picture.now orders.now) marked.now }
+{
+    draws_if_there(orders, picture, &marked.first)
+        || draws_if_there(orders, picture, &marked.second)
 }
 
 /// With the mark of an order behind it, where there is one.
