@@ -98,14 +98,14 @@ fn make_call(alloc: Global, line: &str) -> Result<(Status, MemorySink), NoMemory
 const ACCEPTED: &str = "</style></head><body><main>\
 <h1>Symbol Z under the rule matching: accepted</h1><p>The trades conform to the rule.</p>\
 <p>Orders: 2. Trades: 1. Volume: 100.</p><section><h2>How to see it again</h2>\
-<code>auditor audit matching Z o t</code><p>SHA-256 of the order log</p>\
+<code>desk offences matching Z o t</code><p>SHA-256 of the order log</p>\
 <code>f43063e018bb736ffc55c13c5bcc6d8123e3275ba730d7fad717ddad0586efdc</code>\
 <p>SHA-256 of the trade log</p>\
 <code>f544c800b95c6335be7ac53ba9a24b09ae0ef08fd8c1b0fc6fb07d6071dfbdfa</code>\
 </section></main></body></html>\n";
 
 const REJECTED: &str = "<section><h2>How to see it again</h2>\
-<code>auditor audit fair Z o t8</code><p>SHA-256 of the order log</p>\
+<code>desk offences fair Z o t8</code><p>SHA-256 of the order log</p>\
 <code>f43063e018bb736ffc55c13c5bcc6d8123e3275ba730d7fad717ddad0586efdc</code>\
 <p>SHA-256 of the trade log</p>\
 <code>92319e0302ae4f928744e16a62311c50ff25eee6156695839363457c04033035</code>\

@@ -1,13 +1,13 @@
 //! The top call of `page`: from the words of a command line to the page that is written and the
 //! status.
-ghost use Rattle.std.specs.Prelude.{◌≡◌, false, map};
+ghost use Rattle.std.specs.Prelude.{◌≡◌, ℕ, List, false, map};
 ghost use Rattle.std.specs.String.{string_bytes};
 ghost use Rattle.audit_base.specs.declared.terms.Which.{Which};
 ghost use Rattle.command_run.specs.Deciding.{DecidesAnswer};
 ghost use Rattle.log_source.specs.Sinks.{SinkStays};
 ghost use Rattle.log_source.specs.Sources.{longest_read};
 ghost use Rattle.log_verdict.specs.BothLogs.{StaysWithin};
-ghost use Rattle.log_verdict.specs.Steps.{reading_within, FaultsNeverFall};
+ghost use Rattle.log_verdict.specs.Steps.{reading_within, FaultsNeverFall, KeepsShelfLogs};
 ghost use Rattle.desk_page.specs.PageAnswers.{logs_in};
 ghost use Rattle.desk_page.specs.Requests.{page_command};
 ghost use Rattle.desk_page.specs.TopCall.{AnswersPage, AnswersPageWords, page_reading, RefusesOrLacksMemory};
@@ -24,6 +24,7 @@ use command_run::laws::{both_logs_decide, held_logs_are_answered};
 use command_run::writing::{write_answer, write_usage};
 use command_words::requests::WordsFault;
 use log_digests::digest_shelf::DigestShelf;
+use log_digests::same_logs::{SameLogs, ShelfLogs};
 use log_source::shelf::Shelf;
 use log_source::sink::Sink;
 use log_verdict::runs::Ran;
@@ -105,7 +106,7 @@ fn run_known<D: Drawing, W: KnownLogs, F: Shelf, K: Sink>(
 }
 
 /// Answers a request, with the logs of a shelf under its names.
-fn run_request<D: Drawing, F: Shelf, K: Sink>(
+fn run_named<D: Drawing, F: Shelf, K: Sink>(
     alloc: Global,
     seed: HashSeed,
     request: &PageRequest,
@@ -119,6 +120,51 @@ fn run_request<D: Drawing, F: Shelf, K: Sink>(
     ensures stays { SinkStays (K.state out.old) (K.state out.new) }
 {
     run_known::<D, Brand, F, K>(alloc, seed, request, shelf, out)
+}
+
+/// Answers a request over a shelf that has these logs under all its names.
+fn run_same<D: Drawing, L: ShelfLogs, F: Shelf, K: Sink>(
+    alloc: Global,
+    seed: HashSeed,
+    request: &PageRequest,
+    shelf: F,
+    out: &mut K,
+) -> Ran<Status, F>
+    requires fresh { (which : Which) → (F.slot shelf which).started ≡ false }
+    requires tells { F.tells shelf ≡ L.tells }
+    requires logs { (which : Which) (name : List ℕ) →
+        F.log_of shelf which name ≡ L.log_of which name }
+    ensures answers { AnswersPage D.is_picture
+        (page_reading F.Shelf request.now.logs shelf result.back)
+        request.now (K.state out.old) (K.state out.new) result.status }
+    ensures stays { SinkStays (K.state out.old) (K.state out.new) }
+    ensures logs { KeepsShelfLogs F.Shelf shelf result.back }
+{
+    let same = SameLogs::<L, F>::of(shelf);
+    let ran = run_named::<D, SameLogs<L, F>, K>(alloc, seed, request, same, out);
+    Ran {
+        status: ran.status,
+        stop: ran.stop,
+        back: ran.back.into_shelf(),
+    }
+}
+
+/// Answers a request. The shelf has under all its names what it had.
+fn run_request<D: Drawing, F: Shelf, K: Sink>(
+    alloc: Global,
+    seed: HashSeed,
+    request: &PageRequest,
+    shelf: F,
+    out: &mut K,
+) -> Ran<Status, F>
+    requires { (which : Which) → (F.slot shelf which).started ≡ false }
+    ensures answers { AnswersPage D.is_picture
+        (page_reading F.Shelf request.now.logs shelf result.back)
+        request.now (K.state out.old) (K.state out.new) result.status }
+    ensures stays { SinkStays (K.state out.old) (K.state out.new) }
+    ensures logs { KeepsShelfLogs F.Shelf shelf result.back }
+{
+    run_same::<D, Brand, F, K>(alloc, seed, request, shelf, out)
 }
 
 /// Answers words that ask for nothing: by the usage line, where they are not well-formed.
@@ -138,13 +184,14 @@ fn refuse_words<D: Drawing, K: Sink>(out: &mut K, fault: WordsFault) -> Status
 /// The words are those of `read_page_words`. `Usage` comes exactly where they are not
 /// well-formed (`WriteFault` where the usage line could not be written), and the shelf is then
 /// as it was. `Accepted` and `Rejected` are those of the verdict, and the text is its page, with
-/// the words of an audit by `auditor`, which gives the verdict where no log has more than
-/// 67,108,864 bytes, and the SHA-256 digests of the bytes that it is on. Where both logs are good,
+/// the words of `desk offences` that give the verdict, and the SHA-256 digests of the bytes that it is
+/// on. Where both logs are good,
 /// the reports pair and no record has the symbol, the status is `Rejected` and the text one line,
 /// that the symbol is absent. `Malformed` comes where a log is not in its grammar: the text is then
 /// its first bad place, as of an audit. `ReadFault` comes only where a log could not be read,
 /// `TooLong` where one has more than 34,359,738,368 bytes, `WriteFault` only where the sink's
-/// faults rose, and `Memory` where memory ran out, and nothing was written.
+/// faults rose, and `Memory` where memory ran out, and nothing was written. What the shelf has under
+/// its names stays as it was.
 ///
 /// The hashes by which names are found begin with the fixed seed: see `run_page_seeded` for logs
 /// whose names may have been chosen to make this slow.
@@ -159,6 +206,7 @@ pub fn run_page<D: Drawing, F: Shelf, K: Sink>(
         (page_request_of (map string_bytes words.now)) shelf result.back
         (K.state out.old) (K.state out.new) result.status }
     ensures sink { SinkStays (K.state out.old) (K.state out.new) }
+    ensures logs { KeepsShelfLogs F.Shelf shelf result.back }
 {
     run_page_seeded::<D, F, K>(alloc, HashSeed::fixed(), words, shelf, out)
 }
@@ -176,6 +224,7 @@ pub fn run_page_seeded<D: Drawing, F: Shelf, K: Sink>(
         (page_request_of (map string_bytes words.now)) shelf result.back
         (K.state out.old) (K.state out.new) result.status }
     ensures sink { SinkStays (K.state out.old) (K.state out.new) }
+    ensures logs { KeepsShelfLogs F.Shelf shelf result.back }
 {
     match read_page_words(alloc, words) {
         Ok(request) => run_request::<D, F, K>(alloc, seed, &request, shelf, out),

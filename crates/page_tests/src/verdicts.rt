@@ -23,7 +23,7 @@ const ACCEPTED_HEAD: &str = "<!DOCTYPE html>\n<html lang=\"en\"><head><meta char
 const ACCEPTED_BODY: &str = "</style></head><body><main>\
 <h1>Symbol Z under the rule uniform: accepted</h1><p>The trades conform to the rule.</p>\
 <p>Orders: 2. Trades: 1. Volume: 5.</p><section><h2>How to see it again</h2>\
-<code>auditor audit uniform Z day/orders.csv day/trades.csv</code>\
+<code>desk offences uniform Z day/orders.csv day/trades.csv</code>\
 <p>SHA-256 of the order log</p>\
 <code>ba7816bf8f01cfea414140de5dae2223b00361a396177a9cb410ff61f20015ad</code>\
 <p>SHA-256 of the trade log</p>\
@@ -81,7 +81,7 @@ const HOSTILE_BODY: &str = "</style></head><body><main>\
 <td class=\"name\">&lt;/style&gt;</td><td class=\"name\"> ]]&gt;&amp;amp;&#39; </td>\
 <td class=\"number\">5</td><td class=\"number\">10</td><td class=\"number\">5</td></tr>\
 </tbody></table></section><section><h2>How to see it again</h2>\
-<code>auditor audit fair &#39;&lt;b&gt;&#39; a_b/o-1@9.csv \
+<code>desk offences fair &#39;&lt;b&gt;&#39; a_b/o-1@9.csv \
 &#39;it&#39;\\&#39;&#39;s &quot;$HOME&quot;&#39; --trades-form fix</code>\
 <p>SHA-256 of the order log</p>\
 <code>e3b0c44298fc1c149afbf4c8996fb92427ae41e4649b934ca495991b7852b855</code>\

@@ -1,7 +1,5 @@
-use Rattle.desk_page.specs.PageAnswers.{logs_in}
-use Rattle.desk_page.specs.TopCall.{page_reading}
 use Rattle.desk_page.proofs.running.run_request.Given as goal
 
--- the logs that the shelf has
-abbrev pub ghosts-run_known : goal.ghosts-run_known
-ghosts-run_known g a = record { shelf = logs_in (page_reading g.F.Shelf a.request.now.logs a.shelf a.shelf) }
+-- the logs that the shelf has under all its names
+abbrev pub ghosts-run_same : goal.ghosts-run_same
+ghosts-run_same g a = record { tells = g.F.Shelf.tells a.shelf; log_of = g.F.Shelf.log_of a.shelf }
