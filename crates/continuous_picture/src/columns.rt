@@ -1,4 +1,4 @@
-//! The columns of the picture: at most 1,000, of equally many places each.
+//! The columns of the picture: at most 1,000, of equally many places each, the last of what is left.
 ghost use Rattle.std.specs.Prelude.{◌≡◌, ◌<◌, ◌^◌, IfOk, OnOk};
 ghost use Rattle.audit_base.specs.Orders.{place_at};
 ghost use Rattle.continuous_picture.specs.Columns.{AreColumns, IsColumn, next_edge};

@@ -2,3 +2,4 @@ mod PageLemmas
 mod ReadLemmas
 mod DecideLemmas
 mod TopLemmas
+mod AskLemmas

@@ -8,11 +8,12 @@
 //! page picks that, so that what is said of answers does not depend on how anything is drawn. A
 //! symbol that no record has is told to be absent, and a log that is not in its grammar is
 //! answered as by an audit. `program` says what `page` is to `command_run`, which says what
-//! follows for every command.
+//! follows for every command, and `laws` that the words on a page ask for its verdict.
 #![tactic(auto)]
 
 mod answers;
 pub mod drawings;
+pub mod laws;
 pub mod page_logs;
 #[cfg(test)]
 mod page_rows;

@@ -8,8 +8,9 @@
 //! `verdict_pages` the page, to which the picture is handed as the section that has it.
 //!
 //! What is written is proved to the letter, but the style: of it, that no byte is written as an
-//! entity. How a page looks is said by no contract. Each part is written once, and copied once into
-//! each element that it stands in.
+//! entity, and that it names nothing outside of the page. How a page looks, and which colour anything
+//! has, is said by no contract. Each part is written once, and copied once into each element that it
+//! stands in. `laws` says that a shell reads the words of a command as they were.
 #![tactic(auto)]
 
 pub mod cells;

@@ -1,0 +1,193 @@
+-- The words on a page ask for its verdict.
+use Rattle.std.proofs.Common.{◌≡◌, ◌<◌, ◌≤◌, ◌+◌, ℕ, Bool, true, false, List, [], ◌∷◌, ◌++◌, drop, length, Option, Some, None, Result, refl, sym, ap, ◌∙◌, subst, inl, inr, arith, append-nil}
+use Rattle.std.specs.Prelude.{◌==◌, ◌&&◌, not, nat_le, All, codes, if◌then◌else◌, option_and_then}
+use Rattle.std.proofs.lemmas.Bool.{and_parts, cases_Bool, eqb-true, leb-true}
+use Rattle.std.proofs.lemmas.List.Elements.{All-cons, All-nil}
+use Rattle.audit_base.specs.declared.findings.Finding.{Finding}
+use Rattle.audit_base.specs.declared.records.OrderRecord.{OrderRecord}
+use Rattle.audit_base.specs.declared.records.TradeRecord.{TradeRecord}
+use Rattle.audit_base.specs.declared.terms.Form.{Form}
+use Rattle.audit_base.specs.declared.terms.Form.TheVariants.{Csv, Fix}
+use Rattle.audit_base.specs.declared.terms.Rule.{Rule}
+use Rattle.audit_base.specs.declared.terms.Rule.TheVariants as rule
+use Rattle.audit_base.specs.Least.{only_if}
+use Rattle.audit_base.specs.Names.{is_name, is_name_byte}
+use Rattle.audit_base.specs.Words.{rule_word}
+use Rattle.std.specs.List.{list_all}
+use Rattle.audit_report.specs.declared.statuses.Status.{Status}
+use Rattle.audit_report.specs.declared.verdicts.Accepted.{Accepted}
+use Rattle.audit_report.specs.declared.verdicts.Verdict.{Verdict}
+use Rattle.audit_report.specs.declared.verdicts.Verdict.TheVariants as verdict
+use Rattle.audit_report.specs.Texts.{accepted_text, rejected_text, verdict_text}
+use Rattle.command_words.specs.declared.options.Options.{Options}
+use Rattle.command_words.specs.WordForms.{is_option, is_path, is_symbol, nth_word, rule_named, symbol_named}
+use Rattle.command_words.specs.Words.{names_logs}
+use Rattle.desk_words.specs.declared.offence_words.OffenceOptions.{OffenceOptions}
+use Rattle.desk_words.specs.declared.requests.DeskRequest.{DeskRequest}
+use Rattle.desk_words.specs.declared.requests.DeskRequest.TheVariants.{Whole}
+use Rattle.desk_words.specs.declared.requests.WholeRequest.TheVariants.{Offences}
+use Rattle.desk_words.specs.OffenceWords.{options_under}
+use Rattle.desk_words.specs.Words.{desk_request_of, form_options_in, named_logs}
+use Rattle.further_checks.specs.Laws.{NothingIsFoundUnasked}
+use Rattle.further_checks.specs.FurtherRules.{no_checks}
+use Rattle.further_checks.specs.declared.findings.FurtherFinding.{FurtherFinding}
+use Rattle.page_parts.specs.Laws.{HasByte, ShellReadsCommand}
+use Rattle.page_parts.specs.Repeats.{form_option}
+use Rattle.record_verdict.specs.Laws.{RecordVerdictIsOne}
+use Rattle.record_verdict.specs.RecordVerdicts.{IsRecordVerdict}
+use Rattle.symbol_offences.specs.declared.symbol_logs.QuotedRecords.{QuotedRecords}
+use Rattle.symbol_offences.specs.OffenceAnswers.{IsAnswerByVerdict, IsAnswerToAccepted, IsAnswerToPresent}
+use Rattle.log_digests.specs.declared.digests.LogDigests.{LogDigests}
+use Rattle.page_parts.specs.declared.repeats.PageLogs.{PageLogs}
+use Rattle.page_parts.specs.declared.sentences.SymbolTotals.{SymbolTotals}
+use Rattle.desk_page.specs.declared.requests.PageRequest.{PageRequest}
+use Rattle.desk_page.specs.declared.words.PageWords.{PageWords}
+use Rattle.desk_page.specs.Laws.{AsksThePage, BeginsWithVerdict, OffencesHaveThePagesVerdict, PageTellsItsWords, as_offences, offences_question, words_on_page}
+use Rattle.desk_page.specs.PageAnswers.{page_question}
+use Rattle.desk_page.specs.PageLogs.{NamesLogs}
+use Rattle.desk_page.specs.Words.{page_request_of, page_words, request_behind}
+
+-- what a choice with nothing in its other branch gave
+given-if : {A : Type 0} (test : Bool) (made : Option A) (x : A) → (if test then made else None) ≡ Some x → (test ≡ true) × (made ≡ Some x)
+given-if true made x e = (refl, e)
+given-if false made x e = cc
+
+given-only : {A : Type 0} (test : Bool) (y x : A) → only_if test y ≡ Some x → (test ≡ true) × (y ≡ x)
+given-only true y x e = (refl, cc)
+given-only false y x e = cc
+
+-- what was made of a value
+record IsMadeOf {A B : Type 0} (o : Option A) (f : A → Option B) (x : B) : Type 0 where
+  value : A
+  is : o ≡ Some value
+  made : f value ≡ Some x
+
+given-then : {A B : Type 0} (o : Option A) (f : A → Option B) (x : B) → option_and_then f o ≡ Some x → IsMadeOf o f x
+given-then None f x e = cc
+given-then (Some a) f x e = record { value = a; is = refl; made = e }
+
+-- What well-formed words of `page` name: a symbol and two paths.
+record NamesWell (request : PageRequest) : Type 0 where
+  symbol : is_symbol request.symbol ≡ true
+  orders : is_path request.logs.orders ≡ true
+  trades : is_path request.logs.trades ≡ true
+
+names-well : (words : List (List ℕ)) (request : PageRequest) → page_request_of words ≡ Some request → NamesWell request
+names-well words request e =
+    let first = given-if _ (request_behind words) request e in
+    let second = given-if (names_logs words 3) _ request first.1 in
+    let paths = and_parts (is_path (nth_word words 3)) (is_path (nth_word words 4)) second.0 in
+    let asked = given-then (page_words words) _ request second.1 in
+    let by_rule = given-then (rule_named (nth_word words 1)) _ asked.value asked.is in
+    let by_symbol = given-then (symbol_named (nth_word words 2)) _ asked.value by_rule.made in
+    let by_forms = given-then (form_options_in (drop 5 words)) _ asked.value by_symbol.made in
+    let named = given-only (is_symbol (nth_word words 2)) (nth_word words 2) by_symbol.value by_symbol.is in
+    let asks : ◌≡◌ {A = Option PageWords} (Some (record { rule = by_rule.value; symbol = by_symbol.value; said = by_forms.value })) (Some asked.value) = by_forms.made in
+    let gives : ◌≡◌ {A = Option PageRequest} (Some (record { rule = asked.value.rule; symbol = asked.value.symbol; logs = named_logs words 3 asked.value.said })) (Some request) = asked.made in
+    by-parts words request by_symbol.value asked.value gives asks named.0 named.1 paths.0 paths.1
+  where
+    by-parts : (words : List (List ℕ)) (request : PageRequest) (symbol : List ℕ) (asked : PageWords) {the_rule : Rule} {said : Options}
+        → ◌≡◌ {A = Option PageRequest} (Some (record { rule = asked.rule; symbol = asked.symbol; logs = named_logs words 3 asked.said })) (Some request)
+        → ◌≡◌ {A = Option PageWords} (Some (record { rule = the_rule; symbol = symbol; said = said })) (Some asked)
+        → is_symbol (nth_word words 2) ≡ true → nth_word words 2 ≡ symbol → is_path (nth_word words 3) ≡ true → is_path (nth_word words 4) ≡ true → NamesWell request
+    by-parts words request symbol asked gives asks is named one other =
+        let all : ◌≡◌ {A = PageRequest} (record { rule = asked.rule; symbol = asked.symbol; logs = named_logs words 3 asked.said }) request = some-same gives in
+        let both : ◌≡◌ {A = PageWords} (record { rule = _; symbol = symbol; said = _ }) asked = some-same asks in
+        let same : symbol ≡ asked.symbol = ap (λ (a : PageWords). a.symbol) both in
+        record {
+          symbol = ap is_symbol (sym (ap (λ (r : PageRequest). r.symbol) all)) ∙ ap is_symbol (sym (named ∙ same)) ∙ is;
+          orders = ap is_path (sym (ap (λ (r : PageRequest). r.logs.orders) all)) ∙ one;
+          trades = ap is_path (sym (ap (λ (r : PageRequest). r.logs.trades) all)) ∙ other;
+        }
+
+    some-same : {A : Type 0} {x y : A} → Some x ≡ Some y → x ≡ y
+    some-same e = cc
+
+rule-read : (the_rule : Rule) → rule_named (rule_word the_rule) ≡ Some the_rule
+rule-read rule.Matching = refl
+rule-read rule.Fair = refl
+rule-read rule.Uniform = refl
+rule-read rule.Maximum = refl
+rule-read rule.Continuous = refl
+
+rule-long : (the_rule : Rule) → HasByte (rule_word the_rule)
+rule-long rule.Matching = omega arith
+rule-long rule.Fair = omega arith
+rule-long rule.Uniform = omega arith
+rule-long rule.Maximum = omega arith
+rule-long rule.Continuous = omega arith
+
+symbol-long : (symbol : List ℕ) → is_symbol symbol ≡ true → HasByte symbol
+symbol-long symbol is =
+    let name = (and_parts (is_name symbol) (not (is_option symbol)) is).0 in
+    let sized = (and_parts (nat_le 1 (length symbol) && nat_le (length symbol) 64) (list_all is_name_byte symbol) name).0 in
+    let some = leb-true 1 (length symbol) (and_parts (nat_le 1 (length symbol)) (nat_le (length symbol) 64) sized).0 in
+    omega arith
+
+path-long : (path : List ℕ) → is_path path ≡ true → HasByte path
+path-long [] is = cc
+path-long (byte ∷ rest) is = omega arith
+
+-- each word of the options has a byte
+options-long : (one other : List ℕ) (orders trades : Form) → HasByte one → HasByte other → All HasByte (form_option one orders ++ form_option other trades)
+options-long one other Csv Csv a b = All-nil HasByte
+options-long one other Csv Fix a b = All-cons HasByte other _ b (All-cons HasByte (codes "fix") [] (omega arith) (All-nil HasByte))
+options-long one other Fix Csv a b = All-cons HasByte one _ a (All-cons HasByte (codes "fix") [] (omega arith) (All-nil HasByte))
+options-long one other Fix Fix a b = All-cons HasByte one _ a (All-cons HasByte (codes "fix") _ (omega arith)
+    (All-cons HasByte other _ b (All-cons HasByte (codes "fix") [] (omega arith) (All-nil HasByte))))
+
+-- the words of `offences` for a page
+abbrev asking : Rule → List ℕ → List ℕ → List ℕ → Form → Form → List (List ℕ)
+asking the_rule symbol orders trades of_orders of_trades = codes "offences" ∷ rule_word the_rule ∷ symbol ∷ orders ∷ trades
+    ∷ form_option (codes "--orders-form") of_orders ++ form_option (codes "--trades-form") of_trades
+
+-- what they ask for
+abbrev asked_for : Rule → List ℕ → List ℕ → List ℕ → Form → Form → DeskRequest
+asked_for the_rule symbol orders trades of_orders of_trades = Whole (Offences the_rule symbol
+    (record { orders = orders; trades = trades; orders_form = of_orders; trades_form = of_trades }) false no_checks)
+
+asks-as : (the_rule : Rule) (symbol orders trades : List ℕ) (of_orders of_trades : Form) → is_symbol symbol ≡ true → is_path orders ≡ true → is_path trades ≡ true
+    → desk_request_of (asking the_rule symbol orders trades of_orders of_trades) ≡ Some (asked_for the_rule symbol orders trades of_orders of_trades)
+asks-as the_rule symbol orders trades Csv Csv s o t = rw (rule-read the_rule, s, o, t) refl
+asks-as the_rule symbol orders trades Csv Fix s o t = rw (rule-read the_rule, s, o, t) refl
+asks-as the_rule symbol orders trades Fix Csv s o t = rw (rule-read the_rule, s, o, t) refl
+asks-as the_rule symbol orders trades Fix Fix s o t = rw (rule-read the_rule, s, o, t) refl
+
+pub tells-words : ShellReadsCommand → PageTellsItsWords
+tells-words reads words request found totals digests named asked names =
+    let well = names-well words request asked in
+    let path = λ (p q : List ℕ) (e : p ≡ q) (is : is_path q ≡ true). path-long p (ap is_path e ∙ is) in
+    record {
+      shell = reads (words_on_page request found totals named)
+          (All-cons HasByte (codes "offences") _ (omega arith)
+          (All-cons HasByte (rule_word request.rule) _ (rule-long request.rule)
+          (All-cons HasByte request.symbol _ (symbol-long request.symbol well.symbol)
+          (All-cons HasByte named.orders.now _ (path named.orders.now request.logs.orders names.orders_are well.orders)
+          (All-cons HasByte named.trades.now _ (path named.trades.now request.logs.trades names.trades_are well.trades)
+          (options-long (codes "--orders-form") (codes "--trades-form") named.orders_form named.trades_form (omega arith) (omega arith)))))));
+      asks =
+          (λ i. desk_request_of (asking request.rule request.symbol (names.orders_are i) (names.trades_are i) (names.orders_form_is i) (names.trades_form_is i)))
+          ∙ asks-as request.rule request.symbol request.logs.orders request.logs.trades request.logs.orders_form request.logs.trades_form well.symbol well.orders well.trades;
+    }
+
+-- with nothing found beyond the rule, the answer to an accepted log is its text
+accepted-begins : (quoted : QuotedRecords) (accepted : Accepted) (found : List FurtherFinding) (the_status : Status) (text : List ℕ) → found ≡ []
+    → IsAnswerToAccepted quoted accepted found the_status text → BeginsWithVerdict (verdict.Accepted accepted) the_status text
+accepted-begins quoted accepted [] the_status text none answer = record {
+  status_is = answer.status_is;
+  rest = [];
+  text_is = answer.text_is ∙ sym (append-nil (accepted_text accepted));
+}
+accepted-begins quoted accepted (first ∷ rest) the_status text none answer = cc
+
+pub has-verdict : RecordVerdictIsOne → NothingIsFoundUnasked → OffencesHaveThePagesVerdict
+has-verdict one unasked request entries paired the_verdict the_status text is present =
+    begins the_verdict (one (page_question request) entries paired the_verdict present.the_verdict is present.is)
+  where
+    by : (v : Verdict) → IsAnswerByVerdict (offences_question request) entries paired v the_status text → BeginsWithVerdict v the_status text
+    by (verdict.Accepted accepted) answer = accepted-begins _ accepted _ the_status text (unasked no_checks _ _ _ refl) answer
+    by (verdict.Rejected first) answer = record { status_is = answer.status_is; rest = _; text_is = answer.text_is }
+    by (verdict.Malformed log bad) answer = absurd answer
+
+    begins : (v : Verdict) → v ≡ present.the_verdict → BeginsWithVerdict v the_status text
+    begins v same = subst (λ (w : Verdict). BeginsWithVerdict w the_status text) (sym same) (by present.the_verdict present.answer)
