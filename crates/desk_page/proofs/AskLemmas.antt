@@ -22,11 +22,9 @@ use Rattle.audit_report.specs.Texts.{accepted_text, rejected_text, verdict_text}
 use Rattle.command_words.specs.declared.options.Options.{Options}
 use Rattle.command_words.specs.WordForms.{is_option, is_path, is_symbol, nth_word, rule_named, symbol_named, word_equals}
 use Rattle.command_words.specs.Words.{names_logs}
-use Rattle.desk_words.specs.declared.offence_words.OffenceOptions.{OffenceOptions}
 use Rattle.desk_words.specs.declared.requests.DeskRequest.{DeskRequest}
 use Rattle.desk_words.specs.declared.requests.DeskRequest.TheVariants.{Whole}
 use Rattle.desk_words.specs.declared.requests.WholeRequest.TheVariants.{Offences}
-use Rattle.desk_words.specs.OffenceWords.{options_under}
 use Rattle.desk_words.specs.Words.{desk_request_of, form_options_in, named_logs}
 use Rattle.further_checks.specs.Laws.{NothingIsFoundUnasked}
 use Rattle.further_checks.specs.FurtherRules.{further_findings_of_symbol, no_checks, times_of_symbol}
@@ -71,6 +69,9 @@ record IsMadeOf {A B : Type 0} (o : Option A) (f : A → Option B) (x : B) : Typ
 given-then : {A B : Type 0} (o : Option A) (f : A → Option B) (x : B) → option_and_then f o ≡ Some x → IsMadeOf o f x
 given-then None f x e = absurd cc
 given-then (Some a) f x e = record { value = a; is = refl; made = e }
+
+some-same : {A : Type 0} {x y : A} → Some x ≡ Some y → x ≡ y
+some-same e = cc
 
 -- what the words of `page` give, step by step
 abbrev said_by : Rule → List ℕ → Options → Option PageWords
@@ -119,9 +120,6 @@ names-well words request e =
           trades = ap is_path (sym (ap (λ (r : PageRequest). r.logs.trades) all)) ∙ other;
         }
 
-    some-same : {A : Type 0} {x y : A} → Some x ≡ Some y → x ≡ y
-    some-same e = cc
-
 rule-read : (the_rule : Rule) → rule_named (rule_word the_rule) ≡ Some the_rule
 rule-read rule.Matching = refl
 rule-read rule.Fair = refl
@@ -147,13 +145,17 @@ path-long : (path : List ℕ) → is_path path ≡ true → HasByte path
 path-long [] is = absurd (true≢false (sym is))
 path-long (byte ∷ rest) is = omega arith
 
+-- the word `fix` alone
+last : All HasByte (codes "fix" ∷ [])
+last = All-cons HasByte (codes "fix") [] (omega arith) (All-nil HasByte)
+
 -- each word of the options has a byte
 options-long : (one other : List ℕ) (orders trades : Form) → HasByte one → HasByte other → All HasByte (form_option one orders ++ form_option other trades)
 options-long one other Csv Csv a b = All-nil HasByte
-options-long one other Csv Fix a b = All-cons HasByte other _ b (All-cons HasByte (codes "fix") [] (omega arith) (All-nil HasByte))
-options-long one other Fix Csv a b = All-cons HasByte one _ a (All-cons HasByte (codes "fix") [] (omega arith) (All-nil HasByte))
-options-long one other Fix Fix a b = All-cons HasByte one _ a (All-cons HasByte (codes "fix") _ (omega arith)
-    (All-cons HasByte other _ b (All-cons HasByte (codes "fix") [] (omega arith) (All-nil HasByte))))
+options-long one other Csv Fix a b = All-cons HasByte other (codes "fix" ∷ []) b last
+options-long one other Fix Csv a b = All-cons HasByte one (codes "fix" ∷ []) a last
+options-long one other Fix Fix a b = All-cons HasByte one (codes "fix" ∷ other ∷ codes "fix" ∷ []) a
+    (All-cons HasByte (codes "fix") (other ∷ codes "fix" ∷ []) (omega arith) (All-cons HasByte other (codes "fix" ∷ []) b last))
 
 -- the words of `offences` for a page
 abbrev asking : Rule → List ℕ → List ℕ → List ℕ → Form → Form → List (List ℕ)
@@ -172,6 +174,10 @@ asks-as the_rule symbol orders trades Csv Fix s o t = rw (rule-read the_rule, s,
 asks-as the_rule symbol orders trades Fix Csv s o t = rw (rule-read the_rule, s, o, t) refl
 asks-as the_rule symbol orders trades Fix Fix s o t = rw (rule-read the_rule, s, o, t) refl
 
+-- the options of both logs
+abbrev options : PageLogs → List (List ℕ)
+options named = form_option (codes "--orders-form") named.orders_form ++ form_option (codes "--trades-form") named.trades_form
+
 pub tells-words : ShellReadsCommand → PageTellsItsWords
 tells-words reads words request found totals digests named asked names =
     let well = names-well words request asked in
@@ -180,11 +186,11 @@ tells-words reads words request found totals digests named asked names =
     λ i. desk_request_of (asking request.rule request.symbol (names.orders_are i) (names.trades_are i) (names.orders_form_is i) (names.trades_form_is i)) in
     record {
       shell = reads (words_on_page request found totals named)
-          (All-cons HasByte (codes "offences") _ (omega arith)
-          (All-cons HasByte (rule_word request.rule) _ (rule-long request.rule)
-          (All-cons HasByte request.symbol _ (symbol-long request.symbol well.symbol)
-          (All-cons HasByte named.orders.now _ (path named.orders.now request.logs.orders names.orders_are well.orders)
-          (All-cons HasByte named.trades.now _ (path named.trades.now request.logs.trades names.trades_are well.trades)
+          (All-cons HasByte (codes "offences") (rule_word request.rule ∷ request.symbol ∷ named.orders.now ∷ named.trades.now ∷ options named) (omega arith)
+          (All-cons HasByte (rule_word request.rule) (request.symbol ∷ named.orders.now ∷ named.trades.now ∷ options named) (rule-long request.rule)
+          (All-cons HasByte request.symbol (named.orders.now ∷ named.trades.now ∷ options named) (symbol-long request.symbol well.symbol)
+          (All-cons HasByte named.orders.now (named.trades.now ∷ options named) (path named.orders.now request.logs.orders names.orders_are well.orders)
+          (All-cons HasByte named.trades.now (options named) (path named.trades.now request.logs.trades names.trades_are well.trades)
           (options-long (codes "--orders-form") (codes "--trades-form") named.orders_form named.trades_form (omega arith) (omega arith)))))));
       asks = moved ∙ asks-as request.rule request.symbol request.logs.orders request.logs.trades request.logs.orders_form request.logs.trades_form well.symbol well.orders well.trades;
     }
