@@ -1,11 +1,8 @@
 -- The words on a page ask for its verdict.
-use Rattle.std.proofs.Common.{◌≡◌, ◌<◌, ◌≤◌, ◌+◌, ℕ, Bool, true, false, List, [], ◌∷◌, ◌++◌, drop, length, Option, Some, None, Result, refl, sym, ap, ◌∙◌, subst, inl, inr, arith, append-nil, true≢false}
-use Rattle.std.specs.Prelude.{◌==◌, ◌&&◌, not, nat_le, All, codes, if◌then◌else◌, option_and_then}
-use Rattle.std.proofs.lemmas.Bool.{and_parts, cases_Bool, eqb-true, leb-true}
+use Rattle.std.proofs.Common.{◌≡◌, ℕ, Bool, true, false, List, [], ◌∷◌, ◌++◌, drop, length, Option, Some, None, refl, sym, ap, ◌∙◌, subst, arith, append-nil, true≢false}
+use Rattle.std.specs.Prelude.{◌&&◌, not, nat_le, All, codes, if◌then◌else◌, option_and_then}
+use Rattle.std.proofs.lemmas.Bool.{and_parts, leb-true}
 use Rattle.std.proofs.lemmas.List.Elements.{All-cons, All-nil}
-use Rattle.audit_base.specs.declared.findings.Finding.{Finding}
-use Rattle.audit_base.specs.declared.records.OrderRecord.{OrderRecord}
-use Rattle.audit_base.specs.declared.records.TradeRecord.{TradeRecord}
 use Rattle.audit_base.specs.declared.terms.Form.{Form}
 use Rattle.audit_base.specs.declared.terms.Form.TheVariants.{Csv, Fix}
 use Rattle.audit_base.specs.declared.terms.Rule.{Rule}
@@ -18,7 +15,7 @@ use Rattle.audit_report.specs.declared.statuses.Status.{Status}
 use Rattle.audit_report.specs.declared.verdicts.Accepted.{Accepted}
 use Rattle.audit_report.specs.declared.verdicts.Verdict.{Verdict}
 use Rattle.audit_report.specs.declared.verdicts.Verdict.TheVariants as verdict
-use Rattle.audit_report.specs.Texts.{accepted_text, rejected_text, verdict_text}
+use Rattle.audit_report.specs.Texts.{accepted_text}
 use Rattle.command_words.specs.declared.options.Options.{Options}
 use Rattle.command_words.specs.WordForms.{is_option, is_path, is_symbol, nth_word, rule_named, symbol_named, word_equals}
 use Rattle.command_words.specs.Words.{names_logs}
@@ -33,22 +30,18 @@ use Rattle.offence_list.specs.Offences.{record_offences}
 use Rattle.page_parts.specs.Laws.{HasByte, ShellReadsCommand}
 use Rattle.page_parts.specs.Repeats.{form_option}
 use Rattle.record_verdict.specs.Laws.{RecordVerdictIsOne}
-use Rattle.record_verdict.specs.RecordVerdicts.{IsRecordVerdict}
 use Rattle.symbol_offences.specs.declared.symbol_logs.QuotedRecords.{QuotedRecords}
-use Rattle.symbol_offences.specs.OffenceAnswers.{IsAnswerByVerdict, IsAnswerToAccepted, IsAnswerToPresent, orders_under_rule}
+use Rattle.symbol_offences.specs.OffenceAnswers.{IsAnswerByVerdict, IsAnswerToAccepted, orders_under_rule}
 use Rattle.symbol_offences.specs.OffenceLines.{offence_lines}
 use Rattle.symbol_offences.specs.SymbolLogs.{quoted_records}
 use Rattle.audit_base.specs.Histories.{order_list}
 use Rattle.audit_base.specs.Trades.{deals_of_symbol}
 use Rattle.audit_base.specs.Verdicts.{paired_trades}
-use Rattle.log_digests.specs.declared.digests.LogDigests.{LogDigests}
 use Rattle.page_parts.specs.declared.repeats.PageLogs.{PageLogs}
-use Rattle.page_parts.specs.declared.sentences.SymbolTotals.{SymbolTotals}
 use Rattle.desk_page.specs.declared.requests.PageRequest.{PageRequest}
 use Rattle.desk_page.specs.declared.words.PageWords.{PageWords}
-use Rattle.desk_page.specs.Laws.{AsksThePage, BeginsWithVerdict, OffencesHaveThePagesVerdict, PageTellsItsWords, as_offences, offences_question, words_on_page}
+use Rattle.desk_page.specs.Laws.{BeginsWithVerdict, OffencesHaveThePagesVerdict, PageTellsItsWords, offences_question, words_on_page}
 use Rattle.desk_page.specs.PageAnswers.{page_question}
-use Rattle.desk_page.specs.PageLogs.{NamesLogs}
 use Rattle.desk_page.specs.Words.{page_request_of, page_words, request_behind}
 
 -- what a choice with nothing in its other branch gave

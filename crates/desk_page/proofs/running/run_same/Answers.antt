@@ -1,5 +1,5 @@
 use Rattle.std.proofs.Common.{refl, sym, ◌∙◌}
-use Rattle.desk_page.proofs.TopLemmas.{answers-below, named-log}
+use Rattle.desk_page.proofs.TopLemmas.{answers-below}
 use Rattle.log_digests.specs.DigestShelves.{name_of_log}
 use Rattle.desk_page.proofs.running.run_same.Goals as goal
 
