@@ -47,10 +47,10 @@ unfoldable pub book_words : List ℕ
 book_words = codes "At most ten orders of each side, best first: the bids, and below them the asks. A bar is as long as the quantity of its order, and filled as far as is left of it; its limit is at the left, what is left at the right."
 
 -- what the marks are, where one is drawn
-unfoldable pub marks_words : Bool → List ℕ
-marks_words false = []
-marks_words true = codes " The marks 1 and 2 are those of the table."
+unfoldable pub book_marks_words : Bool → List ℕ
+book_marks_words false = []
+book_marks_words true = codes " The marks 1 and 2 are those of the table."
 
 -- the words below the picture of the book, by whether a mark is drawn
 abbrev pub book_caption : Bool → List ℕ
-book_caption has_marks = book_words ++ marks_words has_marks
+book_caption has_marks = book_words ++ book_marks_words has_marks

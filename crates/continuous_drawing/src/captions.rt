@@ -81,9 +81,9 @@ fn book_words() -> &'static [u8]
 }
 
 /// What the marks are, where one is drawn.
-#[tactic(auto, unfolding(crate::specs::Captions::marks_words))]
-fn marks_words(has_marks: bool) -> &'static [u8]
-    ensures { result.now ≡ spec.marks_words has_marks }
+#[tactic(auto, unfolding(crate::specs::Captions::book_marks_words))]
+fn book_marks_words(has_marks: bool) -> &'static [u8]
+    ensures { result.now ≡ spec.book_marks_words has_marks }
 {
     if has_marks {
         b" The marks 1 and 2 are those of the table."
@@ -97,6 +97,6 @@ pub(crate) fn book_caption(alloc: Global, has_marks: bool) -> Result<Vec<u8>, No
     ensures { IfOk result (λ text. text.items ≡ spec.book_caption has_marks) }
 {
     let mut text = Vec::from_slice(alloc, book_words())?;
-    text.extend_from_slice(marks_words(has_marks))?;
+    text.extend_from_slice(book_marks_words(has_marks))?;
     Ok(text)
 }
