@@ -22,19 +22,19 @@ use Rattle.day_page.proofs.RowLemmas.{no-rows}
 
 -- A text behind lines.
 
-rows-behind : (front more : List ℕ) → rows_of_text (front ++ 10 ∷ more) ≡ rows_of_text front ++ rows_of_text more
+rows-behind : (asked front more : List ℕ) → rows_of_text asked (front ++ 10 ∷ more) ≡ rows_of_text asked front ++ rows_of_text asked more
 unfolding text_lines
-rows-behind front more = ap (flat_map row_of_line) (parts-behind is_newline front 10 more refl) ∙ flat_map-append row_of_line (slice_split is_newline front) (slice_split is_newline more)
+rows-behind asked front more = ap (flat_map (row_of_line asked)) (parts-behind is_newline front 10 more refl) ∙ flat_map-append (row_of_line asked) (slice_split is_newline front) (slice_split is_newline more)
 
 -- the LF of a last line gives no row of its own
-rows-ended : (front : List ℕ) → rows_of_text (front ++ 10 ∷ []) ≡ rows_of_text front
-rows-ended front = rows-behind front [] ∙ ap (λ (l : List ℕ). rows_of_text front ++ l) no-rows ∙ append-nil (rows_of_text front)
+rows-ended : (asked front : List ℕ) → rows_of_text asked (front ++ 10 ∷ []) ≡ rows_of_text asked front
+rows-ended asked front = rows-behind asked front [] ∙ ap (λ (l : List ℕ). rows_of_text asked front ++ l) (no-rows asked) ∙ append-nil (rows_of_text asked front)
 
-pub rows-of-more : (text more : List ℕ) → IsLines text → rows_of_text (text ++ more) ≡ rows_of_text text ++ rows_of_text more
-rows-of-more text more (inl none) = rw (none, no-rows) refl
-rows-of-more text more (inr (front, is)) =
-    ap (λ (l : List ℕ). rows_of_text (l ++ more)) is ∙ ap rows_of_text (append_assoc front (10 ∷ []) more) ∙ rows-behind front more
-    ∙ ap (λ (l : List ℕ). l ++ rows_of_text more) (sym (rows-ended front) ∙ sym (ap rows_of_text is))
+pub rows-of-more : (asked text more : List ℕ) → IsLines text → rows_of_text asked (text ++ more) ≡ rows_of_text asked text ++ rows_of_text asked more
+rows-of-more asked text more (inl none) = rw (none, no-rows asked) refl
+rows-of-more asked text more (inr (front, is)) =
+    ap (λ (l : List ℕ). rows_of_text asked (l ++ more)) is ∙ ap (rows_of_text asked) (append_assoc front (10 ∷ []) more) ∙ rows-behind asked front more
+    ∙ ap (λ (l : List ℕ). l ++ rows_of_text asked more) (sym (rows-ended asked front) ∙ sym (ap (rows_of_text asked) is))
 
 -- A report with the symbol before each of its lines.
 
@@ -51,12 +51,12 @@ lines-of-symbol symbol report (inr (front, is)) =
     inr (ended.0, ap (symbol_lines symbol) is ∙ ended.1)
 
 -- what the lines of each symbol give, one after another
-pub rows-of-reports : (reports : List (List ℕ × List ℕ)) → All (λ r. IsLines r.1) reports
-    → rows_of_text (flat_map (λ r. symbol_lines r.0 r.1) reports) ≡ flat_map (λ r. rows_of_text (symbol_lines r.0 r.1)) reports
-rows-of-reports [] are = no-rows
-rows-of-reports (r ∷ reports) are =
-    rows-of-more (symbol_lines r.0 r.1) (flat_map (λ q. symbol_lines q.0 q.1) reports) (lines-of-symbol r.0 r.1 (All-head (λ q. IsLines q.1) r reports are))
-    ∙ ap (λ (l : List ℕ). rows_of_text (symbol_lines r.0 r.1) ++ l) (rows-of-reports reports (All-tail (λ q. IsLines q.1) r reports are))
+pub rows-of-reports : (asked : List ℕ) (reports : List (List ℕ × List ℕ)) → All (λ r. IsLines r.1) reports
+    → rows_of_text asked (flat_map (λ r. symbol_lines r.0 r.1) reports) ≡ flat_map (λ r. rows_of_text asked (symbol_lines r.0 r.1)) reports
+rows-of-reports asked [] are = no-rows asked
+rows-of-reports asked (r ∷ reports) are =
+    rows-of-more asked (symbol_lines r.0 r.1) (flat_map (λ q. symbol_lines q.0 q.1) reports) (lines-of-symbol r.0 r.1 (All-head (λ q. IsLines q.1) r reports are))
+    ∙ ap (λ (l : List ℕ). rows_of_text asked (symbol_lines r.0 r.1) ++ l) (rows-of-reports asked reports (All-tail (λ q. IsLines q.1) r reports are))
 
 -- Names and numbers have no LF.
 
@@ -79,9 +79,9 @@ one-part (byte ∷ text) e =
     let parts = or_parts (is_newline byte) (list_any is_newline text) e in
     slice_split-cons_no is_newline byte text parts.0 ∙ ap (onto_first byte) (one-part text parts.1)
 
-pub rows-of-line : (line : List ℕ) → list_any is_newline line ≡ false → rows_of_text line ≡ row_of_line line
+pub rows-of-line : (asked line : List ℕ) → list_any is_newline line ≡ false → rows_of_text asked line ≡ row_of_line asked line
 unfolding text_lines
-rows-of-line line e = ap (flat_map row_of_line) (one-part line e) ∙ append-nil (row_of_line line)
+rows-of-line asked line e = ap (flat_map (row_of_line asked)) (one-part line e) ∙ append-nil (row_of_line asked line)
 
 -- The line of the counts gives no row: its second field is a number.
 
@@ -96,26 +96,26 @@ second-field : (digits more : List ℕ) → list_all is_name_byte digits ≡ tru
 unfolding behind_commas field_at
 second-field digits more h = before-comma digits more h
 
-no-row-of-number : (digits more : List ℕ) → list_all is_name_byte digits ≡ true → list_all is_ascii_digit digits ≡ true → row_of_line (codes "day" ++ 44 ∷ (digits ++ 44 ∷ more)) ≡ []
-no-row-of-number digits more h d = rw (second-field digits more h, no-word digits 116 _ (lit< tt) d, no-word digits 114 _ (lit< tt) d) refl
+no-row-of-number : (asked digits more : List ℕ) → list_all is_name_byte digits ≡ true → list_all is_ascii_digit digits ≡ true → row_of_line asked (codes "day" ++ 44 ∷ (digits ++ 44 ∷ more)) ≡ []
+no-row-of-number asked digits more h d = rw (second-field digits more h, no-word digits 116 _ (lit< tt) d, no-word digits 114 _ (lit< tt) d) refl
 
 few_digits : (n : ℕ) → n < 2 ^ 64 → n < 10 ^ 64
 few_digits n few = omega (arith, few)
 
-counts-give-none : (counts : DayCounts) (question_text : List ℕ) → AreCountsOfDay counts → list_any is_newline question_text ≡ false → rows_of_text (day_line counts question_text) ≡ []
-counts-give-none counts question_text few line =
+counts-give-none : (asked : List ℕ) (counts : DayCounts) (question_text : List ℕ) → AreCountsOfDay counts → list_any is_newline question_text ≡ false → rows_of_text asked (day_line counts question_text) ≡ []
+counts-give-none asked counts question_text few line =
     let rejected_line = line-behind (decimal counts.rejected) (44 ∷ question_text) (one-line (decimal counts.rejected) (decimal_is_unquoted counts.rejected (few_digits counts.rejected few.rejected))) line in
     let accepted_line = line-behind (decimal counts.accepted) (44 ∷ (decimal counts.rejected ++ 44 ∷ question_text)) (one-line (decimal counts.accepted) (decimal_is_unquoted counts.accepted (few_digits counts.accepted few.accepted))) rejected_line in
     let rest = 44 ∷ (decimal counts.accepted ++ 44 ∷ (decimal counts.rejected ++ 44 ∷ question_text)) in
     let symbols_name = decimal_is_unquoted counts.symbols (few_digits counts.symbols few.symbols) in
     let symbols_line = line-behind (decimal counts.symbols) rest (one-line (decimal counts.symbols) symbols_name) accepted_line in
     let line_is = codes "day" ++ 44 ∷ (decimal counts.symbols ++ rest) in
-    rows-ended line_is ∙ rows-of-line line_is symbols_line
-    ∙ no-row-of-number (decimal counts.symbols) (decimal counts.accepted ++ 44 ∷ (decimal counts.rejected ++ 44 ∷ question_text)) symbols_name (decimal_digits counts.symbols (few_digits counts.symbols few.symbols))
+    rows-ended asked line_is ∙ rows-of-line asked line_is symbols_line
+    ∙ no-row-of-number asked (decimal counts.symbols) (decimal counts.accepted ++ 44 ∷ (decimal counts.rejected ++ 44 ∷ question_text)) symbols_name (decimal_digits counts.symbols (few_digits counts.symbols few.symbols))
 
-pub have-rows : (counts : DayCounts) (question_text : List ℕ) (reports : List (List ℕ × List ℕ)) → AreCountsOfDay counts → IsTrue (is_one_line question_text) → All (λ r. IsLines r.1) reports
-    → rows_of_text (day_line counts question_text ++ flat_map (λ r. symbol_lines r.0 r.1) reports) ≡ flat_map (λ r. rows_of_text (symbol_lines r.0 r.1)) reports
-have-rows counts question_text reports few line are =
-    rows-of-more (day_line counts question_text) (flat_map (λ r. symbol_lines r.0 r.1) reports) (inr (join_with_byte 44 (codes "day" ∷ decimal counts.symbols ∷ decimal counts.accepted ∷ decimal counts.rejected ∷ question_text ∷ []), refl))
-    ∙ ap (λ (l : List ℕ). l ++ rows_of_text (flat_map (λ r. symbol_lines r.0 r.1) reports)) (counts-give-none counts question_text few (not-true (list_any is_newline question_text) line))
-    ∙ rows-of-reports reports are
+pub have-rows : (asked : List ℕ) (counts : DayCounts) (question_text : List ℕ) (reports : List (List ℕ × List ℕ)) → AreCountsOfDay counts → IsTrue (is_one_line question_text) → All (λ r. IsLines r.1) reports
+    → rows_of_text asked (day_line counts question_text ++ flat_map (λ r. symbol_lines r.0 r.1) reports) ≡ flat_map (λ r. rows_of_text asked (symbol_lines r.0 r.1)) reports
+have-rows asked counts question_text reports few line are =
+    rows-of-more asked (day_line counts question_text) (flat_map (λ r. symbol_lines r.0 r.1) reports) (inr (join_with_byte 44 (codes "day" ∷ decimal counts.symbols ∷ decimal counts.accepted ∷ decimal counts.rejected ∷ question_text ∷ []), refl))
+    ∙ ap (λ (l : List ℕ). l ++ rows_of_text asked (flat_map (λ r. symbol_lines r.0 r.1) reports)) (counts-give-none asked counts question_text few (not-true (list_any is_newline question_text) line))
+    ∙ rows-of-reports asked reports are

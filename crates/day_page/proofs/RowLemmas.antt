@@ -28,28 +28,28 @@ broken-said word words said out one more e p q =
     q ∙ ap (λ (l : List ℕ). l ++ words) p ∙ append_assoc out (codes "a record ") words ∙ ap (λ (s : Option (List ℕ)). out ++ broken_by_record word s) e
 
 -- a line with nothing in it gives no row
-pub no-row : row_of_line [] ≡ []
+pub no-row : (asked : List ℕ) → row_of_line asked [] ≡ []
 unfolding behind_commas field_at
-no-row = refl
+no-row asked = refl
 
-pub no-rows : rows_of_text [] ≡ []
+pub no-rows : (asked : List ℕ) → rows_of_text asked [] ≡ []
 unfolding text_lines
-no-rows = ap (λ (l : List ℕ). l ++ []) no-row
+no-rows asked = ap (λ (l : List ℕ). l ++ []) (no-row asked)
 
 -- the rows of a text are that of its first line, and those of what is behind it
-pub first-row : (text : List ℕ) → rows_of_text text ≡ row_of_line (first_line text) ++ rows_of_text (behind_line text)
+pub first-row : (asked text : List ℕ) → rows_of_text asked text ≡ row_of_line asked (first_line text) ++ rows_of_text asked (behind_line text)
 unfolding behind_line first_line text_lines
-first-row text = first-part row_of_line is_newline text no-row
+first-row asked text = first-part (row_of_line asked) is_newline text (no-row asked)
 
 -- one line more
-pub one-row-more : (text rest left line rows more : List ℕ) → rows ++ rows_of_text rest ≡ rows_of_text text → line ≡ first_line rest → left ≡ behind_line rest → more ≡ rows ++ row_of_line line
-    → more ++ rows_of_text left ≡ rows_of_text text
-one-row-more text rest left line rows more so_far line_is left_is more_is =
-    ap (λ (l : List ℕ). l ++ rows_of_text left) more_is ∙ ap (λ (l : List ℕ). (rows ++ row_of_line l) ++ rows_of_text left) line_is
-    ∙ ap (λ (l : List ℕ). (rows ++ row_of_line (first_line rest)) ++ rows_of_text l) left_is ∙ append_assoc rows (row_of_line (first_line rest)) (rows_of_text (behind_line rest))
-    ∙ ap (λ (l : List ℕ). rows ++ l) (sym (first-row rest)) ∙ so_far
+pub one-row-more : (asked text rest left line rows more : List ℕ) → rows ++ rows_of_text asked rest ≡ rows_of_text asked text → line ≡ first_line rest → left ≡ behind_line rest → more ≡ rows ++ row_of_line asked line
+    → more ++ rows_of_text asked left ≡ rows_of_text asked text
+one-row-more asked text rest left line rows more so_far line_is left_is more_is =
+    ap (λ (l : List ℕ). l ++ rows_of_text asked left) more_is ∙ ap (λ (l : List ℕ). (rows ++ row_of_line asked l) ++ rows_of_text asked left) line_is
+    ∙ ap (λ (l : List ℕ). (rows ++ row_of_line asked (first_line rest)) ++ rows_of_text asked l) left_is ∙ append_assoc rows (row_of_line asked (first_line rest)) (rows_of_text asked (behind_line rest))
+    ∙ ap (λ (l : List ℕ). rows ++ l) (sym (first-row asked rest)) ∙ so_far
 
 -- no line is left
-pub all-rows : (text rest rows : List ℕ) → rows ++ rows_of_text rest ≡ rows_of_text text → length rest ≡ 0 → rows ≡ rows_of_text text
-all-rows text [] rows so_far none = sym (ap (λ (l : List ℕ). rows ++ l) no-rows ∙ append-nil rows) ∙ so_far
-all-rows text (byte ∷ rest) rows so_far none = absurd (omega arith)
+pub all-rows : (asked text rest rows : List ℕ) → rows ++ rows_of_text asked rest ≡ rows_of_text asked text → length rest ≡ 0 → rows ≡ rows_of_text asked text
+all-rows asked text [] rows so_far none = sym (ap (λ (l : List ℕ). rows ++ l) (no-rows asked) ∙ append-nil rows) ∙ so_far
+all-rows asked text (byte ∷ rest) rows so_far none = absurd (omega arith)

@@ -12,10 +12,14 @@ use Rattle.day_page.specs.Rows.{day_columns, rows_of_text}
 abbrev pub tells_symbols : List ℕ → Bool
 tells_symbols line = is_word (field_at 0 line) (codes "day")
 
--- the heading of the page, with what the symbols were judged by: a rule, or the phases of a day
+-- what is asked of the day, by which its symbols were judged: a rule, or the phases of a day
+abbrev pub asked_of_day : List ℕ → List ℕ
+asked_of_day line = behind_commas 4 line
+
+-- the heading of the page, with that
 abbrev pub day_heading : List ℕ → List ℕ
 day_heading line = if tells_symbols line
-    then codes "Every symbol of the day by " ++ behind_commas 4 line
+    then codes "Every symbol of the day by " ++ asked_of_day line
     else codes "Every symbol of the day"
 
 -- the counts in a sentence
@@ -48,7 +52,8 @@ day_head = head_of_table day_columns
 
 -- the table of the symbols that a text tells of, where its first line counts them
 abbrev pub day_table : List ℕ → List ℕ
-day_table text = table_element day_caption day_head (rows_of_text text)
+day_table text =
+    table_element day_caption day_head (rows_of_text (asked_of_day (first_line text)) text)
 
 abbrev pub table_if_told : List ℕ → List ℕ
 table_if_told text = if tells_symbols (first_line text) then day_table text else []

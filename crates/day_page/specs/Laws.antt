@@ -39,11 +39,12 @@ pub record AreCountsOfDay (counts : DayCounts) : Type 0 where
   pub accepted : counts.accepted < 2 ^ 64
   pub rejected : counts.rejected < 2 ^ 64
 
--- each symbol has its rows, in order: those of the text of a day, which is the line of its counts
--- and the lines of each symbol's report, are those of each symbol's lines, one after another
+-- each symbol has its rows, in order, whatever is asked of the day: those of the text of a day, which
+-- is the line of its counts and the lines of each symbol's report, are those of each symbol's lines,
+-- one after another
 abbrev pub SymbolsHaveTheirRows : Type 0
-SymbolsHaveTheirRows = (counts : DayCounts) (question_text : List ℕ)
+SymbolsHaveTheirRows = (asked : List ℕ) (counts : DayCounts) (question_text : List ℕ)
     (reports : List (List ℕ × List ℕ)) → AreCountsOfDay counts → IsTrue (is_one_line question_text)
     → All (λ r. IsLines r.1) reports
-    → rows_of_text (day_line counts question_text ++ flat_map (λ r. symbol_lines r.0 r.1) reports)
-    ≡ flat_map (λ r. rows_of_text (symbol_lines r.0 r.1)) reports
+    → rows_of_text asked (day_line counts question_text ++ flat_map (λ r. symbol_lines r.0 r.1) reports)
+    ≡ flat_map (λ r. rows_of_text asked (symbol_lines r.0 r.1)) reports

@@ -29,6 +29,13 @@ fn tells_symbols(line: &[u8]) -> bool
     is_word(field_at(line, 0), b"day")
 }
 
+/// What is asked of the day, by its first line: a rule, or phases.
+fn asked_of_day(line: &[u8]) -> &[u8]
+    ensures { result.now ≡ spec.asked_of_day line.now }
+{
+    behind_commas(line, 4)
+}
+
 /// The heading of the page.
 fn day_heading(alloc: Global, line: &[u8]) -> Result<Vec<u8>, NoMemory>
     ensures { IfOk result (λ text. text.items ≡ spec.day_heading line.now) }
@@ -37,7 +44,7 @@ fn day_heading(alloc: Global, line: &[u8]) -> Result<Vec<u8>, NoMemory>
         return Ok(Vec::from_slice(alloc, b"Every symbol of the day")?);
     }
     let mut text = Vec::from_slice(alloc, b"Every symbol of the day by ")?;
-    text.extend_from_slice(behind_commas(line, 4))?;
+    text.extend_from_slice(asked_of_day(line))?;
     Ok(text)
 }
 
@@ -120,7 +127,7 @@ fn day_table(alloc: Global, text: &[u8]) -> Result<Markup, NoMemory>
     ensures { IfOk result (λ made. made ≡ spec.day_table text.now) }
 {
     let head = day_head(alloc)?;
-    let rows = rows_of_text(alloc, text)?;
+    let rows = rows_of_text(alloc, asked_of_day(first_line(text)), text)?;
     table_of(alloc, day_caption(), &head, &rows)
 }
 

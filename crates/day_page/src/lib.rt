@@ -11,5 +11,6 @@ pub mod day_pages;
 pub mod file_names;
 pub mod laws;
 mod lines;
+mod links;
 mod property_words;
 mod rows;

@@ -46,7 +46,7 @@ fn find_property<'a>(properties: &'a [Property], word: &[u8]) -> Option<&'a Prop
 }
 
 /// The property that has this word.
-fn property_of_word(word: &[u8]) -> Option<Property>
+pub(crate) fn property_of_word(word: &[u8]) -> Option<Property>
     ensures { result ≡ spec.property_of_word word.now }
 {
     find_property(&PROPERTIES, word).copied()

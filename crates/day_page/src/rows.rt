@@ -4,6 +4,7 @@ ghost use Rattle.day_page.specs.Rows as spec;
 
 use crate::file_names::page_address;
 use crate::lines::{behind_line, field_at, first_line, is_word};
+use crate::links::has_page;
 use crate::property_words::{is_of_volume, rejected_words};
 use audit_base::faults::NoMemory;
 use page_markup::markup::Markup;
@@ -38,6 +39,16 @@ fn linked_heading(alloc: Global, symbol: &[u8]) -> Result<Markup, NoMemory>
     let address = page_address(alloc, symbol)?;
     let inner = with_link(alloc, Markup::new(alloc), &address, symbol)?;
     row_heading_of(alloc, &inner)
+}
+
+/// The heading of the row of a symbol that is rejected, by whether it has a page.
+fn rejected_heading(alloc: Global, linked: bool, symbol: &[u8]) -> Result<Markup, NoMemory>
+    ensures { IfOk result (λ made. made ≡ spec.rejected_heading linked symbol.now) }
+{
+    if linked {
+        return linked_heading(alloc, symbol);
+    }
+    symbol_heading(alloc, symbol)
 }
 
 /// With a cell of a number behind it, as the report writes it.
@@ -99,19 +110,20 @@ fn with_record(
     with_digits(alloc, row, place)
 }
 
-/// The cells of the row of a symbol that is rejected.
+/// The cells of the row of a symbol that is rejected, by whether it has a page.
 fn rejected_cells(
     alloc: Global,
+    linked: bool,
     symbol: &[u8],
     property: &[u8],
     log: &[u8],
     place: &[u8],
 ) -> Result<Markup, NoMemory>
     ensures { IfOk result
-        (λ made. made ≡ spec.rejected_cells symbol.now property.now log.now place.now) }
+        (λ made. made ≡ spec.rejected_cells linked symbol.now property.now log.now place.now) }
 {
     let words = rejected_words(alloc, property)?;
-    let row = linked_heading(alloc, symbol)?;
+    let row = rejected_heading(alloc, linked, symbol)?;
     let row = with_words(alloc, row, &words)?;
     with_record(alloc, row, property, log, place)
 }
@@ -127,39 +139,45 @@ fn with_accepted(alloc: Global, rows: Markup, line: &[u8]) -> Result<Markup, NoM
     rows.with_element(Tag::Row, &[], &cells)
 }
 
-/// With the row of the symbol behind it that a line rejects.
-fn with_rejected(alloc: Global, rows: Markup, line: &[u8]) -> Result<Markup, NoMemory>
-    ensures { IfOk result (λ more. more ≡ rows ++ spec.row_of_rejection line.now) }
+/// With the row of the symbol behind it that a line rejects, where this is asked of the day.
+fn with_rejected(alloc: Global, rows: Markup, asked: &[u8], line: &[u8]) -> Result<Markup, NoMemory>
+    ensures { IfOk result (λ more. more ≡ rows ++ spec.row_of_rejection asked.now line.now) }
 {
     let symbol = field_at(line, 0);
     let property = field_at(line, 2);
     let log = field_at(line, 3);
-    let cells = rejected_cells(alloc, symbol, property, log, field_at(line, 4))?;
+    let linked = has_page(asked, symbol, property);
+    let cells = rejected_cells(alloc, linked, symbol, property, log, field_at(line, 4))?;
     rows.with_element(Tag::Row, &[], &cells)
 }
 
-/// With the row behind it that a line gives, if it gives one.
-fn with_row_of_line(alloc: Global, rows: Markup, line: &[u8]) -> Result<Markup, NoMemory>
-    ensures { IfOk result (λ more. more ≡ rows ++ spec.row_of_line line.now) }
+/// With the row behind it that a line gives, if it gives one, where this is asked of the day.
+fn with_row_of_line(
+    alloc: Global,
+    rows: Markup,
+    asked: &[u8],
+    line: &[u8],
+) -> Result<Markup, NoMemory>
+    ensures { IfOk result (λ more. more ≡ rows ++ spec.row_of_line asked.now line.now) }
 {
     let kind = field_at(line, 1);
     if is_word(kind, b"totals") {
         return with_accepted(alloc, rows, line);
     }
     if is_word(kind, b"rejected") {
-        return with_rejected(alloc, rows, line);
+        return with_rejected(alloc, rows, asked, line);
     }
     Ok(rows)
 }
 
-/// The rows that the lines of a text give, in their order.
-pub(crate) fn rows_of_text(alloc: Global, text: &[u8]) -> Result<Markup, NoMemory>
-    ensures { IfOk result (λ rows. rows ≡ spec.rows_of_text text.now) }
+/// The rows that the lines of a text give, in their order, where this is asked of the day.
+pub(crate) fn rows_of_text(alloc: Global, asked: &[u8], text: &[u8]) -> Result<Markup, NoMemory>
+    ensures { IfOk result (λ rows. rows ≡ spec.rows_of_text asked.now text.now) }
 {
     let mut rows = Markup::new(alloc);
     let mut rest = text;
     while !rest.is_empty() {
-        rows = with_row_of_line(alloc, rows, first_line(rest))?;
+        rows = with_row_of_line(alloc, rows, asked, first_line(rest))?;
         rest = behind_line(rest);
     }
     Ok(rows)
