@@ -7,12 +7,15 @@ use Rattle.audit_base.specs.Trades.{TradesInRange}
 use Rattle.audit_base.specs.Verdicts.{paired_trades}
 use Rattle.day_logs.proofs.LawLemmas.{written-alike}
 use Rattle.day_sessions.specs.JudgedSessions.{AreJudgedSessions, AreSessionsOfDay, told_by_sessions}
-use Rattle.day_sessions.specs.Laws.{OneSessionAnswer}
+use Rattle.day_sessions.specs.Laws.{OneSessionAnswer, SharesOfPhasesAreTheDay}
 use Rattle.day_sessions.specs.SymbolSessions.{IsSymbolSession, session_told, told_by_session}
 use Rattle.day_symbols.specs.Kept.{AreForEach}
+use Rattle.day_symbols.specs.Laws.{SharesAreTheDay}
+use Rattle.day_symbols.specs.Symbols.{symbols_of_day}
 use Rattle.day_verdicts.specs.declared.judging.JudgedSymbols.{JudgedSymbols}
 use Rattle.day_verdicts.specs.CheckedSymbols.{after_checks}
 use Rattle.day_verdicts.specs.Laws.{SayTheSame as SayTheSameDay}
+use Rattle.day_verdicts.proofs.ShareTellingLemmas.{shares-tell}
 use Rattle.day_verdicts.specs.ToldSymbols.{counts_of, day_lines_of, Told}
 use Rattle.further_checks.specs.declared.findings.FurtherChecks.{FurtherChecks}
 use Rattle.log_verdict.specs.LogVerdicts.{trades_of_trade_log}
@@ -66,3 +69,14 @@ one-session-answer one ranges phases table checks share orders trades question_t
     written-alike (AreSessionsOfDay phases table checks share) question_text orders trades
     (λ entries records x y are is-x is-y. same-judged phases table checks entries records _ x y
     (known (trades_of_trade_log trades.form trades.bytes) (λ p. TradesInRange (paired_trades p)) (Ok records) (ranges trades.form trades.bytes) are) one is-x is-y) a b is-a is-b
+
+-- the shares tell the day
+pub phases-shares-tell : SessionIsOne → TradeLogsAreInRange → SharesAreTheDay → SharesOfPhasesAreTheDay
+phases-shares-tell one ranges shares phases table checks log entries trades whole are is =
+    let within : TradesInRange trades = known (trades_of_trade_log log.form log.bytes) (λ p. TradesInRange (paired_trades p)) (Ok trades) (ranges log.form log.bytes) are in
+    shares-tell (IsSymbolSession phases table entries trades) (session_told checks entries trades)
+    (λ symbol x y is-x is-y.
+    let alike = one symbol phases table entries (Ok trades) x.conforms y.conforms x.text.items y.text.items within is-x is-y in
+    ap (after_checks checks entries trades symbol) (tell-alike x y alike))
+    shares (λ share judged. AreSessionsOfDay phases table checks share entries judged trades) (symbols_of_day entries trades) whole is.sessions is.sessions_are is.tells
+    (λ share judged judged-is. (judged-is.sessions, judged-is.sessions_are, judged-is.tells))

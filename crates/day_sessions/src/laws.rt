@@ -1,6 +1,7 @@
-//! What follows of a day that is judged by phases, as a contract that computes nothing.
-ghost use Rattle.day_sessions.specs.Laws.{OneSessionAnswer};
+//! What follows of a day that is judged by phases, as contracts that compute nothing.
+ghost use Rattle.day_sessions.specs.Laws.{OneSessionAnswer, SharesOfPhasesAreTheDay};
 
+use day_symbols::laws::shares_are_the_day;
 use log_verdict::laws::records_are_in_range;
 use session_audit::session_laws::one_session;
 
@@ -11,4 +12,14 @@ pub fn one_session_answer()
 {
     one_session();
     records_are_in_range();
+}
+
+/// By phases, however many shares a day has, each of its symbols is in exactly one of them, with the
+/// very lines that it has without a share, those of the further checks too.
+pub fn shares_of_phases_are_the_day()
+    ensures { SharesOfPhasesAreTheDay }
+{
+    one_session();
+    records_are_in_range();
+    shares_are_the_day();
 }

@@ -3,3 +3,4 @@ pub mod CheckLemmas
 pub mod VerdictSteps
 mod ListSteps
 pub mod OneDayLemmas
+pub mod ShareTellingLemmas

@@ -11,7 +11,7 @@ use Rattle.day_verdicts.specs.ToldSymbols.{counts_of, day_lines_of}
 use Rattle.day_verdicts.specs.Laws.{OneDay, VerdictsAreOne}
 
 -- two lists with the same members are one
-same-members : {X : Type 0} (xs ys : List X) → length xs ≡ length ys → ((i : ℕ) (x y : X) → slice_get xs i ≡ Some x → slice_get ys i ≡ Some y → x ≡ y) → xs ≡ ys
+pub same-members : {X : Type 0} (xs ys : List X) → length xs ≡ length ys → ((i : ℕ) (x y : X) → slice_get xs i ≡ Some x → slice_get ys i ≡ Some y → x ≡ y) → xs ≡ ys
 same-members [] [] sizes same = refl
 same-members [] (y ∷ ys) sizes same = absurd (omega (arith, sizes))
 same-members (x ∷ xs) [] sizes same = absurd (omega (arith, sizes))

@@ -7,6 +7,9 @@ use Rattle.audit_report.specs.declared.verdicts.Verdict.{Verdict}
 use Rattle.day_verdicts.specs.declared.judging.JudgedSymbols.{JudgedSymbols}
 use Rattle.day_verdicts.specs.CheckedSymbols.{after_checks}
 use Rattle.day_verdicts.specs.DayVerdicts.{AreVerdicts, IsJudgedDay}
+use Rattle.day_symbols.specs.Shares.{DayShare, symbols_in, whole_day}
+use Rattle.day_symbols.specs.Symbols.{symbols_of_day}
+use Rattle.day_verdicts.specs.ShareTelling.{SharesTellTheDay}
 use Rattle.day_verdicts.specs.ToldSymbols.{Told}
 use Rattle.further_checks.specs.declared.findings.FurtherChecks.{FurtherChecks}
 use Rattle.further_checks.specs.FurtherRules.{asks_further}
@@ -36,3 +39,19 @@ abbrev pub UncheckedSymbols : Type 0
 UncheckedSymbols = (checks : FurtherChecks) (entries : List OrderRecord)
     (trades : List TradeRecord) (symbol : List ℕ) (told : Told) → asks_further checks ≡ false
     → after_checks checks entries trades symbol told ≡ told
+
+-- the counts and lines of the verdicts on the symbols of a share, and of the checks
+abbrev pub IsJudgedShareOf : Rule → Bool → FurtherChecks → List OrderRecord → List TradeRecord
+    → DayShare → JudgedSymbols → Type 0
+IsJudgedShareOf rule table checks entries trades share judged =
+    IsJudgedDay rule table checks entries trades
+    (symbols_in share (symbols_of_day entries trades)) judged
+
+-- shares are the day, by a rule: for each number of shares each symbol of the day is in exactly one
+-- of them, with the very lines that it has without a share, those of the further checks too
+abbrev pub SharesOfRuleAreTheDay : Type 0
+SharesOfRuleAreTheDay = (rule : Rule) (table : Bool) (checks : FurtherChecks)
+    (entries : List OrderRecord) (trades : List TradeRecord) (whole : JudgedSymbols)
+    → IsJudgedShareOf rule table checks entries trades whole_day whole
+    → SharesTellTheDay (IsJudgedShareOf rule table checks entries trades)
+    (symbols_of_day entries trades) whole

@@ -4,4 +4,5 @@ pub mod ToldSymbols
 pub mod CheckedSymbols
 pub mod DayVerdicts
 pub mod VerdictLists
+pub mod ShareTelling
 pub mod Laws

@@ -1,6 +1,7 @@
 //! What follows of the verdicts on a day, as contracts that compute nothing.
-ghost use Rattle.day_verdicts.specs.Laws.{OneDay, UncheckedSymbols, VerdictsAreOne};
+ghost use Rattle.day_verdicts.specs.Laws.{OneDay, SharesOfRuleAreTheDay, UncheckedSymbols, VerdictsAreOne};
 
+use day_symbols::laws::shares_are_the_day;
 use further_checks::laws::nothing_is_found_unasked;
 use record_verdict::laws::record_verdict_is_one;
 
@@ -24,4 +25,13 @@ pub fn unchecked_symbols()
     ensures { UncheckedSymbols }
 {
     nothing_is_found_unasked();
+}
+
+/// By a rule, however many shares a day has, each of its symbols is in exactly one of them, with the
+/// very lines that it has without a share, those of the further checks too.
+pub fn shares_of_a_rule_are_the_day()
+    ensures { SharesOfRuleAreTheDay }
+{
+    record_verdict_is_one();
+    shares_are_the_day();
 }
