@@ -2,6 +2,7 @@ pub mod CountLemmas
 pub mod CsvLemmas
 pub mod FactLemmas
 pub mod KeyLemmas
+pub mod LineLemmas
 pub mod MessageFeedLemmas
 pub mod MessageLemmas
 pub mod SpanLemmas

@@ -6,7 +6,7 @@ use Rattle.fix_messages.specs.Rows.{type_of}
 use Rattle.log_contents.specs.declared.contents.Contents.{Contents}
 use Rattle.log_contents.specs.Counts.{HasCounted}
 use Rattle.log_contents.specs.Facts.{AreFactsOf}
-use Rattle.log_contents.specs.Kinds.{passed_kind}
+use Rattle.log_contents.specs.Kinds.{passed_kind, told_value}
 
 -- the contents have the facts of these records
 abbrev pub HasRecords : {R : Type 0} → (R → List ℕ) → (R → Moment) → Contents R → List R → Type 0
@@ -19,7 +19,8 @@ HasKinds contents kinds = HasCounted contents.kinds kinds
 
 -- the kind of a message with these fields, given whether it is read
 abbrev pub kind_if_read : Bool → List TagValue → List ℕ
-kind_if_read is_read fields = if is_read then type_of fields else passed_kind fields
+kind_if_read is_read fields =
+    if is_read then told_value (type_of fields) else passed_kind fields
 
 -- The contents of a CSV log with these records: their facts, and a kind for each.
 pub record HasCsvRecords {R : Type 0} (symbol_of : R → List ℕ) (time_of : R → Moment)

@@ -8,5 +8,6 @@ pub mod Laws
 pub mod MessageFeeds
 pub mod Summaries
 pub mod Texts
+pub mod ToldLines
 pub mod DayItems
 pub mod DayReading

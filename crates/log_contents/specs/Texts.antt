@@ -1,4 +1,4 @@
--- The text of the contents of two logs. A kind is written as it is in the log: it may hold a comma.
+-- The text of the contents of two logs.
 use Rattle.std.specs.Prelude.{◌≡◌, ℕ, Bool, nat_eq, ◌==◌, ◌&&◌, Option, Some, None, List, [], ◌∷◌, ◌++◌, codes, decimal, drop, length, slice_index, if◌then◌else◌}
 use Rattle.std.specs.List.{flat_map, list_any, starts_with}
 use Rattle.audit_base.specs.Stamps.{stamp_text}

@@ -12,7 +12,7 @@ ghost use Rattle.log_source.specs.Collectors.{HasPlace};
 ghost use Rattle.log_source.specs.Handing.{HandsOnMore};
 
 use crate::kind_counts::KindCounts;
-use crate::message_kinds::passed_kind;
+use crate::message_kinds::{passed_kind, told_value};
 use crate::message_values::type_value;
 use crate::record_facts::{RecordFacts, TimedRecord};
 use audit_base::faults::{NoMemory, Reason};
@@ -59,7 +59,7 @@ impl<R: TimedRecord> Contents<R> {
             OnOk result (HandsOnMore (HasKinds self.old) (HasKinds self.new) (kind ∷ [])) }
     {
         if is_read {
-            self.kinds.count(type_value(body, notes))
+            self.kinds.count(told_value(type_value(body, notes)))
         } else {
             let kind = passed_kind(alloc, body, notes)?;
             self.kinds.count(&kind)

@@ -50,8 +50,7 @@ fn append_counted_line(
     append_line(alloc, log_word(log), &parts, out)
 }
 
-/// Appends a line for each kind of a log, in the order in which each was counted first. A kind is
-/// written as it is, whatever its length: that of a message may hold a comma.
+/// Appends a line for each kind of a log, in the order in which each was counted first.
 fn append_kind_lines(
     alloc: Global,
     log: Which,

@@ -2,7 +2,7 @@
 //! function's contract, so that the check proves it.
 ghost use Rattle.fix_messages.specs.OrderTables.{order_of_message};
 ghost use Rattle.fix_messages.specs.ReportTable.{report_of_message};
-ghost use Rattle.log_contents.specs.Laws.{CountsSumToAll, EachKindOnce, EachMessageHasKind};
+ghost use Rattle.log_contents.specs.Laws.{CountsSumToAll, EachKindOnce, EachMessageHasKind, NothingIsForged};
 
 /// Each kind is there once, and the counts of all sum to how many messages or records there are:
 /// none is left out, and none is counted twice.
@@ -15,4 +15,10 @@ pub fn each_is_counted_once()
 pub fn each_message_has_a_kind()
     ensures orders { EachMessageHasKind order_of_message }
     ensures reports { EachMessageHasKind report_of_message }
+{}
+
+/// Whatever the values of the messages of two logs are, each line of the text of their contents is of
+/// one of its four kinds, and no value writes a line or a field of its own.
+pub fn nothing_is_forged()
+    ensures { NothingIsForged }
 {}
