@@ -1,5 +1,5 @@
 //! Writing the one text of a call.
-ghost use Rattle.std.specs.Prelude.{◌≡◌, ℕ, List, true};
+ghost use Rattle.std.specs.Prelude.{◌≡◌, ℕ, List, true, MatchResult};
 ghost use Rattle.command_run.specs.Deciding.{DecidesAnswer, DecidesRest};
 ghost use Rattle.command_run.specs.Runs.{AnswersCommand, AnswersTooLong, RefusesWords};
 ghost use Rattle.command_run.specs.Writing.{AnswersStop, AnswersText, HasWritten};
@@ -50,6 +50,11 @@ pub fn write_answer<P: Program, K: Sink>(
     out: &mut K,
     decided: Result<Answer, Stop>,
 ) -> Ran<Status, ()>
+    ensures writes { let before = K.state out.old in
+        let after = K.state out.new in
+        MatchResult decided
+        (λ answer. AnswersText before after answer.status answer.text.items result.status)
+        (λ why. AnswersStop before after why result.status) }
     ensures answers { (request : P.Request) (r : Reading)
         → DecidesAnswer r (P.command request) decided
         → AnswersCommand r (P.command request) (K.state out.old) (K.state out.new)

@@ -3,8 +3,9 @@ use Rattle.std.proofs.Common.{◌≡◌, ◌≤◌, ◌⊎◌, refl, sym, subst,
 use Rattle.std.specs.Prelude.{IsTrue, ◌&&◌, ◌||◌, IfErr, IfOk, IfSome, length, MatchResult, nat_eq, nat_le}
 use Rattle.std.specs.Char.{is_ascii_graphic}
 use Rattle.std.specs.Io.{StartsWith}
+use Rattle.std.specs.Io.KnownBytes.{Appends}
 use Rattle.std.specs.List.{list_all, starts_with}
-use Rattle.std.proofs.KnownBytes.{Appends-nil}
+use Rattle.std.proofs.KnownBytes.{Appends-nil, Appends-trans}
 use Rattle.std.proofs.lemmas.Grind.{flat_map-append}
 use Rattle.std.proofs.lemmas.List.{take_at}
 use Rattle.audit_base.specs.declared.terms.Which.{Which}
@@ -12,18 +13,20 @@ use Rattle.audit_base.specs.declared.terms.Which.TheVariants.{Orders, Trades}
 use Rattle.audit_base.specs.Sizes.{soh}
 use Rattle.audit_report.specs.declared.statuses.Status.{Status}
 use Rattle.audit_report.specs.declared.statuses.Status.TheVariants as status
+use Rattle.audit_report.specs.Lines.{read_fault_line, too_long_line}
 use Rattle.command_run.specs.declared.answers.Answer.{Answer}
 use Rattle.command_run.specs.Commands.{Command}
 use Rattle.command_run.specs.Deciding.{DecidesRest, IsAnswerOfKind, RestStops}
 use Rattle.command_run.specs.Early.{BeginsEveryAnswer, IsEarlyAt, ReadsFront}
 use Rattle.command_run.specs.Runs.{AnswersCommand, IsAnswerToReadLogs, IsEarlyText, ReadingDecides, ReadsThenStarts}
 use Rattle.command_run.specs.VerdictAnswers.{IsAnswerWith}
-use Rattle.command_run.specs.Writing.{HasWritten}
+use Rattle.command_run.specs.Writing.{AnswersStop, AnswersText, HasWritten}
 use Rattle.desk_words.specs.DressWords.{HasSohWord}
 use Rattle.desk_words.specs.declared.dress_words.DayDress.{DayDress}
 use Rattle.desk_words.specs.declared.dress_words.DayDress.TheVariants.{OnLines}
-use Rattle.desk_words.specs.declared.requests.DeskRequest.TheVariants.{Early}
-use Rattle.desk_words.specs.declared.requests.EarlyRequest.TheVariants.{Plain}
+use Rattle.desk_words.specs.declared.requests.DeskRequest.{DeskRequest}
+use Rattle.desk_words.specs.declared.requests.DeskRequest.TheVariants.{Early, Whole}
+use Rattle.desk_words.specs.declared.requests.EarlyRequest.TheVariants.{Orders as GeneratedOrders, Plain}
 use Rattle.fix_days.specs.declared.faults.BadMessage.{BadMessage}
 use Rattle.fix_days.specs.Fronts.{BeginsReadings}
 use Rattle.fix_days.specs.Laws.{written_line}
@@ -45,7 +48,8 @@ use Rattle.plain_logs.specs.PlainLogs.{ReadsFrontOf, StopsWriting, TakesUpTo, Wr
 use Rattle.plain_logs.specs.PlainTexts.{plain_text}
 use Rattle.desk_run.specs.Digesting.{stop_of_take}
 use Rattle.desk_run.specs.PlainAnswers.{bad_line, day_reading, IsPlainAnswer, plain_status, text_for_soh}
-use Rattle.desk_run.specs.PlainWriting.{FailsAt, WritesDay, WritesOfFront, WritesToEnd, WritesToStop, WritesWithin}
+use Rattle.desk_run.specs.PlainMessages.{WritesMessages, WritesMessagesOf, WritesOfFront}
+use Rattle.desk_run.specs.PlainWriting.{FailsAt, WritesDay, WritesToEnd, WritesToStop, WritesWithin}
 use Rattle.desk_run.specs.Requests.{desk_command_of}
 use Rattle.desk_run.specs.TopCall.{desk_reading}
 use Rattle.desk_run.proofs.DigestLemmas.{first_stop, stop-cause, stop-within}
@@ -244,3 +248,63 @@ stays-on a b c first second =
     let early = first.later in
     let late = second.later in
     record { tells = second.tells ∙ first.tells; sure = second.sure ∙ first.sure; later = omega (arith, early, late) }
+
+-- Where the day did not come to its end, whole messages were written.
+module _ (r : Reading) (reads : List ℕ → List (List ℕ) → Option BadMessage → Type 0) (name : List ℕ) (old mid new : SinkState) where
+  -- the line of a stop behind them
+  abbrev Behind : List ℕ → Type 0
+  Behind line = WritesOfFront r reads name (λ text. Appends old.wrote new.wrote (text ++ line))
+
+  behind : (line : List ℕ) → Appends mid.wrote new.wrote line → WritesOfFront r reads name (Appends old.wrote mid.wrote) → Behind line
+  behind line then early = record {
+    front = early.front;
+    bodies = early.bodies;
+    read = early.read;
+    begins = early.begins;
+    wrote = Appends-trans old.wrote mid.wrote new.wrote (plain_text early.bodies) line early.wrote then;
+  }
+
+  -- nothing behind them
+  same-sink : new ≡ mid → WritesOfFront r reads name (Appends old.wrote mid.wrote) → WritesOfFront r reads name (Appends old.wrote new.wrote)
+  same-sink same early = subst (λ (s : SinkState). WritesOfFront r reads name (Appends old.wrote s.wrote)) (sym same) early
+
+  fault-messages : (result : Status) → result ≡ status.WriteFault → WritesMessages r reads name old new result
+  fault-messages result is = subst (WritesMessages r reads name old new) (sym is) tt
+
+  line-messages : (the_status : Status) (line : List ℕ) (result : Status) → (Appends mid.wrote new.wrote line → WritesMessages r reads name old new the_status) → AnswersText mid new the_status line result → WritesMessages r reads name old new result
+  line-messages the_status line result gives (inl all) = subst (WritesMessages r reads name old new) (sym all.status_is) (gives all.wrote)
+  line-messages the_status line result gives (inr fault) = fault-messages result fault.status_is
+
+  stop-messages : (early : WritesOfFront r reads name (Appends old.wrote mid.wrote)) (fault : TakeFault) (result : Status) → AnswersStop mid new (stop_of_take Orders fault) result → WritesMessages r reads name old new result
+  stop-messages early take.Fault result answers = line-messages status.ReadFault (read_fault_line Orders) result (λ wrote. behind (read_fault_line Orders) wrote early) answers
+  stop-messages early take.TooLong result answers = line-messages status.TooLong (too_long_line Orders) result (λ wrote. behind (too_long_line Orders) wrote early) answers
+  stop-messages early take.Memory result answers = subst (WritesMessages r reads name old new) (sym answers.status_is) (same-sink answers.nothing early)
+
+  pub stopped-messages : (fault : TakeFault) (stops : Type 0) (result : Status) → WritesToStop r reads name old mid stops → AnswersStop mid new (stop_of_take Orders fault) result → WritesMessages r reads name old new result
+  stopped-messages fault stops result is answers = stop-messages is.early fault result answers
+
+  -- the end of the day, with or without a bad message
+  by-end : (bad : Option BadMessage) → WritesMessages r reads name old new (plain_status bad)
+  by-end None = tt
+  by-end (Some bad) = tt
+
+  end-messages : (end : DayEnd) (is : WritesToEnd r reads name old mid end) (front : ReadsFront r (step_of r Orders name) is.bytes) (decided : Result Answer Stop) (result : Status)
+      → MatchResult decided (IsAnswerOfKind (IsAnswerWith (plain_status end.bad) (end.text.items ++ bad_line end.bad))) (λ why. why ≡ stop.Memory)
+      → MatchResult decided (λ answer. AnswersText mid new answer.status answer.text.items result) (λ why. AnswersStop mid new why result) → WritesMessages r reads name old new result
+  end-messages end is front (Ok answer) result says answers =
+      line-messages answer.status answer.text.items result (λ wrote. subst (WritesMessages r reads name old new) (sym says.status_is) (by-end end.bad)) answers
+  end-messages end is front (Err why) result says answers =
+      stop-messages (record { front = is.bytes; bodies = is.bodies; read = front; begins = is.begins; wrote = is.wrote }) take.Memory result (subst (λ (w : Stop). AnswersStop mid new w result) says answers)
+
+-- the same of a day that was read to its end
+pub ended-messages : (r : Reading) (day : List ℕ) (dress : DayDress) (only : TouchesOnly r Orders) (old mid new : SinkState) (end : DayEnd) (is : WritesToEnd r (day_reading dress) day old mid end) (decided : Result Answer Stop) (result : Status)
+    → MatchResult decided (IsAnswerOfKind (IsAnswerWith (plain_status end.bad) (end.text.items ++ bad_line end.bad))) (λ why. why ≡ stop.Memory)
+    → MatchResult decided (λ answer. AnswersText mid new answer.status answer.text.items result) (λ why. AnswersStop mid new why result) → WritesMessages r (day_reading dress) day old new result
+ended-messages r day dress only old mid new end is decided result says answers =
+    end-messages r (day_reading dress) day old mid new end is (whole-front r day dress only is.bytes is.read) decided result says answers
+
+-- where memory ran out before any word was answered
+pub words-messages : (request : DeskRequest) (r : Reading) (sink : SinkState) → WritesMessagesOf request r sink sink status.Memory
+words-messages (Early (Plain day dress)) r sink = (nothing-written r (day_reading dress) day sink).early
+words-messages (Early (GeneratedOrders start count form)) r sink = tt
+words-messages (Whole request) r sink = tt

@@ -4,6 +4,7 @@ pub mod TopCall
 pub mod Requests
 pub mod Contents
 pub mod PlainAnswers
+pub mod PlainMessages
 pub mod WrittenLogs
 -- What private functions pass on to one another.
 pub mod Deciding

@@ -3,7 +3,6 @@ use Rattle.std.specs.Prelude.{ℕ, List, Option, Result, Ok, Err}
 use Rattle.std.specs.Io.KnownBytes.{Appends}
 use Rattle.audit_base.specs.declared.terms.Which.TheVariants.{Orders}
 use Rattle.command_run.specs.declared.answers.Answer.{Answer}
-use Rattle.command_run.specs.Early.{ReadsFront}
 use Rattle.fix_days.specs.declared.faults.BadMessage.{BadMessage}
 use Rattle.fix_days.specs.Fronts.{BeginsReadings}
 use Rattle.log_source.specs.Sinks.{AppendsPart, HasFailureCause, SinkState}
@@ -15,17 +14,7 @@ use Rattle.plain_logs.specs.declared.day_ends.PlainFault.TheVariants as plain
 use Rattle.plain_logs.specs.DayFeeds.{EndsReading}
 use Rattle.plain_logs.specs.PlainTexts.{plain_text}
 use Rattle.desk_run.specs.Digesting.{stop_of_take}
-
--- A front of the day was read, and what is read of every day that begins with it begins with these
--- bodies, whose text was written so.
-pub record WritesOfFront (r : Reading)
-    (reads : List ℕ → List (List ℕ) → Option BadMessage → Type 0) (name : List ℕ)
-    (writes : List ℕ → Type 0) : Type 0 where
-  pub front : List ℕ
-  pub bodies : List (List ℕ)
-  pub read : ReadsFront r (step_of r Orders name) front
-  pub begins : BeginsReadings reads front bodies
-  pub wrote : writes (plain_text bodies)
+use Rattle.desk_run.specs.PlainMessages.{WritesOfFront}
 
 -- The day was read to its end, the text of its first bodies was written, and this is its end.
 pub record WritesToEnd (r : Reading)

@@ -36,6 +36,7 @@ use Rattle.log_verdict.specs.Steps.{reading_within, FaultsNeverFall, KeepsShelfL
 use Rattle.session_audit.specs.declared.phases.Phase.{Phase}
 use Rattle.session_audit.specs.Texts.{phases_text}
 use Rattle.session_audit.specs.declared.verdicts.Session.{Session as SymbolSession}
+use Rattle.desk_run.specs.PlainMessages.{PlainWritesMessages}
 use Rattle.desk_run.specs.Requests.{day_question, desk_command_of, share_or_whole}
 
 -- what a call of `desk` knows of a shelf: a log may have 34,359,738,368 bytes
@@ -153,8 +154,9 @@ pub record AnswersDay (asked : Option DeskRequest) (r : Reading) (old new : Sink
 
 -- What `desk` does in a call of these words, `asked` being what well-formed words ask for:
 -- the headline; the same of every command and the logs that it needs; whatever fails, each status
--- with its cause and with what was written; a log that is too long is answered as such; the shelf
--- has what it had; no count of faults falls; and the sink is of the same kind as before.
+-- with its cause and with what was written; of `plain` whole messages, where it stops; a log that is
+-- too long is answered as such; the shelf has what it had; no count of faults falls; and the sink is
+-- of the same kind as before.
 pub record DeskAnswers {S : Type 0} (shelf : Shelf S) (asked : Option DeskRequest) (old new : S)
     (sink_old sink_new : SinkState) (status : Status) : Type 0 where
   pub headline : AnswersDay asked (desk_reading shelf old new) sink_old sink_new status
@@ -162,6 +164,7 @@ pub record DeskAnswers {S : Type 0} (shelf : Shelf S) (asked : Option DeskReques
       sink_old sink_new status
   pub causes : AnswersWithCause desk_command_of desk_usage_line asked
       (desk_reading shelf old new) sink_old sink_new status
+  pub messages : PlainWritesMessages asked (desk_reading shelf old new) sink_old sink_new status
   pub too_long : AnswersTooLong (desk_reading shelf old new) status
   pub logs : KeepsShelfLogs shelf old new
   pub later : FaultsNeverFall (desk_reading shelf old new)

@@ -6,6 +6,7 @@ ghost use Rattle.command_run.specs.Deciding.{IsAnswerOfKind};
 ghost use Rattle.command_run.specs.Runs.{AnswersCommand, AnswersTooLong};
 ghost use Rattle.command_run.specs.VerdictAnswers.{IsAnswerWith};
 ghost use Rattle.desk_run.specs.PlainAnswers.{bad_line, bad_place_of, day_reading, plain_status, text_for_soh};
+ghost use Rattle.desk_run.specs.PlainMessages.{WritesMessages};
 ghost use Rattle.desk_run.specs.PlainWriting.{WritesDay, WritesWithin};
 ghost use Rattle.desk_run.specs.Requests.{desk_command_of};
 ghost use Rattle.desk_run.specs.TopCall.{desk_reading};
@@ -201,6 +202,8 @@ pub(crate) fn run_plain<F: Shelf, K: Sink>(
     ensures answers { AnswersCommand (desk_reading F.Shelf shelf.old shelf.new)
         (desk_command_of (Early (Plain day.now dress.now)))
         (K.state out.old) (K.state out.new) result.status }
+    ensures messages { WritesMessages (desk_reading F.Shelf shelf.old shelf.new)
+        (day_reading dress.now) day.now (K.state out.old) (K.state out.new) result.status }
     ensures too_long { AnswersTooLong (desk_reading F.Shelf shelf.old shelf.new)
         result.status }
 {

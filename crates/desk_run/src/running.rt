@@ -3,6 +3,7 @@
 ghost use Rattle.std.specs.Prelude.{map};
 ghost use Rattle.std.specs.String.{string_bytes};
 ghost use Rattle.command_run.specs.Runs.{AnswersCommand, AnswersTooLong};
+ghost use Rattle.desk_run.specs.PlainMessages.{WritesMessagesOf};
 ghost use Rattle.desk_run.specs.Requests.{desk_command_of};
 ghost use Rattle.desk_run.specs.TopCall.{desk_reading, DeskAnswers};
 ghost use Rattle.desk_words.specs.declared.requests.DeskRequest.TheVariants.{Early, Whole};
@@ -61,6 +62,9 @@ fn run_early<F: Shelf, K: Sink>(
     ensures answers { AnswersCommand (desk_reading F.Shelf shelf.old shelf.new)
         (desk_command_of (Early request.now)) (K.state out.old) (K.state out.new)
         result.status }
+    ensures messages { WritesMessagesOf (Early request.now)
+        (desk_reading F.Shelf shelf.old shelf.new) (K.state out.old) (K.state out.new)
+        result.status }
     ensures too_long { AnswersTooLong (desk_reading F.Shelf shelf.old shelf.new)
         result.status }
 {
@@ -89,6 +93,8 @@ fn run_request<F: Shelf, K: Sink>(
     ensures answers { AnswersCommand (desk_reading F.Shelf shelf.old shelf.new)
         (desk_command_of request.now) (K.state out.old) (K.state out.new)
         result.status }
+    ensures messages { WritesMessagesOf request.now (desk_reading F.Shelf shelf.old shelf.new)
+        (K.state out.old) (K.state out.new) result.status }
     ensures too_long { AnswersTooLong (desk_reading F.Shelf shelf.old shelf.new)
         result.status }
 {

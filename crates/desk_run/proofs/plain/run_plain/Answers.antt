@@ -2,8 +2,9 @@ use Rattle.std.proofs.Common.{◌∙◌, ap, Err, inr, refl}
 use Rattle.desk_words.specs.declared.requests.DeskRequest.TheVariants.{Early}
 use Rattle.desk_words.specs.declared.requests.EarlyRequest.TheVariants.{Plain}
 use Rattle.plain_logs.specs.PlainTexts.{plain_text}
+use Rattle.desk_run.specs.PlainAnswers.{day_reading}
 use Rattle.desk_run.specs.TopCall.{desk_reading}
-use Rattle.desk_run.proofs.PlainLemmas.{end-written, ended-within, first_later, rest-at-end, rest-at-stop, sink-failed, stays-on, stop-written}
+use Rattle.desk_run.proofs.PlainLemmas.{end-written, ended-messages, ended-within, first_later, rest-at-end, rest-at-stop, sink-failed, stays-on, stop-written, stopped-messages}
 use Rattle.desk_run.proofs.plain.run_plain.Goals as goal
 
 pub returns-in-Ok-clause-answers : goal.returns-in-Ok-clause-answers
@@ -58,3 +59,16 @@ returns-in-Err-Sink-clause-later g c = first_later (desk_reading g.F.Shelf c.arg
 
 pub returns-in-Err-Sink-clause-too_long : goal.returns-in-Err-Sink-clause-too_long
 returns-in-Err-Sink-clause-too_long g c = λ begins. inr (inr refl)
+
+pub returns-in-Ok-clause-messages : goal.returns-in-Ok-clause-messages
+returns-in-Ok-clause-messages g c =
+    let r = desk_reading g.F.Shelf c.args.shelf.now c.write_day.new.shelf in
+    ended-messages r c.args.day.now c.args.dress.now c.in-Ok.ensures.only (g.K.Sink.state c.args.out.now) (g.K.Sink.state c.write_day.new.out) (g.K.Sink.state c.write_answer.new.out) c.in-Ok.end c.in-Ok.ensures.writes
+    c.end_or_stop.result c.write_answer.result.status c.end_or_stop.ensures c.write_answer.ensures.writes
+
+pub returns-in-Err-Log-clause-messages : goal.returns-in-Err-Log-clause-messages
+returns-in-Err-Log-clause-messages g c =
+    let r = desk_reading g.F.Shelf c.args.shelf.now c.write_day.new.shelf in
+    let is = rw (c.in-Err-Log.is ∙ ap Err c.in-Err-Log.field-0-is) at c.write_day.ensures.writes in
+    stopped-messages r (day_reading c.args.dress.now) c.args.day.now (g.K.Sink.state c.args.out.now) (g.K.Sink.state c.write_day.new.out) (g.K.Sink.state c.write_answer-in-Err-Log.new.out) c.in-Err-Log.fault _
+    c.write_answer-in-Err-Log.result.status is (rw (c.stop_of_take.ensures, c.in-Err-Log.field-0-is) at c.write_answer-in-Err-Log.ensures.writes)

@@ -8,3 +8,6 @@ returns-in-Orders-clause-answers g c =
 
 pub returns-in-Orders-clause-too_long : goal.returns-in-Orders-clause-too_long
 returns-in-Orders-clause-too_long g c = λ begins. inl begins
+
+pub returns-in-Orders-clause-messages : goal.returns-in-Orders-clause-messages
+returns-in-Orders-clause-messages g c = rw c.in-Orders.is tt
