@@ -3,13 +3,13 @@
 //! Its cases are those of `casebook`, in the same table; their digests are in a table of their
 //! own, which `casebook` passes over. A database is only read until the first filing, which makes
 //! both tables where they are not there, in the transaction in which it adds.
-ghost use Rattle.std.specs.Prelude.{◌≡◌, None, IfOk, IfSome, OnOk, OnErr};
+ghost use Rattle.std.specs.Prelude.{◌≡◌, None, IfOk, IfSome, OnOk, OnErr, IsErrOf};
 ghost use Rattle.case_sqlite.specs.CaseRows.{rows_of_case};
 ghost use Rattle.case_sqlite.specs.Runs.{KeepsDoubt};
 ghost use Rattle.case_sqlite.specs.SqlKeepers.{EndsTransaction};
 ghost use Rattle.case_sqlite.specs.Statements.{find_text};
 ghost use Rattle.digest_keeper.specs.DigestKeepers.{CountsDigestFaults};
-ghost use Rattle.digest_sqlite.specs.DigestRuns.{ShowsIfThere, FindsBothRows, RunsTogether, MakesTreesTogether};
+ghost use Rattle.digest_sqlite.specs.DigestRuns.{ShowsIfThere, FailsToFile, FailsToFind, FailsToFindCase, FailsToFindDigests, FindsBothRows, RunsTogether, MakesTreesTogether};
 ghost use Rattle.digest_sqlite.specs.DigestRows.{rows_of_digests};
 ghost use Rattle.digest_sqlite.specs.DigestStatements.{filing_statements, find_digests_text, cases_table, digests_table};
 ghost use Rattle.digest_sqlite.specs.SqlDigestKeepers.{digest_state_of_faults, CountsDigestFailure};
@@ -67,6 +67,8 @@ fn find_case<S: Alter>(
     ensures shown { HasCleanDisk (state S.Store connection.new) → IfOk result (λ found.
         ShowsIfThere S.Store cases_table find_text label.now connection.old connection.new
         (rows_of_case found)) }
+    ensures cause { HasCleanDisk (state S.Store connection.new) → IsErrOf result KeepFault.Failed
+        → FailsToFindCase S.Store label.now connection.old connection.new }
     ensures clean { KeepsDoubt (state S.Store connection.old) (state S.Store connection.new) }
 {
     let rows = case_rows(alloc, connection, label)?;
@@ -83,6 +85,8 @@ fn find_digests<S: Alter>(
     ensures shown { HasCleanDisk (state S.Store connection.new) → IfOk result (λ found.
         ShowsIfThere S.Store digests_table find_digests_text label.now
         connection.old connection.new (rows_of_digests label.now found)) }
+    ensures cause { HasCleanDisk (state S.Store connection.new) → IsErrOf result KeepFault.Failed
+        → FailsToFindDigests S.Store label.now connection.old connection.new }
     ensures clean { KeepsDoubt (state S.Store connection.old) (state S.Store connection.new) }
 {
     let rows = digest_rows(alloc, connection, label)?;
@@ -100,6 +104,8 @@ fn find_both<S: Alter>(
     ensures ends { EndsTransaction connection.old connection.new }
     ensures shown { HasCleanDisk (state S.Store connection.new)
         → IfOk result (FindsBothRows S.Store label.now connection.old connection.new) }
+    ensures cause { HasCleanDisk (state S.Store connection.new) → IsErrOf result KeepFault.Failed
+        → FailsToFind S.Store label.now connection.old connection.new }
 {
     let found = find_case(alloc, connection, label)?;
     let Some(case) = found else {
@@ -137,7 +143,7 @@ impl<S: Alter> DigestKeeper for SqlDigestKeeper<S> {
     ghost use Rattle.case_sqlite.specs.SqlKeepers.{EndsTransaction};
     ghost use Rattle.digest_keeper.specs.DigestKeepers.{FindsKept, FilesAll};
     ghost use Rattle.digest_sqlite.specs.DigestRows.{HavePlaces};
-    ghost use Rattle.digest_sqlite.specs.DigestRuns.{FindsBothRows, RunsTogether, MakesTreesTogether};
+    ghost use Rattle.digest_sqlite.specs.DigestRuns.{FailsToFile, FailsToFind, FindsBothRows, RunsTogether, MakesTreesTogether};
     ghost use Rattle.digest_sqlite.specs.DigestStatements.{filing_statements};
     ghost use Rattle.digest_sqlite.specs.SqlDigestKeepers.{sql_digest_state, digest_connection_of, CountsDigestFailure};
     ghost use Rattle.sqlite.specs.Held.{state as shown_state};
@@ -154,6 +160,11 @@ impl<S: Alter> DigestKeeper for SqlDigestKeeper<S> {
         ensures shown { HasCleanDisk (shown_state S.Store (digest_connection_of self.new))
             → IfOk result (FindsBothRows S.Store label.now (digest_connection_of self.old)
             (digest_connection_of self.new)) }
+        // It fails only where the database refused a query, or showed rows that are not those of
+        // one case with the label and of one pair of digests.
+        ensures cause { HasCleanDisk (shown_state S.Store (digest_connection_of self.new))
+            → IsErrOf result KeepFault.Failed → FailsToFind S.Store label.now
+            (digest_connection_of self.old) (digest_connection_of self.new) }
     {
         let found = find_both(self.alloc, &mut self.connection, label);
         count_failure(&mut self.faults, found)
@@ -177,6 +188,11 @@ impl<S: Alter> DigestKeeper for SqlDigestKeeper<S> {
             (MakesTreesTogether S.Store (filing_statements filed.now)
             (digest_connection_of self.old)) }
         ensures places { OnOk result (HavePlaces filed.now) }
+        // It fails only where a case has an offence at no place, a transaction is open, or the
+        // database refused a statement or to commit.
+        ensures cause { HasCleanDisk (shown_state S.Store (digest_connection_of self.new))
+            → IsErrOf result KeepFault.Failed
+            → FailsToFile S.Store filed.now (digest_connection_of self.old) }
     {
         let done = file_together(&mut self.connection, filed);
         count_failure(&mut self.faults, done)

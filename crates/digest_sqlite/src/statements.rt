@@ -1,9 +1,9 @@
 //! The statements, and the queries of both tables.
-ghost use Rattle.std.specs.Prelude.{◌≡◌, [], IfOk};
+ghost use Rattle.std.specs.Prelude.{◌≡◌, [], IfOk, IsErrOf};
 ghost use Rattle.case_sqlite.specs.Runs.{KeepsDoubt};
 ghost use Rattle.case_sqlite.specs.SqlKeepers.{EndsTransaction};
 ghost use Rattle.case_sqlite.specs.Statements as cases;
-ghost use Rattle.digest_sqlite.specs.DigestRuns.{ShowsWhether, ShowsIfThere};
+ghost use Rattle.digest_sqlite.specs.DigestRuns.{ShowsWhether, ShowsIfThere, RefusesQuery, RefusesToShow};
 ghost use Rattle.digest_sqlite.specs.DigestStatements as text;
 ghost use Rattle.sqlite.specs.Held.{state};
 ghost use Rattle.sqlite.specs.State.{HasCleanDisk, Shown};
@@ -55,6 +55,8 @@ fn answer<S: Alter>(
     ensures shown { HasCleanDisk (state S.Store connection.new) → IfOk result (λ rows.
         Shown sql.now (text.name_values name.now) (state S.Store connection.old)
         (state S.Store connection.new) rows.items) }
+    ensures cause { HasCleanDisk (state S.Store connection.new) → IsErrOf result KeepFault.Failed
+        → RefusesQuery S.Store sql.now (text.name_values name.now) connection.old connection.new }
     ensures clean { KeepsDoubt (state S.Store connection.old) (state S.Store connection.new) }
 {
     match connection.query_all(sql, &[ValueRef::Text(name)]) {
@@ -68,6 +70,9 @@ fn has_table<S: Alter>(connection: &mut Connection<S>, table: &str) -> Result<bo
     ensures ends { EndsTransaction connection.old connection.new }
     ensures shown { HasCleanDisk (state S.Store connection.new) → IfOk result
         (ShowsWhether S.Store table.now connection.old connection.new) }
+    ensures cause { HasCleanDisk (state S.Store connection.new) → IsErrOf result KeepFault.Failed
+        → RefusesQuery S.Store text.find_table_text (text.name_values table.now)
+        connection.old connection.new }
     ensures clean { KeepsDoubt (state S.Store connection.old) (state S.Store connection.new) }
 {
     let rows = answer(connection, FIND_TABLE, table.as_bytes())?;
@@ -89,6 +94,8 @@ fn rows_if_there<S: Alter>(
     ensures shown { HasCleanDisk (state S.Store connection.new) → IfOk result (λ rows.
         ShowsIfThere S.Store table.now sql.now name.now connection.old connection.new
         rows.items) }
+    ensures cause { HasCleanDisk (state S.Store connection.new) → IsErrOf result KeepFault.Failed
+        → RefusesToShow S.Store table.now sql.now name.now connection.old connection.new }
     ensures clean { KeepsDoubt (state S.Store connection.old) (state S.Store connection.new) }
 {
     if has_table(connection, table)? {
@@ -108,6 +115,9 @@ pub(crate) fn case_rows<S: Alter>(
     ensures shown { HasCleanDisk (state S.Store connection.new) → IfOk result (λ rows.
         ShowsIfThere S.Store text.cases_table cases.find_text label.now
         connection.old connection.new rows.items) }
+    ensures cause { HasCleanDisk (state S.Store connection.new) → IsErrOf result KeepFault.Failed
+        → RefusesToShow S.Store text.cases_table cases.find_text label.now
+        connection.old connection.new }
     ensures clean { KeepsDoubt (state S.Store connection.old) (state S.Store connection.new) }
 {
     rows_if_there(alloc, connection, "cases", FIND_CASE, label.bytes())
@@ -123,6 +133,9 @@ pub(crate) fn digest_rows<S: Alter>(
     ensures shown { HasCleanDisk (state S.Store connection.new) → IfOk result (λ rows.
         ShowsIfThere S.Store text.digests_table text.find_digests_text label.now
         connection.old connection.new rows.items) }
+    ensures cause { HasCleanDisk (state S.Store connection.new) → IsErrOf result KeepFault.Failed
+        → RefusesToShow S.Store text.digests_table text.find_digests_text label.now
+        connection.old connection.new }
     ensures clean { KeepsDoubt (state S.Store connection.old) (state S.Store connection.new) }
 {
     rows_if_there(alloc, connection, "digests", FIND_DIGESTS, label.bytes())

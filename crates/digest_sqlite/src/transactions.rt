@@ -1,9 +1,9 @@
 //! Filing in one transaction: both tables are made where they are not there, and each case is
 //! added with its digests; all of it is committed, or nothing.
-ghost use Rattle.std.specs.Prelude.{◌≡◌, false, [], ◌∷◌, OnOk, OnErr, IsTrue};
+ghost use Rattle.std.specs.Prelude.{◌≡◌, false, [], ◌∷◌, OnOk, OnErr, IfErr, IsErrOf, IsTrue, MatchBool};
 ghost use Rattle.case_sqlite.specs.SqlKeepers.{EndsTransaction};
 ghost use Rattle.digest_sqlite.specs.DigestRows.{HavePlaces};
-ghost use Rattle.digest_sqlite.specs.DigestRuns.{RunsInside, RunsTogether, MakesTreesTogether};
+ghost use Rattle.digest_sqlite.specs.DigestRuns.{FailsToFile, RefusesTogether, RunsInside, RunsTogether, MakesTreesTogether};
 ghost use Rattle.digest_sqlite.specs.DigestStatements as text;
 ghost use Rattle.sqlite.specs.Held.{state};
 ghost use Rattle.sqlite.specs.State.{HasCleanDisk, Survives, KeepsCommit};
@@ -134,6 +134,8 @@ fn commit_all<S: Alter>(connection: &mut Connection<S>, filed: &[DigestedCase]) 
         → OnErr result (KeepsCommit (state S.Store connection.old) (state S.Store connection.new)) }
     ensures survives { Survives (state S.Store connection.old) (state S.Store connection.new)
         (MakesTreesTogether S.Store (text.filing_statements filed.now) connection.old) }
+    ensures cause { HasCleanDisk (state S.Store connection.new)
+        → IfErr result (RefusesTogether S.Store (text.filing_statements filed.now) connection.old) }
 {
     let mut transaction = connection.transaction();
     fill(&mut transaction, filed)?;
@@ -142,7 +144,7 @@ fn commit_all<S: Alter>(connection: &mut Connection<S>, filed: &[DigestedCase]) 
 
 /// Whether a row can have each of these cases.
 fn have_places(filed: &[DigestedCase]) -> bool
-    ensures { IsTrue result → HavePlaces filed.now }
+    ensures { MatchBool result (HavePlaces filed.now) (¬ HavePlaces filed.now) }
 {
     filed.iter().all(|digested| has_place(&digested.case))
 }
@@ -161,6 +163,8 @@ pub(crate) fn file_together<S: Alter>(
     ensures survives { Survives (state S.Store connection.old) (state S.Store connection.new)
         (MakesTreesTogether S.Store (text.filing_statements filed.now) connection.old) }
     ensures places { OnOk result (HavePlaces filed.now) }
+    ensures cause { HasCleanDisk (state S.Store connection.new) → IsErrOf result KeepFault.Failed
+        → FailsToFile S.Store filed.now connection.old }
 {
     if !have_places(filed) {
         return Err(KeepFault::Failed);

@@ -9,4 +9,4 @@ pub returns-clause-shown : goal.returns-clause-shown
 returns-clause-shown g c clean =
     IfOk-weaker c.one_pair.result _ _
     (λ found is. subst (ShowsIfThere g.S.Store digests_table find_digests_text c.args.label.now c.args.connection.now c.digest_rows.new.connection) (sym c.deref.ensures.value ∙ is) (c.in_ok-rows.ensures.shown clean))
-    c.one_pair.ensures
+    c.one_pair.ensures.rows

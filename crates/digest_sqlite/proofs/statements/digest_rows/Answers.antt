@@ -1,7 +1,7 @@
 -- The name that is asked for is the label.
 use Rattle.std.proofs.Common.{subst}
 use Rattle.std.specs.Prelude.{IfOk}
-use Rattle.digest_sqlite.specs.DigestRuns.{ShowsIfThere}
+use Rattle.digest_sqlite.specs.DigestRuns.{RefusesToShow, ShowsIfThere}
 use Rattle.digest_sqlite.specs.DigestStatements.{digests_table, find_digests_text}
 use Rattle.digest_sqlite.proofs.statements.digest_rows.Goals as goal
 
@@ -9,3 +9,7 @@ pub returns-clause-shown : goal.returns-clause-shown
 returns-clause-shown g c clean =
     subst (λ name. IfOk c.rows_if_there.result (λ rows. ShowsIfThere g.S.Store digests_table find_digests_text name c.args.connection.now c.rows_if_there.new.connection rows.items))
     c.bytes.ensures.same (c.rows_if_there.ensures.shown clean)
+
+pub returns-clause-cause : goal.returns-clause-cause
+returns-clause-cause g c clean failed =
+    subst (λ name. RefusesToShow g.S.Store digests_table find_digests_text name c.args.connection.now c.rows_if_there.new.connection) c.bytes.ensures.same (c.rows_if_there.ensures.cause clean failed)

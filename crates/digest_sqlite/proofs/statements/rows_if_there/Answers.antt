@@ -1,5 +1,5 @@
 -- The table was asked for, and its rows where it is there.
-use Rattle.std.proofs.Common.{true, false, refl, subst, arith}
+use Rattle.std.proofs.Common.{inr, true, false, refl, subst, arith}
 use Rattle.std.proofs.lemmas.Result.{IfOk-weaker}
 use Rattle.digest_sqlite.specs.DigestRuns.{ShowsWhether}
 use Rattle.digest_sqlite.proofs.statements.rows_if_there.Goals as goal
@@ -21,3 +21,12 @@ returns-else-branch-clause-shown g c clean = record {
   asked = subst (ShowsWhether g.S.Store c.args.table.now c.args.connection.now c.has_table.new.connection) c.if-branch.false (c.in_ok-has_table.ensures.shown clean);
   shown = (refl, c.new.ensures.items);
 }
+
+pub returns-then-branch-clause-cause : goal.returns-then-branch-clause-cause
+returns-then-branch-clause-cause g c clean failed =
+    inr (
+      c.has_table.new.connection,
+      subst (ShowsWhether g.S.Store c.args.table.now c.args.connection.now c.has_table.new.connection) c.if-branch.true
+          (c.in_ok-has_table.ensures.shown (omega (arith, clean, c.answer.ensures.clean))),
+      c.answer.ensures.cause clean failed,
+    )

@@ -1,5 +1,6 @@
 -- All statements ran inside, and what they left was committed.
-use Rattle.std.proofs.Common.{ap, ◌∙◌, arith, rules}
+use Rattle.std.proofs.lemmas.Result.{IfErr-weaker}
+use Rattle.std.proofs.Common.{inr, ap, ◌∙◌, arith, rules}
 use Rattle.std.specs.Prelude.{OnOk}
 use Rattle.case_sqlite.proofs.RunLemmas.{on_ok_then, moved}
 use Rattle.sqlite.specs.Effect.{Database}
@@ -42,3 +43,13 @@ returns-clause-survives g c =
     (survives_then (state g.S.Store old) (state g.S.Store mid) (state g.S.Store end) (λ _. ⊥) _ P (λ _ db none. absurd none)
     (λ clean db is. record { inside = mid; ran = ran clean; trees = is })
     (survives_begin g.S.Store old (state g.S.Store mid) (λ _. ⊥) (rw begun at c.fill.ensures.survives)) c.commit.ensures.survives)
+
+pub returns-clause-cause : goal.returns-clause-cause
+returns-clause-cause g c clean =
+    let end = c.commit.new.self.0 in
+    let begun = c.transaction-transaction.ensures.begun in
+    let late : HasCleanDisk (state g.S.Store end) = search rules in
+    let all = c.in_ok-fill.ensures.inside (omega (arith, c.commit.ensures.survives.clean)) (rw begun) in
+    IfErr-weaker c.commit.result _ _
+    (λ error failed. inr (record { inside = c.fill.new.transaction.conn.now; ran = rw begun at all.ran; new = end; is = failed }))
+    (c.commit.ensures.err late)
