@@ -20,12 +20,12 @@ module _ {W T : Type 0} (Answers : List (List ℕ) → W → W → T → Type 0)
   AnswersFrom known Begins new status =
       (old : W) × Begins old × AnswersCommandLine known old new status
 
-  -- such an answer to words of which nothing is known, or there was no memory to begin a run
-  abbrev pub AnswersUnknownWords : (W → Type 0) → T → Type 0
-  AnswersUnknownWords Begins status =
-      (status ≡ memory) ⊎ ((new : W) × AnswersFrom None Begins new status)
-
   -- the process ends with the number of such an answer
-  abbrev pub EndsAsAnswer : (T → ℕ) → (W → Type 0) → ExitCode → Type 0
-  EndsAsAnswer number Begins code =
-      (status : T) × (exit_status code ≡ number status) × AnswersUnknownWords Begins status
+  abbrev pub EndsAsAnswer : (T → ℕ) → Option (List (List ℕ)) → (W → Type 0) → W → ExitCode
+      → Type 0
+  EndsAsAnswer number known Begins new code =
+      (status : T) × (exit_status code ≡ number status) × AnswersFrom known Begins new status
+
+  -- the process ends so where nothing is known of its words, nor of what the run left
+  abbrev pub EndsAsSomeAnswer : (T → ℕ) → (W → Type 0) → ExitCode → Type 0
+  EndsAsSomeAnswer number Begins code = (new : W) × EndsAsAnswer number None Begins new code

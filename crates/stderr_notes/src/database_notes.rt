@@ -1,33 +1,34 @@
 //! What is said of a database of cases.
 use crate::log_notes::refusal;
+use crate::notes::Notes;
 use crate::word_parts::is_result;
 use command_words::word_forms::is_path;
 use std::fs;
 
 /// Whether there is no database under a path.
-pub fn is_database_missing(rt: &HostRuntime, path: &str) -> bool {
-    fs::metadata(rt, path).is_err()
+pub fn is_database_missing<N: Notes>(notes: &N, path: &str) -> bool {
+    fs::metadata(notes, path).is_err()
 }
 
 /// Says that the database under a path was made, where it was missing and is there.
-pub fn print_made_database(rt: &HostRuntime, program: &str, path: &str, was_missing: bool) {
-    if was_missing && !is_database_missing(rt, path) {
-        let _written = eprintln!(rt; "{program}: {path} was not there, and has been made");
+pub fn print_made_database<N: Notes>(notes: &N, program: &str, path: &str, was_missing: bool) {
+    if was_missing && !is_database_missing(notes, path) {
+        let _written = eprintln!(notes; "{program}: {path} was not there, and has been made");
     }
 }
 
 /// Says which database could not be opened, read or written, and why the system refuses its
 /// file, where it does.
-pub fn print_database_fault(rt: &HostRuntime, program: &str, path: &str) {
+pub fn print_database_fault<N: Notes>(notes: &N, program: &str, path: &str) {
     let _written = if is_path(path) {
-        match refusal(rt, path) {
-            Some(error) => eprintln!(rt; "{program}: {path}: {error}"),
-            None => eprintln!(rt;
+        match refusal(notes, path) {
+            Some(error) => eprintln!(notes; "{program}: {path}: {error}"),
+            None => eprintln!(notes;
                 "{program}: {path}: it is no database, may not be written, is open in another process, or has a row that is no case"
             ),
         }
     } else {
-        eprintln!(rt; "{program}: no path '{path}': one that begins with - is written as ./-")
+        eprintln!(notes; "{program}: no path '{path}': one that begins with - is written as ./-")
     };
 }
 
@@ -45,11 +46,11 @@ fn lists_result(words: &[String]) -> bool {
 }
 
 /// Says that a list of one word is that of a symbol, where the word is a result's.
-pub fn print_listed_symbols(rt: &HostRuntime, words: &[String]) {
+pub fn print_listed_symbols<N: Notes>(notes: &N, words: &[String]) {
     let mut begins = true;
     for place in 1..words.len() {
         if begins && lists_result(&words[place..]) {
-            let _written = eprintln!(rt;
+            let _written = eprintln!(notes;
                 "casebook: list with one word is of a symbol of this name: give the symbol before the result"
             );
         }

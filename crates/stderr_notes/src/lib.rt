@@ -13,6 +13,7 @@ pub mod command_line;
 pub mod database_notes;
 pub mod log_notes;
 pub mod noted_shelf;
+pub mod notes;
 pub mod program_ends;
 pub mod usage_notes;
 mod word_parts;

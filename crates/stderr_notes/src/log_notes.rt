@@ -3,6 +3,7 @@
 //! Why a file could not be read is asked of the system once more, so what has changed meanwhile is
 //! shown as it is now. A pipe is not asked again.
 use crate::noted_shelf::NotedShelf;
+use crate::notes::Notes;
 use audit_base::columns::column_name;
 use audit_base::faults::{BadPlace, Reason};
 use audit_base::terms::Which;
@@ -14,9 +15,9 @@ use std::{fs, str};
 
 /// Why the system does not let a file be read, as it says itself when it is asked once more.
 /// What may wait for its bytes, as a pipe, is not asked.
-pub(crate) fn refusal(rt: &HostRuntime, path: &str) -> Option<io::Error> {
-    match fs::metadata(rt, path) {
-        Ok(found) if found.is_file() || found.is_dir() => match fs::open(rt, path) {
+pub(crate) fn refusal<N: Notes>(notes: &N, path: &str) -> Option<io::Error> {
+    match fs::metadata(notes, path) {
+        Ok(found) if found.is_file() || found.is_dir() => match fs::open(notes, path) {
             Ok(mut file) => file.read(&mut [0; 1]).err(),
             Err(error) => Some(error),
         },
@@ -26,10 +27,10 @@ pub(crate) fn refusal(rt: &HostRuntime, path: &str) -> Option<io::Error> {
 }
 
 /// The note on a log that could not be read, with the host's reason where it gives one.
-fn print_unread_log(rt: &HostRuntime, program: &str, path: &str) {
-    let _written = match refusal(rt, path) {
-        Some(error) => eprintln!(rt; "{program}: {path}: {error}"),
-        None => eprintln!(rt; "{program}: {path}: it could not be read"),
+fn print_unread_log<N: Notes>(notes: &N, program: &str, path: &str) {
+    let _written = match refusal(notes, path) {
+        Some(error) => eprintln!(notes; "{program}: {path}: {error}"),
+        None => eprintln!(notes; "{program}: {path}: it could not be read"),
     };
 }
 
@@ -74,16 +75,16 @@ fn reason_column(log: Which, reason: Reason) -> Option<&'static str> {
 }
 
 /// The note on a log that is not in its grammar, with its first bad place.
-fn print_malformed_log(rt: &HostRuntime, program: &str, path: &str, log: Which, bad: &BadPlace) {
+fn print_malformed_log<N: Notes>(notes: &N, program: &str, path: &str, log: Which, bad: &BadPlace) {
     let (offset, word) = (bad.offset, reason_word(bad.reason));
     let _written = match (reason_number(bad.reason), reason_column(log, bad.reason)) {
         (Some(number), _) => {
-            eprintln!(rt; "{program}: {path}: malformed at byte {offset}: {word}:{number}")
+            eprintln!(notes; "{program}: {path}: malformed at byte {offset}: {word}:{number}")
         }
         (None, Some(column)) => {
-            eprintln!(rt; "{program}: {path}: malformed at byte {offset}: {word}:{column}")
+            eprintln!(notes; "{program}: {path}: malformed at byte {offset}: {word}:{column}")
         }
-        (None, None) => eprintln!(rt; "{program}: {path}: malformed at byte {offset}: {word}"),
+        (None, None) => eprintln!(notes; "{program}: {path}: malformed at byte {offset}: {word}"),
     };
 }
 
@@ -99,8 +100,8 @@ fn log_of_stop(stop: &NoRecords) -> Option<Which> {
 
 /// Says what is wrong with the log at which a run stopped, of those that may have as many bytes as
 /// `limit` says. Where it stopped at none, it says nothing.
-pub fn print_stop<F: Shelf>(
-    rt: &HostRuntime,
+pub fn print_stop<N: Notes, F: Shelf>(
+    notes: &N,
     program: &str,
     limit: u64,
     shelf: &NotedShelf<F>,
@@ -111,11 +112,11 @@ pub fn print_stop<F: Shelf>(
     };
     match stop {
         NoRecords::Malformed { log, bad } => {
-            print_malformed_log(rt, program, path.as_str(), *log, bad);
+            print_malformed_log(notes, program, path.as_str(), *log, bad);
         }
-        NoRecords::Stopped(Stop::ReadFault(_)) => print_unread_log(rt, program, path.as_str()),
+        NoRecords::Stopped(Stop::ReadFault(_)) => print_unread_log(notes, program, path.as_str()),
         NoRecords::Stopped(Stop::TooLong(_)) => {
-            let _written = eprintln!(rt; "{program}: {path}: it has more than {limit} bytes");
+            let _written = eprintln!(notes; "{program}: {path}: it has more than {limit} bytes");
         }
         NoRecords::Stopped(Stop::Memory) => {}
     }
@@ -123,8 +124,8 @@ pub fn print_stop<F: Shelf>(
 
 /// Says why a run of these words ended above 1, where they are well-formed: which log is at fault,
 /// of those that may have as many bytes as `limit` says; or that memory or the output was.
-pub fn print_end<F: Shelf>(
-    rt: &HostRuntime,
+pub fn print_end<N: Notes, F: Shelf>(
+    notes: &N,
     program: &str,
     limit: u64,
     status: Status,
@@ -133,14 +134,14 @@ pub fn print_end<F: Shelf>(
 ) {
     match status {
         Status::Memory => {
-            let _written = eprintln!(rt; "{program}: memory ran out");
+            let _written = eprintln!(notes; "{program}: memory ran out");
         }
         Status::WriteFault => {
-            let _written = eprintln!(rt; "{program}: standard output could not be written");
+            let _written = eprintln!(notes; "{program}: standard output could not be written");
         }
         Status::Malformed | Status::ReadFault | Status::TooLong => {
             if let Some(stop) = stop {
-                print_stop(rt, program, limit, shelf, stop);
+                print_stop(notes, program, limit, shelf, stop);
             }
         }
         Status::Accepted | Status::Rejected | Status::Usage => {}

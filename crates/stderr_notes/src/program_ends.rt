@@ -40,6 +40,13 @@ pub struct UsedEnds<S: FileSystem, W> {
     pub out: StdSink<W>,
 }
 
+/// How a program ended: the exit code of its process, and what it hands back.
+#[derive(Drop)]
+pub struct Ended<S: FileSystem, W> {
+    pub code: ExitCode,
+    pub ends: UsedEnds<S, W>,
+}
+
 /// The exit code of a status: its number.
 pub fn exit_code(status: Status) -> ExitCode
     ensures { exit_status result ≡ status_number status }

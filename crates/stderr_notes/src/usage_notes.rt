@@ -1,5 +1,6 @@
 //! What is said of words that are not well-formed: the first that is wrong or missing, and what
 //! may be there.
+use crate::notes::Notes;
 use crate::word_parts::WordPart;
 
 const AUDIT: [WordPart; 4] = [
@@ -134,35 +135,35 @@ fn auditor_parts(command: &str) -> Option<&'static [WordPart]> {
 
 /// Says which is the first part that a word does not fit or that has none. Where all fit it
 /// names the word after them.
-fn print_parts(rt: &HostRuntime, program: &str, parts: &[WordPart], words: &[String]) {
+fn print_parts<N: Notes>(notes: &N, program: &str, parts: &[WordPart], words: &[String]) {
     let mut rest = words.iter();
     for part in parts {
         let (name, wanted) = (part.name(), part.wanted());
         let Some(word) = rest.next() else {
-            let _written = eprintln!(rt; "{program}: no {name} is given: {wanted}");
+            let _written = eprintln!(notes; "{program}: no {name} is given: {wanted}");
             return;
         };
         if !part.takes(word.as_str()) {
-            let _written = eprintln!(rt; "{program}: no {name} '{word}': {wanted}");
+            let _written = eprintln!(notes; "{program}: no {name} '{word}': {wanted}");
             return;
         }
     }
     let _written = match rest.next() {
-        Some(word) => eprintln!(rt; "{program}: '{word}' or what follows it may not be here"),
-        None => eprintln!(rt; "{program}: these words do not go together"),
+        Some(word) => eprintln!(notes; "{program}: '{word}' or what follows it may not be here"),
+        None => eprintln!(notes; "{program}: these words do not go together"),
     };
 }
 
 /// Says what is wrong with words that are none of `auditor`.
-pub fn print_auditor_usage(rt: &HostRuntime, words: &[String]) {
+pub fn print_auditor_usage<N: Notes>(notes: &N, words: &[String]) {
     let Some((command, rest)) = words.split_first() else {
-        let _written = eprintln!(rt; "auditor: no command is given: {AUDITOR_COMMANDS}");
+        let _written = eprintln!(notes; "auditor: no command is given: {AUDITOR_COMMANDS}");
         return;
     };
     match auditor_parts(command.as_str()) {
-        Some(parts) => print_parts(rt, "auditor", parts, rest),
+        Some(parts) => print_parts(notes, "auditor", parts, rest),
         None => {
-            let _written = eprintln!(rt; "auditor: no command '{command}': {AUDITOR_COMMANDS}");
+            let _written = eprintln!(notes; "auditor: no command '{command}': {AUDITOR_COMMANDS}");
         }
     }
 }
@@ -199,15 +200,15 @@ fn desk_parts(command: &str) -> Option<&'static [WordPart]> {
 }
 
 /// Says what is wrong with words that are none of `desk`.
-pub fn print_desk_usage(rt: &HostRuntime, words: &[String]) {
+pub fn print_desk_usage<N: Notes>(notes: &N, words: &[String]) {
     let Some((command, rest)) = words.split_first() else {
-        let _written = eprintln!(rt; "desk: no command is given: {DESK_COMMANDS}");
+        let _written = eprintln!(notes; "desk: no command is given: {DESK_COMMANDS}");
         return;
     };
     match desk_parts(command.as_str()) {
-        Some(parts) => print_parts(rt, "desk", parts, rest),
+        Some(parts) => print_parts(notes, "desk", parts, rest),
         None => {
-            let _written = eprintln!(rt; "desk: no command '{command}': {DESK_COMMANDS}");
+            let _written = eprintln!(notes; "desk: no command '{command}': {DESK_COMMANDS}");
         }
     }
 }
@@ -240,46 +241,46 @@ fn all_fit(parts: &[WordPart], words: &[String], may_end: bool) -> bool {
 }
 
 /// Says what is wrong with one command of `casebook`, and whether something is.
-fn prints_command(rt: &HostRuntime, words: &[String]) -> bool {
+fn prints_command<N: Notes>(notes: &N, words: &[String]) -> bool {
     let Some((command, rest)) = words.split_first() else {
-        let _written = eprintln!(rt; "casebook: no command is given: {CASEBOOK_COMMANDS}");
+        let _written = eprintln!(notes; "casebook: no command is given: {CASEBOOK_COMMANDS}");
         return true;
     };
     let Some(parts) = casebook_parts(command.as_str()) else {
-        let _written = eprintln!(rt; "casebook: no command '{command}': {CASEBOOK_COMMANDS}");
+        let _written = eprintln!(notes; "casebook: no command '{command}': {CASEBOOK_COMMANDS}");
         return true;
     };
     if all_fit(parts, rest, command.as_str() == "list") {
         return false;
     }
-    print_parts(rt, "casebook", parts, rest);
+    print_parts(notes, "casebook", parts, rest);
     true
 }
 
 /// Says what is wrong with the first command in which something is.
-fn print_commands(rt: &HostRuntime, words: &[String]) {
+fn print_commands<N: Notes>(notes: &N, words: &[String]) {
     let first = words.iter().position(|word| word.as_str() == "then");
     match first {
         Some(place) => {
-            if !prints_command(rt, &words[..place]) {
-                print_commands(rt, &words[place + 1..]);
+            if !prints_command(notes, &words[..place]) {
+                print_commands(notes, &words[place + 1..]);
             }
         }
         None => {
-            let _written = prints_command(rt, words);
+            let _written = prints_command(notes, words);
         }
     }
 }
 
 /// Says what is wrong with words that are none of `casebook`: the first of its commands in
 /// which something is.
-pub fn print_casebook_usage(rt: &HostRuntime, words: &[String]) {
+pub fn print_casebook_usage<N: Notes>(notes: &N, words: &[String]) {
     let Some((_database, commands)) = words.split_first() else {
-        let _written = eprintln!(rt;
+        let _written = eprintln!(notes;
             "casebook: no database is given: {}",
             WordPart::Path.wanted()
         );
         return;
     };
-    print_commands(rt, commands);
+    print_commands(notes, commands);
 }
