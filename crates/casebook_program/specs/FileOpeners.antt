@@ -7,7 +7,7 @@ use Rattle.log_source.specs.Calls.{faults_after}
 use Rattle.casebook_program.specs.declared.file_opener.FileOpener.{FileOpener}
 
 -- its state: its faults alone are known
-abbrev pub file_opener_state : FileOpener → OpenerState
+abbrev pub file_opener_state : {D : Type 0} → FileOpener D → OpenerState
 file_opener_state opener =
     record { tells = false; kept = (λ path. None); faults = opener.faults }
 
@@ -16,7 +16,8 @@ abbrev pub fresh_opener : OpenerState
 fresh_opener = record { tells = false; kept = (λ path. None); faults = 0 }
 
 -- the opening was refused, and counted as a fault
-abbrev pub RefusesPath : {B : Type 0} → FileOpener → FileOpener → Result B KeepFault → Type 0
+abbrev pub RefusesPath : {B D : Type 0} → FileOpener D → FileOpener D → Result B KeepFault
+    → Type 0
 RefusesPath old new result =
     (result ≡ Err Failed)
     × ((file_opener_state new).faults ≡ faults_after true (file_opener_state old).faults)

@@ -2,7 +2,7 @@
 //!
 //! The database's log is removed while the files are still locked, and only under the name that was
 //! opened. A close that fails removes nothing.
-ghost use Rattle.std.specs.Prelude.{map};
+ghost use Rattle.std.specs.Prelude.{◌≡◌, map};
 ghost use Rattle.std.specs.String.{string_bytes};
 ghost use Rattle.casebook_program.specs.ClosedRuns.{RunsThenCloses};
 
@@ -21,9 +21,14 @@ use std::alloc::Global;
 /// database by its own type is proved by way of all that the database is made of, which takes
 /// half a minute or more.
 pub trait Closing: Opener {
+    // What a close is, between the opener before it and after it.
+    ghost closes: { Self → Self → Type 0 };
+
     /// Closes the keeper that was opened last. What it has kept stays kept, also where the
     /// close fails.
-    fn close(&self, keeper: Self::Book);
+    fn close(&mut self, keeper: Self::Book)
+        ensures closed { closes self.old self.new }
+        ensures stays { Self.Opener.state self.new ≡ Self.Opener.state self.old };
 }
 
 /// Runs the commands over the casebook that the first word names, as `run_book_seeded` does,
@@ -36,8 +41,8 @@ pub fn run_and_close<F: Shelf, K: Sink, O: Closing>(
     out: &mut K,
     opener: &mut O,
 ) -> Ran<CaseStatus, ()>
-    ensures { RunsThenCloses F.Shelf shelf.old shelf.new
-        (O.state opener.old) (O.state opener.new) (map string_bytes words.now)
+    ensures { RunsThenCloses F.Shelf O.state O.closes shelf.old shelf.new
+        opener.old opener.new (map string_bytes words.now)
         (K.state out.old) (K.state out.new) result.status }
 {
     let Ran { status, stop, back } = run_book_seeded(alloc, seed, words, shelf, out, opener);

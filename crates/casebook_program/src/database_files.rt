@@ -1,18 +1,12 @@
 //! The files of a database: they are opened when no other process has them open, and the log is
-//! removed after the last transaction that was in it. No clause speaks of either, but of which file
-//! the log is.
-ghost use Rattle.std.specs.Prelude.{◌≡◌, IsTrue, IfOk};
+//! removed after the last transaction that was in it. Nothing else is removed.
+ghost use Rattle.std.specs.Prelude.{◌≡◌, is_ok, IfOk};
 ghost use Rattle.std.specs.String.{string_bytes};
-ghost use Rattle.casebook_program.specs.DatabaseFiles.{HasLogBeside, path_of_log};
+ghost use Rattle.casebook_program.specs.DatabaseFiles.{path_of_log, TriesToOpen, FindsPlace, LooksAtDatabase, RemovesLog, RemovesEmptyLog, is_database_file, is_empty_file};
 
-use sqlite::{File, Files, Unknown};
-use sqlite_disk::Disk;
-use sqlite_std_file::{OpenError, open};
+use crate::database_system::{DatabaseSystem, FoundFile};
+use sqlite_std_file::OpenError;
 use std::alloc::{AllocError, Global};
-use std::fs::Metadata;
-use std::os::unix::fs::MetadataExt;
-use std::time::Duration;
-use std::{fs, io, thread};
 
 /// How many pauses are made for a database that another process has open: five seconds in all.
 const PAUSES: u32 = 100;
@@ -22,18 +16,19 @@ const PAUSE_MILLISECONDS: u64 = 50;
 
 /// The files of the database under a path, which are made where they are not there. A database
 /// that another process has open is waited for, about five seconds.
-pub(crate) fn open_when_free(rt: &HostRuntime, path: &str) -> Result<Files<File>, OpenError>
-    ensures usable { IfOk result (λ files.
-        IsTrue (⟦<File as Disk>⟧.is_usable files.log)
-        × IsTrue (⟦<File as Disk>⟧.is_usable files.db)) }
+pub(crate) fn open_when_free<D: DatabaseSystem>(
+    system: &mut D,
+    path: &str,
+) -> Result<D::Files, OpenError>
+    ensures { TriesToOpen path.now (is_ok result) (D.calls system.old) (D.calls system.new) }
 {
     for _ in 0..PAUSES {
-        match open(rt, path, Unknown) {
-            Err(OpenError::Busy) => thread::sleep(rt, Duration::from_millis(PAUSE_MILLISECONDS)),
+        match system.open_files(path) {
+            Err(OpenError::Busy) => system.pause(PAUSE_MILLISECONDS),
             outcome => return outcome,
         }
     }
-    open(rt, path, Unknown)
+    system.open_files(path)
 }
 
 /// Where a database that is open is, and which file it is.
@@ -54,48 +49,70 @@ fn log_path(alloc: Global, database: &str) -> Result<String, AllocError>
     Ok(log)
 }
 
+/// Whether a file is there that is plain and has no byte.
+fn is_empty(found: &Option<FoundFile>) -> bool
+    ensures { result ≡ is_empty_file found.now }
+{
+    match found {
+        Some(file) => file.is_plain && file.length == 0,
+        None => false,
+    }
+}
+
 impl DatabaseFile {
     /// Where the database under this path is, with no link in its path, and the log beside it. No
-    /// file is changed. Err where the path leads to no file, where a folder on it may not be
+    /// file is changed. None where the path leads to no file, where a folder on it may not be
     /// searched, or out of memory.
-    pub fn of(rt: &HostRuntime, path: &str) -> io::Result<DatabaseFile>
-        ensures { IfOk result HasLogBeside }
+    pub fn of<D: DatabaseSystem>(alloc: Global, system: &mut D, path: &str) -> Option<DatabaseFile>
+        ensures { FindsPlace path.now result (D.calls system.old) (D.calls system.new) }
     {
-        let real = fs::canonicalize(rt, path)?;
-        let found = fs::symlink_metadata(rt, real.as_str())?;
-        let database = String::from_str(rt.alloc(), real.as_str())?;
-        let log = log_path(rt.alloc(), database.as_str())?;
-        Ok(DatabaseFile {
+        let database = system.resolve(path)?;
+        let found = system.describe(database.as_str())?;
+        let log = log_path(alloc, database.as_str()).ok()?;
+        Some(DatabaseFile {
             database,
             log,
-            device: found.dev(),
-            number: found.ino(),
+            device: found.device,
+            number: found.number,
         })
     }
 
-    /// Whether the file of this name is still the database.
-    fn is_there(&self, rt: &HostRuntime) -> bool {
-        match fs::symlink_metadata(rt, self.database.as_str()) {
-            Ok(found) => found.dev() == self.device && found.ino() == self.number,
-            Err(_) => false,
+    /// Whether this is the database.
+    fn is_found(&self, found: &Option<FoundFile>) -> bool
+        ensures { result ≡ is_database_file self.now found.now }
+    {
+        match found {
+            Some(file) => file.device == self.device && file.number == self.number,
+            None => false,
         }
+    }
+
+    /// Whether the file of this name is still the database.
+    fn is_there<D: DatabaseSystem>(&self, system: &mut D) -> bool
+        ensures { LooksAtDatabase self.now result (D.calls system.old) (D.calls system.new) }
+    {
+        let found = system.describe(self.database.as_str());
+        self.is_found(&found)
     }
 
     /// Removes the log. Whoever calls this still has the files open, so that nobody else has
     /// opened the log, and knows that the database file has all of it.
-    pub(crate) fn remove_log(&self, rt: &HostRuntime) {
-        if self.is_there(rt) {
-            let _removed = fs::remove_file(rt, self.log.as_str());
+    pub(crate) fn remove_log<D: DatabaseSystem>(&self, system: &mut D)
+        ensures { RemovesLog self.now (D.calls system.old) (D.calls system.new) }
+    {
+        if self.is_there(system) {
+            system.remove(self.log.as_str());
         }
     }
 
     /// Removes the log where it is empty, as one is made beside a file that is then refused.
     /// Whoever calls this still has the files open.
-    pub(crate) fn remove_empty_log(&self, rt: &HostRuntime) {
-        if let Ok(found) = fs::symlink_metadata(rt, self.log.as_str()) {
-            if found.is_file() && found.len() == 0 {
-                self.remove_log(rt);
-            }
+    pub(crate) fn remove_empty_log<D: DatabaseSystem>(&self, system: &mut D)
+        ensures { RemovesEmptyLog self.now (D.calls system.old) (D.calls system.new) }
+    {
+        let found = system.describe(self.log.as_str());
+        if is_empty(&found) {
+            self.remove_log(system);
         }
     }
 }

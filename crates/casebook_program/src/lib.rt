@@ -4,6 +4,7 @@
 
 pub mod closing;
 pub mod database_files;
+pub mod database_system;
 pub mod databases;
 pub mod file_opener;
 pub mod program;

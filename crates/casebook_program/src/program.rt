@@ -3,12 +3,17 @@
 //! the number of the status is what the process ends with. Where it is above 1, where a
 //! database was made, and where a list may not be the one that was meant, a line on standard
 //! error says so (`stderr_notes`).
-ghost use Rattle.std.specs.Prelude.{◌≡◌};
+//!
+//! All of it is `answer_command_line`, over any command line, files, output, opener and notes. The
+//! program is one call of it with the runtime's.
+ghost use Rattle.std.specs.Prelude.{◌≡◌, map};
 ghost use Rattle.std.specs.Process.{exit_status};
-ghost use Rattle.casebook_program.specs.ClosedRuns.{CasebookAnswers, CasebookBegins, CasebookBeginsUnknown};
+ghost use Rattle.std.specs.String.{string_bytes};
+ghost use Rattle.casebook_program.specs.ClosedRuns.{CasebookAnswers, CasebookBegins, RunsThenCloses};
 ghost use Rattle.case_run.specs.Statuses.{case_status_number};
 ghost use Rattle.case_run.specs.declared.statuses.CaseStatus.TheVariants as status;
-ghost use Rattle.stderr_notes.specs.ProgramAnswers.{AnswersCommandLine, AnswersFrom, AnswersUnknownWords, EndsAsAnswer};
+ghost use Rattle.stderr_notes.specs.CommandLines.{words_of_arguments};
+ghost use Rattle.stderr_notes.specs.ProgramAnswers.{AnswersCommandLine, EndsAsAnswer};
 
 use crate::closing::{Closing, run_and_close};
 use crate::file_opener::FileOpener;
@@ -21,129 +26,105 @@ use log_source::output::Output;
 use log_source::shelf::Shelf;
 use log_source::sink::Sink;
 use log_source::std_sink::StdSink;
-use log_verdict::runs::Ran;
 use log_verdict::stops::NoRecords;
 use std::io;
 use std::process::ExitCode;
 use std::random::RandomSource;
-use stderr_notes::command_line::CommandLine;
+use stderr_notes::command_line::{CommandLine, words_of};
 use stderr_notes::database_notes::{
     is_database_missing, print_database_fault, print_listed_symbols, print_made_database,
 };
 use stderr_notes::log_notes::print_stop;
 use stderr_notes::noted_shelf::NotedShelf;
-use stderr_notes::program_ends::{UsedEnds, fresh_output, noted_files};
+use stderr_notes::notes::Notes;
+use stderr_notes::program_ends::{Ended, UsedEnds, fresh_output, noted_files};
 use stderr_notes::usage_notes::print_casebook_usage;
-
-/// Runs the commands that the words of the command line ask for, with hashes of a random seed,
-/// and closes the casebook.
-fn answer_words<R: CommandLine + AllocGlobal + RandomSource, F: Shelf, K: Sink, O: Closing>(
-    rt: &R,
-    shelf: &mut F,
-    out: &mut K,
-    opener: &mut O,
-) -> Ran<CaseStatus, ()>
-    ensures { AnswersCommandLine (CasebookAnswers F.Shelf) status.Memory (R.known_words rt.now)
-        (record { shelf = shelf.old; opener = O.state opener.old; sink = K.state out.old })
-        (record { shelf = shelf.new; opener = O.state opener.new; sink = K.state out.new })
-        result.status }
-{
-    match rt.words() {
-        Ok(words) => run_and_close(rt.alloc(), seed_of(rt), &words, shelf, out, opener),
-        Err(_) => Ran {
-            status: CaseStatus::Memory,
-            stop: None,
-            back: (),
-        },
-    }
-}
-
-/// Runs the commands that the words of the command line ask for over these files, this output
-/// and this opener.
-fn run_over<
-    R: CommandLine + AllocGlobal + RandomSource,
-    S: FileSystem + Drop,
-    W: Output + Drop,
-    O: Closing,
->(rt: &R, files: S, output: W, opener: &mut O) -> Ran<CaseStatus, UsedEnds<S, W>>
-    ensures { let shelf = ⟦<NotedShelf<FileShelf<S>> as Shelf>⟧ in
-        let state = ⟦<StdSink<W> as Sink>⟧.state in
-        AnswersFrom (CasebookAnswers shelf) status.Memory (R.known_words rt.now)
-        (CasebookBegins shelf (S.tells files) (S.file_at files) (W.contents output)
-        (O.state opener.old))
-        (record {
-          shelf = result.back.shelf;
-          opener = O.state opener.new;
-          sink = state result.back.out;
-        }) result.status }
-{
-    let mut shelf = noted_files(rt.alloc(), files);
-    let mut out = fresh_output(output);
-    let ran = answer_words(rt, &mut shelf, &mut out, opener);
-    Ran {
-        status: ran.status,
-        stop: ran.stop,
-        back: UsedEnds { shelf, out },
-    }
-}
 
 /// Says on standard error why a run ended above 1, or of which symbol a list is that may be
 /// meant otherwise.
-fn tell<F: Shelf>(
-    rt: &HostRuntime,
+fn tell<N: Notes, F: Shelf>(
+    notes: &N,
     status: CaseStatus,
     words: &[String],
     shelf: &NotedShelf<F>,
     stop: &Option<NoRecords>,
 ) {
     match status {
-        CaseStatus::Usage => print_casebook_usage(rt, words),
+        CaseStatus::Usage => print_casebook_usage(notes, words),
         CaseStatus::KeeperFault => {
             if let Some(path) = words.first() {
-                print_database_fault(rt, "casebook", path.as_str());
+                print_database_fault(notes, "casebook", path.as_str());
             }
         }
         CaseStatus::Memory => {
-            let _told = eprintln!(rt; "casebook: memory ran out");
+            let _told = eprintln!(notes; "casebook: memory ran out");
         }
         CaseStatus::WriteFault => {
-            let _told = eprintln!(rt; "casebook: standard output could not be written");
+            let _told = eprintln!(notes; "casebook: standard output could not be written");
         }
         CaseStatus::Malformed | CaseStatus::ReadFault | CaseStatus::TooLong => {
             if let Some(stop) = stop {
-                print_stop(rt, "casebook", LONGEST_LOG as u64, shelf, stop);
+                print_stop(notes, "casebook", LONGEST_LOG as u64, shelf, stop);
             }
         }
-        CaseStatus::Done | CaseStatus::Refused => print_listed_symbols(rt, words),
+        CaseStatus::Done | CaseStatus::Refused => print_listed_symbols(notes, words),
     }
 }
 
-/// Runs the commands over files and standard output.
-fn answer(rt: HostRuntime) -> CaseStatus
-    ensures { let shelf = ⟦<NotedShelf<FileShelf<HostRuntime>> as Shelf>⟧ in
-        AnswersUnknownWords (CasebookAnswers shelf) status.Memory
-        (CasebookBeginsUnknown shelf) result }
-{
-    let Ok(files) = rt.clone() else {
-        return CaseStatus::Memory;
-    };
-    let Ok(databases) = rt.clone() else {
-        return CaseStatus::Memory;
-    };
-    let Ok(words) = rt.words() else {
-        return CaseStatus::Memory;
-    };
-    let was_missing = match words.first() {
-        Some(path) => is_database_missing(&rt, path.as_str()),
+/// Whether the words name a database that is not there.
+fn names_missing_database<N: Notes>(notes: &N, words: &[String]) -> bool {
+    match words.first() {
+        Some(path) => is_database_missing(notes, path.as_str()),
         None => false,
-    };
-    let mut opener = FileOpener::new(databases);
-    let ran = run_over(&rt, files, io::writer(&rt), &mut opener);
-    if let Some(path) = words.first() {
-        print_made_database(&rt, "casebook", path.as_str(), was_missing);
     }
-    tell(&rt, ran.status, &words, &ran.back.shelf, &ran.stop);
+}
+
+/// Says that a database was made, where it was missing before the run and is there.
+fn tell_made_database<N: Notes>(notes: &N, words: &[String], was_missing: bool) {
+    if let Some(path) = words.first() {
+        print_made_database(notes, "casebook", path.as_str(), was_missing);
+    }
+}
+
+/// Runs the commands that these words ask for, with hashes of a random seed, and closes the
+/// casebook.
+fn run_words<R: AllocGlobal + RandomSource, F: Shelf, K: Sink, O: Closing, N: Notes>(
+    machine: &R,
+    words: &[String],
+    shelf: &mut NotedShelf<F>,
+    out: &mut K,
+    opener: &mut O,
+    notes: &N,
+) -> CaseStatus
+    ensures { let shelves = ⟦<NotedShelf<F> as Shelf>⟧ in
+        RunsThenCloses shelves O.state O.closes shelf.old shelf.new opener.old opener.new
+        (map string_bytes words.now) (K.state out.old) (K.state out.new) result }
+{
+    let was_missing = names_missing_database(notes, words);
+    let ran = run_and_close(machine.alloc(), seed_of(machine), words, shelf, out, opener);
+    tell_made_database(notes, words, was_missing);
+    tell(notes, ran.status, words, shelf, &ran.stop);
     ran.status
+}
+
+/// Runs the commands that the words of the command line ask for, and closes the casebook.
+fn answer_words<
+    R: CommandLine + AllocGlobal + RandomSource,
+    F: Shelf,
+    K: Sink,
+    O: Closing,
+    N: Notes,
+>(machine: &R, shelf: &mut NotedShelf<F>, out: &mut K, opener: &mut O, notes: &N) -> CaseStatus
+    ensures { let shelves = ⟦<NotedShelf<F> as Shelf>⟧ in
+        AnswersCommandLine (CasebookAnswers shelves O.state O.closes) status.Memory
+        (words_of_arguments (R.known_arguments machine.now))
+        (record { shelf = shelf.old; opener = opener.old; sink = K.state out.old })
+        (record { shelf = shelf.new; opener = opener.new; sink = K.state out.new }) result }
+{
+    match words_of(machine) {
+        Ok(words) => run_words(machine, &words, shelf, out, opener, notes),
+        Err(_) => CaseStatus::Memory,
+    }
 }
 
 /// The exit code of a status: its number.
@@ -153,11 +134,41 @@ fn exit_code(status: CaseStatus) -> ExitCode
     ExitCode::from(status.number())
 }
 
-/// Runs the program, and gives the exit code of its process.
-pub fn run_casebook(rt: HostRuntime) -> ExitCode
-    ensures { let shelf = ⟦<NotedShelf<FileShelf<HostRuntime>> as Shelf>⟧ in
-        EndsAsAnswer (CasebookAnswers shelf) status.Memory case_status_number
-        (CasebookBeginsUnknown shelf) result }
+/// Answers the command line over these files, this output and this opener, whose casebook is then
+/// closed, and says on `notes` why, where the status is above 1.
+///
+/// Nothing is known of the words, files, output and databases of the runtime, so that no clause
+/// could say of the program what this one does. What it is handed is seen in the code: the runtime
+/// itself as command line and files, its standard output, and an opener of its databases.
+pub fn answer_command_line<
+    R: CommandLine + AllocGlobal + RandomSource,
+    S: FileSystem + Drop,
+    W: Output + Drop,
+    O: Closing,
+    N: Notes,
+>(machine: &R, files: S, output: W, opener: &mut O, notes: &N) -> Ended<S, W>
+    ensures { let shelf = ⟦<NotedShelf<FileShelf<S>> as Shelf>⟧ in
+        let state = ⟦<StdSink<W> as Sink>⟧.state in
+        EndsAsAnswer (CasebookAnswers shelf O.state O.closes) status.Memory case_status_number
+        (words_of_arguments (R.known_arguments machine.now))
+        (CasebookBegins shelf (S.tells files) (S.file_at files) (W.contents output) opener.old)
+        (record {
+          shelf = result.ends.shelf;
+          opener = opener.new;
+          sink = state result.ends.out;
+        }) result.code }
 {
-    exit_code(answer(rt))
+    let mut shelf = noted_files(machine.alloc(), files);
+    let mut out = fresh_output(output);
+    let status = answer_words(machine, &mut shelf, &mut out, opener, notes);
+    Ended {
+        code: exit_code(status),
+        ends: UsedEnds { shelf, out },
+    }
+}
+
+/// Runs the program, and gives the exit code of its process.
+pub fn run_casebook(rt: HostRuntime) -> ExitCode {
+    let mut opener = FileOpener::new(rt);
+    answer_command_line(&rt, rt, io::writer(&rt), &mut opener, &rt).code
 }

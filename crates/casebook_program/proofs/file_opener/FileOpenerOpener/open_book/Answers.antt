@@ -4,4 +4,4 @@ use Rattle.casebook_program.proofs.OpenerLemmas.{opens_untold}
 use Rattle.casebook_program.proofs.file_opener.FileOpenerOpener.open_book.Goals as goal
 
 pub returns-in-Ok-clause-opens : goal.returns-in-Ok-clause-opens
-returns-in-Ok-clause-opens c = opens_untold _ _ _ c.in-Ok.keeper c.in-Ok.ensures.fresh refl
+returns-in-Ok-clause-opens g c = opens_untold _ _ _ c.in-Ok.keeper c.in-Ok.ensures.fresh refl
