@@ -98,7 +98,10 @@ fn lists_row<R: AllocGlobal + Abort>(rt: &R, columns: &'static str) -> Result<bo
     let listed = come(rt, Command::Casebook("list"), put.files);
     let (made, put, listed) = (made.said?, put.said?, listed.said?);
     assert!(rt; made.is(0, "") && put.is(0, ""), "{columns}");
-    assert!(rt; listed.number == 0 || listed.is(8, "keeperfault\n"), "{columns}");
+    assert!(rt;
+        listed.number == 0 || listed.is(8, "keeperfault\n"),
+        "{columns}"
+    );
     Ok(listed.number == 0)
 }
 

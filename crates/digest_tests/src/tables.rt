@@ -1,8 +1,8 @@
 //! The rows of the table of digests, as a text, and a row that something else puts into that of cases.
 use audit_base::faults::NoMemory;
-use std::alloc::Global;
 use sqlite::types::ValueRef;
 use sqlite::{Alter, Connection, Error, Row};
+use std::alloc::Global;
 
 const FIND_TABLE: &str = "SELECT name FROM sqlite_schema WHERE type = 'table' AND name = 'digests'";
 
