@@ -2,13 +2,19 @@
 //! standard output and a random seed are handed to `run_seeded`, and the number of the status
 //! is what the process ends with. Where it is above 1, one line on standard error says why
 //! (`stderr_notes`).
+//!
+//! All of it is `answer_command_line`, over any command line, files, output and notes. The program
+//! is one call of it with the runtime's.
 #![tactic(auto)]
 
 ghost use Rattle.auditor_program.specs.Answers.{AuditorAnswersWords};
 ghost use Rattle.audit_report.specs.Statuses.{status_number};
 ghost use Rattle.audit_report.specs.declared.statuses.Status.TheVariants as status;
+ghost use Rattle.stderr_notes.specs.CommandLines.{words_of_arguments};
 ghost use Rattle.stderr_notes.specs.FreshEnds.{BeginsOver, BeginsOverUnknown};
-ghost use Rattle.stderr_notes.specs.ProgramAnswers.{AnswersCommandLine, AnswersFrom, AnswersUnknownWords, EndsAsAnswer};
+ghost use Rattle.stderr_notes.specs.ProgramAnswers.{AnswersCommandLine, EndsAsAnswer, EndsAsSomeAnswer};
+ghost use Rattle.std.specs.Prelude.{map};
+ghost use Rattle.std.specs.String.{string_bytes};
 
 use audit_base::sizes::LONGEST_LOG;
 use audit_report::statuses::Status;
@@ -20,93 +26,112 @@ use log_source::output::Output;
 use log_source::shelf::Shelf;
 use log_source::sink::Sink;
 use log_source::std_sink::StdSink;
-use log_verdict::runs::Ran;
 use log_verdict::stops::NoRecords;
 use std::io;
 use std::process::ExitCode;
 use std::random::RandomSource;
-use stderr_notes::command_line::CommandLine;
+use stderr_notes::command_line::{CommandLine, words_of};
 use stderr_notes::log_notes::print_end;
 use stderr_notes::noted_shelf::NotedShelf;
-use stderr_notes::program_ends::{UsedEnds, exit_code, fresh_output, noted_files};
+use stderr_notes::notes::Notes;
+use stderr_notes::program_ends::{Ended, UsedEnds, exit_code, fresh_output, noted_files};
 use stderr_notes::usage_notes::print_auditor_usage;
 
-/// Runs the command that the words of the command line ask for, with hashes of a random seed.
-fn answer_words<R: CommandLine + AllocGlobal + RandomSource, F: Shelf, K: Sink>(
-    rt: &R,
-    shelf: &mut F,
-    out: &mut K,
-) -> Ran<Status, ()>
-    ensures { AnswersCommandLine (AuditorAnswersWords F.Shelf) status.Memory (R.known_words rt.now)
-        (record { shelf = shelf.old; sink = K.state out.old })
-        (record { shelf = shelf.new; sink = K.state out.new }) result.status }
-{
-    match rt.words() {
-        Ok(words) => run_seeded(rt.alloc(), seed_of(rt), &words, shelf, out),
-        Err(_) => Ran {
-            status: Status::Memory,
-            stop: None,
-            back: (),
-        },
-    }
-}
-
-/// Runs the command that the words of the command line ask for over these files and this output.
-fn run_over<R: CommandLine + AllocGlobal + RandomSource, S: FileSystem + Drop, W: Output + Drop>(
-    rt: &R,
-    files: S,
-    output: W,
-) -> Ran<Status, UsedEnds<S, W>>
-    ensures { let shelf = ⟦<NotedShelf<FileShelf<S>> as Shelf>⟧ in
-        let state = ⟦<StdSink<W> as Sink>⟧.state in
-        AnswersFrom (AuditorAnswersWords shelf) status.Memory (R.known_words rt.now)
-        (BeginsOver shelf (S.tells files) (S.file_at files) (W.contents output))
-        (record { shelf = result.back.shelf; sink = state result.back.out }) result.status }
-{
-    let mut shelf = noted_files(rt.alloc(), files);
-    let mut out = fresh_output(output);
-    let ran = answer_words(rt, &mut shelf, &mut out);
-    Ran {
-        status: ran.status,
-        stop: ran.stop,
-        back: UsedEnds { shelf, out },
-    }
-}
-
-/// Says on standard error why a run ended above 1.
-fn tell<F: Shelf>(
-    rt: &HostRuntime,
+/// Says on standard error why a run of these words ended above 1.
+fn tell<N: Notes, F: Shelf>(
+    notes: &N,
     status: Status,
+    words: &[String],
     shelf: &NotedShelf<F>,
     stop: &Option<NoRecords>,
 ) {
     if status == Status::Usage {
-        if let Ok(words) = rt.words() {
-            print_auditor_usage(rt, &words);
-        }
+        print_auditor_usage(notes, words);
         return;
     }
-    print_end(rt, "auditor", LONGEST_LOG as u64, status, shelf, stop);
+    print_end(notes, "auditor", LONGEST_LOG as u64, status, shelf, stop);
 }
 
-/// Runs the command over files and standard output.
-fn answer(rt: HostRuntime) -> Status
-    ensures { let shelf = ⟦<NotedShelf<FileShelf<HostRuntime>> as Shelf>⟧ in
-        AnswersUnknownWords (AuditorAnswersWords shelf) status.Memory (BeginsOverUnknown shelf) result }
+/// Runs the command that these words ask for, with hashes of a random seed.
+fn run_words<R: AllocGlobal + RandomSource, F: Shelf, K: Sink, N: Notes>(
+    machine: &R,
+    words: &[String],
+    shelf: &mut NotedShelf<F>,
+    out: &mut K,
+    notes: &N,
+) -> Status
+    ensures { let shelves = ⟦<NotedShelf<F> as Shelf>⟧ in
+        AuditorAnswersWords shelves (map string_bytes words.now)
+        (record { shelf = shelf.old; sink = K.state out.old })
+        (record { shelf = shelf.new; sink = K.state out.new }) result }
 {
-    let Ok(files) = rt.clone() else {
-        return Status::Memory;
-    };
-    let ran = run_over(&rt, files, io::writer(&rt));
-    tell(&rt, ran.status, &ran.back.shelf, &ran.stop);
+    let ran = run_seeded(machine.alloc(), seed_of(machine), words, shelf, out);
+    tell(notes, ran.status, words, shelf, &ran.stop);
     ran.status
+}
+
+/// Runs the command that the words of the command line ask for.
+fn answer_words<R: CommandLine + AllocGlobal + RandomSource, F: Shelf, K: Sink, N: Notes>(
+    machine: &R,
+    shelf: &mut NotedShelf<F>,
+    out: &mut K,
+    notes: &N,
+) -> Status
+    ensures { let shelves = ⟦<NotedShelf<F> as Shelf>⟧ in
+        AnswersCommandLine (AuditorAnswersWords shelves) status.Memory
+        (words_of_arguments (R.known_arguments machine.now))
+        (record { shelf = shelf.old; sink = K.state out.old })
+        (record { shelf = shelf.new; sink = K.state out.new }) result }
+{
+    match words_of(machine) {
+        Ok(words) => run_words(machine, &words, shelf, out, notes),
+        Err(_) => {
+            print_end(
+                notes,
+                "auditor",
+                LONGEST_LOG as u64,
+                Status::Memory,
+                shelf,
+                &None,
+            );
+            Status::Memory
+        }
+    }
+}
+
+/// Answers the command line over these files and this output, and says on `notes` why, where the
+/// status is above 1.
+///
+/// Nothing is known of the words, files and output of the runtime. So the call of the program says
+/// less than this one: that its process ends as some answer does. What it is handed is seen in the
+/// code: the runtime itself as command line and files, and its standard output.
+pub fn answer_command_line<
+    R: CommandLine + AllocGlobal + RandomSource,
+    S: FileSystem + Drop,
+    W: Output + Drop,
+    N: Notes,
+>(machine: &R, files: S, output: W, notes: &N) -> Ended<S, W>
+    ensures { let shelf = ⟦<NotedShelf<FileShelf<S>> as Shelf>⟧ in
+        let state = ⟦<StdSink<W> as Sink>⟧.state in
+        EndsAsAnswer (AuditorAnswersWords shelf) status.Memory status_number
+        (words_of_arguments (R.known_arguments machine.now))
+        (BeginsOver shelf (S.tells files) (S.file_at files) (W.contents output))
+        (record { shelf = result.ends.shelf; sink = state result.ends.out }) result.code }
+{
+    let mut shelf = noted_files(machine.alloc(), files);
+    let mut out = fresh_output(output);
+    let status = answer_words(machine, &mut shelf, &mut out, notes);
+    Ended {
+        code: exit_code(status),
+        ends: UsedEnds { shelf, out },
+    }
 }
 
 /// Runs the program, and gives the exit code of its process.
 pub fn run_auditor(rt: HostRuntime) -> ExitCode
     ensures { let shelf = ⟦<NotedShelf<FileShelf<HostRuntime>> as Shelf>⟧ in
-        EndsAsAnswer (AuditorAnswersWords shelf) status.Memory status_number
+        EndsAsSomeAnswer (AuditorAnswersWords shelf) status.Memory status_number
         (BeginsOverUnknown shelf) result }
 {
-    exit_code(answer(rt))
+    answer_command_line(&rt, rt, io::writer(&rt), &rt).code
 }

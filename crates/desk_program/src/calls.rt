@@ -27,9 +27,9 @@ pub(crate) fn ask_call<F: Shelf, K: Sink, O: ClosingDigests>(
     opener: &mut O,
 ) -> Ran<DeskEnd, F>
     requires fresh { (which : Which) → (F.slot shelf which).started ≡ false }
-    ensures { DeskAnswersWords F.Shelf (map string_bytes words.now)
-        (record { shelf = shelf; opener = O.state opener.old; sink = K.state out.old })
-        (record { shelf = result.back; opener = O.state opener.new; sink = K.state out.new })
+    ensures { DeskAnswersWords F.Shelf O.state O.closes (map string_bytes words.now)
+        (record { shelf = shelf; opener = opener.old; sink = K.state out.old })
+        (record { shelf = result.back; opener = opener.new; sink = K.state out.new })
         result.status }
 {
     if asks_filing(words) {

@@ -3,14 +3,19 @@
 //! first word is for (`calls`), and the number of its status is what the process ends with
 //! (`ends`). Where it is above 1, and where a database was made, one line on standard error says so
 //! (`notes`, `stderr_notes`).
+//!
+//! All of it is `answer_command_line`, over any command line, files, output, opener and notes. The
+//! program is one call of it with the runtime's.
 #![tactic(auto)]
 
-ghost use Rattle.std.specs.Prelude.{◌≡◌, false};
+ghost use Rattle.std.specs.Prelude.{◌≡◌, false, map};
+ghost use Rattle.std.specs.String.{string_bytes};
 ghost use Rattle.audit_base.specs.declared.terms.Which.{Which};
 ghost use Rattle.audit_report.specs.declared.statuses.Status.TheVariants as status;
-ghost use Rattle.desk_program.specs.Answers.{DeskAnswersWords, DeskBegins, DeskBeginsUnknown, desk_end_number};
+ghost use Rattle.desk_program.specs.Answers.{DeskAnswersWords, DeskBegins, desk_end_number};
 ghost use Rattle.desk_program.specs.declared.ends.DeskEnd.TheVariants as ended;
-ghost use Rattle.stderr_notes.specs.ProgramAnswers.{AnswersCommandLine, AnswersFrom, AnswersUnknownWords, EndsAsAnswer};
+ghost use Rattle.stderr_notes.specs.CommandLines.{words_of_arguments};
+ghost use Rattle.stderr_notes.specs.ProgramAnswers.{AnswersCommandLine, EndsAsAnswer};
 
 mod calls;
 pub mod ends;
@@ -30,98 +35,110 @@ use log_source::output::Output;
 use log_source::shelf::Shelf;
 use log_source::sink::Sink;
 use log_source::std_sink::StdSink;
-use log_verdict::runs::Ran;
 use std::io;
 use std::process::ExitCode;
 use std::random::RandomSource;
-use stderr_notes::command_line::CommandLine;
+use stderr_notes::command_line::{CommandLine, words_of};
 use stderr_notes::noted_shelf::NotedShelf;
-use stderr_notes::program_ends::{UsedEnds, fresh_output, noted_files};
+use stderr_notes::notes::Notes;
+use stderr_notes::program_ends::{Ended, UsedEnds, fresh_output, noted_files};
 
-/// Runs the command that the words of the command line ask for, with hashes of a random seed.
-fn answer_words<R: CommandLine + AllocGlobal + RandomSource, F: Shelf, K: Sink, O: ClosingDigests>(
-    rt: &R,
-    shelf: F,
+/// How a run ended, and the shelf that its logs were read from.
+#[derive(Drop)]
+struct Answered<F> {
+    end: DeskEnd,
+    shelf: NotedShelf<F>,
+}
+
+/// Runs the command that these words ask for, with hashes of a random seed.
+fn run_words<R: AllocGlobal + RandomSource, F: Shelf, K: Sink, O: ClosingDigests, N: Notes>(
+    machine: &R,
+    words: &[String],
+    shelf: NotedShelf<F>,
     out: &mut K,
     opener: &mut O,
-) -> Ran<DeskEnd, F>
-    requires fresh { (which : Which) → (F.slot shelf which).started ≡ false }
-    ensures { AnswersCommandLine (DeskAnswersWords F.Shelf) (ended.Run status.Memory)
-        (R.known_words rt.now)
-        (record { shelf = shelf; opener = O.state opener.old; sink = K.state out.old })
-        (record { shelf = result.back; opener = O.state opener.new; sink = K.state out.new })
-        result.status }
+    notes: &N,
+) -> Answered<F>
+    requires fresh { (which : Which) →
+        (⟦<NotedShelf<F> as Shelf>⟧.slot shelf which).started ≡ false }
+    ensures { let shelves = ⟦<NotedShelf<F> as Shelf>⟧ in
+        DeskAnswersWords shelves O.state O.closes (map string_bytes words.now)
+        (record { shelf = shelf; opener = opener.old; sink = K.state out.old })
+        (record { shelf = result.shelf; opener = opener.new; sink = K.state out.new }) result.end }
 {
-    match rt.words() {
-        Ok(words) => ask_call(rt.alloc(), seed_of(rt), &words, shelf, out, opener),
-        Err(_) => Ran {
-            status: DeskEnd::Run(Status::Memory),
-            stop: None,
-            back: shelf,
+    let was_missing = names_missing_database(notes, words);
+    let ran = ask_call(machine.alloc(), seed_of(machine), words, shelf, out, opener);
+    tell_made_database(notes, words, was_missing);
+    tell(notes, ran.status, words, &ran.back, &ran.stop);
+    Answered {
+        end: ran.status,
+        shelf: ran.back,
+    }
+}
+
+/// Runs the command that the words of the command line ask for.
+fn answer_words<
+    R: CommandLine + AllocGlobal + RandomSource,
+    F: Shelf,
+    K: Sink,
+    O: ClosingDigests,
+    N: Notes,
+>(machine: &R, shelf: NotedShelf<F>, out: &mut K, opener: &mut O, notes: &N) -> Answered<F>
+    requires fresh { (which : Which) →
+        (⟦<NotedShelf<F> as Shelf>⟧.slot shelf which).started ≡ false }
+    ensures { let shelves = ⟦<NotedShelf<F> as Shelf>⟧ in
+        AnswersCommandLine (DeskAnswersWords shelves O.state O.closes) (ended.Run status.Memory)
+        (words_of_arguments (R.known_arguments machine.now))
+        (record { shelf = shelf; opener = opener.old; sink = K.state out.old })
+        (record { shelf = result.shelf; opener = opener.new; sink = K.state out.new }) result.end }
+{
+    match words_of(machine) {
+        Ok(words) => run_words(machine, &words, shelf, out, opener, notes),
+        Err(_) => Answered {
+            end: DeskEnd::Run(Status::Memory),
+            shelf,
         },
     }
 }
 
-/// Runs the command that the words of the command line ask for over these files, this output and
-/// this opener.
-fn run_over<
+/// Answers the command line over these files, this output and this opener, whose database is then
+/// closed, and says on `notes` why, where the status is above 1.
+///
+/// Nothing is known of the words, files, output and databases of the runtime, so that no clause
+/// could say of the program what this one does. What it is handed is seen in the code: the runtime
+/// itself as command line and files, its standard output, and an opener of its databases.
+pub fn answer_command_line<
     R: CommandLine + AllocGlobal + RandomSource,
     S: FileSystem + Drop,
     W: Output + Drop,
     O: ClosingDigests,
->(rt: &R, files: S, output: W, opener: &mut O) -> Ran<DeskEnd, UsedEnds<S, W>>
+    N: Notes,
+>(machine: &R, files: S, output: W, opener: &mut O, notes: &N) -> Ended<S, W>
     ensures { let shelf = ⟦<NotedShelf<FileShelf<S>> as Shelf>⟧ in
         let state = ⟦<StdSink<W> as Sink>⟧.state in
-        AnswersFrom (DeskAnswersWords shelf) (ended.Run status.Memory) (R.known_words rt.now)
-        (DeskBegins shelf (S.tells files) (S.file_at files) (W.contents output)
-        (O.state opener.old))
+        EndsAsAnswer (DeskAnswersWords shelf O.state O.closes) (ended.Run status.Memory)
+        desk_end_number (words_of_arguments (R.known_arguments machine.now))
+        (DeskBegins shelf (S.tells files) (S.file_at files) (W.contents output) opener.old)
         (record {
-          shelf = result.back.shelf;
-          opener = O.state opener.new;
-          sink = state result.back.out;
-        }) result.status }
+          shelf = result.ends.shelf;
+          opener = opener.new;
+          sink = state result.ends.out;
+        }) result.code }
 {
-    let shelf = noted_files(rt.alloc(), files);
+    let shelf = noted_files(machine.alloc(), files);
     let mut out = fresh_output(output);
-    let ran = answer_words(rt, shelf, &mut out, opener);
-    Ran {
-        status: ran.status,
-        stop: ran.stop,
-        back: UsedEnds {
-            shelf: ran.back,
+    let answered = answer_words(machine, shelf, &mut out, opener, notes);
+    Ended {
+        code: exit_code(answered.end),
+        ends: UsedEnds {
+            shelf: answered.shelf,
             out,
         },
     }
 }
 
-/// Runs the command over files and standard output.
-fn answer(rt: HostRuntime) -> DeskEnd
-    ensures { let shelf = ⟦<NotedShelf<FileShelf<HostRuntime>> as Shelf>⟧ in
-        AnswersUnknownWords (DeskAnswersWords shelf) (ended.Run status.Memory)
-        (DeskBeginsUnknown shelf) result }
-{
-    let Ok(files) = rt.clone() else {
-        return DeskEnd::Run(Status::Memory);
-    };
-    let Ok(databases) = rt.clone() else {
-        return DeskEnd::Run(Status::Memory);
-    };
-    let Ok(words) = rt.words() else {
-        return DeskEnd::Run(Status::Memory);
-    };
-    let was_missing = names_missing_database(&rt, &words);
-    let mut opener = FileDigestOpener::new(databases);
-    let ran = run_over(&rt, files, io::writer(&rt), &mut opener);
-    tell_made_database(&rt, &words, was_missing);
-    tell(&rt, ran.status, &words, &ran.back.shelf, &ran.stop);
-    ran.status
-}
-
 /// Runs the program, and gives the exit code of its process.
-pub fn run_desk_program(rt: HostRuntime) -> ExitCode
-    ensures { let shelf = ⟦<NotedShelf<FileShelf<HostRuntime>> as Shelf>⟧ in
-        EndsAsAnswer (DeskAnswersWords shelf) (ended.Run status.Memory) desk_end_number
-        (DeskBeginsUnknown shelf) result }
-{
-    exit_code(answer(rt))
+pub fn run_desk_program(rt: HostRuntime) -> ExitCode {
+    let mut opener = FileDigestOpener::new(rt);
+    answer_command_line(&rt, rt, io::writer(&rt), &mut opener, &rt).code
 }

@@ -11,6 +11,7 @@ use stderr_notes::database_notes::{
 };
 use stderr_notes::log_notes::print_end;
 use stderr_notes::noted_shelf::NotedShelf;
+use stderr_notes::notes::Notes;
 use stderr_notes::usage_notes::print_desk_usage;
 
 /// The path of the database, where the words ask for a command with one.
@@ -25,17 +26,17 @@ fn database_of(words: &[String]) -> Option<&str> {
 }
 
 /// Whether the words name a database that is not there.
-pub(crate) fn names_missing_database(rt: &HostRuntime, words: &[String]) -> bool {
+pub(crate) fn names_missing_database<N: Notes>(notes: &N, words: &[String]) -> bool {
     match database_of(words) {
-        Some(path) => is_database_missing(rt, path),
+        Some(path) => is_database_missing(notes, path),
         None => false,
     }
 }
 
 /// Says that a database was made, where it was missing before the run and is there.
-pub(crate) fn tell_made_database(rt: &HostRuntime, words: &[String], was_missing: bool) {
+pub(crate) fn tell_made_database<N: Notes>(notes: &N, words: &[String], was_missing: bool) {
     if let Some(path) = database_of(words) {
-        print_made_database(rt, "desk", path, was_missing);
+        print_made_database(notes, "desk", path, was_missing);
     }
 }
 
@@ -53,8 +54,8 @@ fn status_of_logs(status: CaseStatus) -> Option<Status> {
 }
 
 /// Says why a run ended above 1.
-pub(crate) fn tell<F: Shelf>(
-    rt: &HostRuntime,
+pub(crate) fn tell<N: Notes, F: Shelf>(
+    notes: &N,
     end: DeskEnd,
     words: &[String],
     shelf: &NotedShelf<F>,
@@ -62,12 +63,12 @@ pub(crate) fn tell<F: Shelf>(
 ) {
     let status = match end {
         DeskEnd::Run(Status::Usage) | DeskEnd::Filed(CaseStatus::Usage) => {
-            print_desk_usage(rt, words);
+            print_desk_usage(notes, words);
             None
         }
         DeskEnd::Filed(CaseStatus::KeeperFault) => {
             if let Some(path) = database_of(words) {
-                print_database_fault(rt, "desk", path);
+                print_database_fault(notes, "desk", path);
             }
             None
         }
@@ -75,6 +76,6 @@ pub(crate) fn tell<F: Shelf>(
         DeskEnd::Filed(status) => status_of_logs(status),
     };
     if let Some(status) = status {
-        print_end(rt, "desk", LONGEST_READ, status, shelf, stop);
+        print_end(notes, "desk", LONGEST_READ, status, shelf, stop);
     }
 }

@@ -18,9 +18,14 @@ use std::alloc::Global;
 /// What handles a keeper by this knows nothing of what it is made of, so that its proof does not
 /// go by way of all that a database is made of.
 pub trait ClosingDigests: DigestOpener {
+    // What a close is, between the opener before it and after it.
+    ghost closes: { Self → Self → Type 0 };
+
     /// Closes the keeper that was opened last. What it has kept stays kept, also where the
     /// close fails.
-    fn close(&self, keeper: Self::Book);
+    fn close(&mut self, keeper: Self::Book)
+        ensures closed { closes self.old self.new }
+        ensures stays { Self.DigestOpener.state self.new ≡ Self.DigestOpener.state self.old };
 }
 
 /// Does what the words ask for, as `run_filing_seeded` does, and closes the database, where it was
@@ -34,7 +39,7 @@ pub fn file_and_close<F: Shelf, K: Sink, O: ClosingDigests>(
     opener: &mut O,
 ) -> Ran<CaseStatus, F>
     requires fresh { (which : Which) → (F.slot shelf which).started ≡ false }
-    ensures { FilesThenCloses F.Shelf shelf result.back (O.state opener.old) (O.state opener.new)
+    ensures { FilesThenCloses F.Shelf O.state O.closes shelf result.back opener.old opener.new
         (map string_bytes words.now) (K.state out.old) (K.state out.new) result.status }
 {
     let Ran { status, stop, back } = run_filing_seeded(alloc, seed, words, shelf, out, opener);

@@ -1,7 +1,0 @@
--- The run began with the shelf over the files, the opener and the sink over the output.
-use Rattle.std.proofs.Common.{refl}
-use Rattle.desk_program.proofs.run_over.Goals as goal
-
-pub returns : goal.returns
-returns g c =
-    (_, (c.noted_files-shelf.ensures, refl, c.fresh_output-out.ensures), c.answer_words-ran.ensures)
