@@ -128,7 +128,7 @@ abbrev pub chain_traded_quantity : List Order → List Deal → ℕ → ℕ
 chain_traded_quantity orders deals order =
     chain_traded_in_ledger orders (traded_before orders deals) order
 
--- whether an order was placed
+-- Entered: an order that was placed and, where it replaces another, whose target rested then
 abbrev pub has_entered : List Order → List Deal → ℕ → Bool
 has_entered orders deals order = entered_in_ledger orders (traded_before orders deals) order
 
