@@ -6,6 +6,7 @@ use Rattle.std.proofs.Math.Seq.{take-suc}
 use Rattle.std.proofs.lemmas.Slice.Eq.{bytes_eq-Decides}
 use Rattle.std.proofs.lemmas.List.{reverse-append, length-take-le}
 use Rattle.log_source.specs.Cursors.{log_has_name, newest_log_bytes, log_bytes_at, cursor_state, IsCursorInside}
+use Rattle.log_source.specs.Sources.{any_bytes}
 use Rattle.log_source.specs.declared.cursors.NamedLog.{NamedLog}
 use Rattle.log_source.specs.declared.cursors.Cursor.{Cursor}
 
@@ -65,7 +66,7 @@ left-more logs more i at false within = refl
 -- the state of a cursor stays as logs are added
 pub cursor_state-more : (logs more : List NamedLog) (cursor : Cursor) → IsCursorInside logs cursor → cursor_state (logs ++ more) cursor ≡ cursor_state logs cursor
 cursor_state-more logs more cursor within =
-    ap (λ (left : List ℕ). record { started = cursor.started; left = Some left; taken = cursor.at; starts = cursor.starts; faults = cursor.faults }) (left-more logs more cursor.log cursor.at cursor.started within)
+    ap (λ (left : List ℕ). record { started = cursor.started; left = Some left; taken = cursor.at; gave = any_bytes; starts = cursor.starts; faults = cursor.faults }) (left-more logs more cursor.log cursor.at cursor.started within)
 
 front_next : (logs : List NamedLog) (i : ℕ) (log : NamedLog) → i < length logs → log ≡ get_or logs i log → take (i + 1) logs ≡ take i logs ++ log ∷ []
 front_next logs i log h e =

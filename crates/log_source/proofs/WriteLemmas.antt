@@ -39,6 +39,7 @@ put_failed first mid new failed (Ok x) bytes written rest is stays cut more appe
 put_failed first mid new failed (Err e) bytes written rest is stays cut more appended write = record {
   stays = Stays-trans first mid new stays write.stays;
   whole = tt;
+  quiet = tt;
   part = part_of first.wrote new.wrote bytes written rest cut more (Appends-kept first.wrote mid.wrote new.wrote written appended write.bytes);
   cause = record {
     rose = Rose-later first.faults mid.faults new.faults stays.later write.cause.rose;

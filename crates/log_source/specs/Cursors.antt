@@ -3,7 +3,7 @@
 use Rattle.std.specs.Prelude.{◌≡◌, ℕ, ◌<◌, Bool, true, List, [], drop, reverse, find, length, min, Option, Some, slice_get, if◌then◌else◌, string_bytes}
 use Rattle.std.specs.Option.{option_map, option_map_or}
 use Rattle.std.specs.Str.{bytes_eq}
-use Rattle.log_source.specs.Sources.{Slot}
+use Rattle.log_source.specs.Sources.{Slot, any_bytes}
 use Rattle.log_source.specs.declared.cursors.NamedLog.{NamedLog}
 use Rattle.log_source.specs.declared.cursors.Cursor.{Cursor}
 
@@ -26,6 +26,7 @@ cursor_state logs cursor = record {
   started = cursor.started;
   left = Some (if cursor.started then drop cursor.at (log_bytes_at logs cursor.log) else []);
   taken = cursor.at;
+  gave = any_bytes;
   starts = cursor.starts;
   faults = cursor.faults;
 }

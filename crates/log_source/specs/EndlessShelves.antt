@@ -2,7 +2,7 @@
 use Rattle.std.specs.Prelude.{ℕ, Bool, true, false, List, Option, None}
 use Rattle.audit_base.specs.declared.terms.Which.{Which}
 use Rattle.audit_base.specs.declared.terms.Which.TheVariants.{Orders, Trades}
-use Rattle.log_source.specs.Sources.{Slot}
+use Rattle.log_source.specs.Sources.{Slot, any_bytes}
 use Rattle.log_source.specs.declared.endless_shelf.EndlessSlot.{EndlessSlot}
 use Rattle.log_source.specs.declared.endless_shelf.EndlessShelf.{EndlessShelf}
 
@@ -12,6 +12,7 @@ endless_state slot = record {
   started = slot.started;
   left = None;
   taken = slot.taken;
+  gave = any_bytes;
   starts = slot.starts;
   faults = 0;
 }
@@ -19,7 +20,7 @@ endless_state slot = record {
 -- the state of a slot that was just started, for this many times
 abbrev pub endless_started_slot : ℕ → Slot
 endless_started_slot starts =
-    record { started = true; left = None; taken = 0; starts = starts; faults = 0 }
+    record { started = true; left = None; taken = 0; gave = any_bytes; starts = starts; faults = 0 }
 
 -- nothing is known of its logs
 abbrev pub endless_tells : EndlessShelf → Bool

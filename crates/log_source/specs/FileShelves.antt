@@ -3,7 +3,7 @@ use Rattle.std.specs.Prelude.{ℕ, List, Option, is_some}
 use Rattle.std.specs.Option.{option_and_then}
 use Rattle.audit_base.specs.declared.terms.Which.{Which}
 use Rattle.audit_base.specs.declared.terms.Which.TheVariants.{Orders, Trades}
-use Rattle.log_source.specs.Sources.{Slot}
+use Rattle.log_source.specs.Sources.{Slot, any_bytes}
 use Rattle.log_source.specs.declared.file_shelf.FileSlot.{FileSlot}
 
 -- The state of one slot: a file that is open is started, and what is left is what is
@@ -13,6 +13,7 @@ file_state remaining slot = record {
   started = is_some slot.file;
   left = option_and_then remaining slot.file;
   taken = slot.taken;
+  gave = any_bytes;
   starts = slot.starts;
   faults = slot.faults;
 }

@@ -13,24 +13,26 @@ IsFront shelves which name shelf bytes =
     shelves.tells shelf ≡ true
     → IfSome (shelves.log_of shelf which name) (λ log. StartsWith log bytes)
 
--- The feed stands for the bytes that were taken, no more than the limit,
--- which are the whole log where the logs of the shelf are known.
+-- The feed stands for the bytes that were taken, as the slot keeps account of them, no more than
+-- the limit, which are the whole log where the logs of the shelf are known.
 pub record StandsForWhole {F D : Type 0} (shelves : shelf.Ghosts F) (feeds : feed.Ghosts D)
     (which : Which) (name : List ℕ) (limit : ℕ) (old new : F) (feed : D) : Type 0 where
   pub bytes : List ℕ
   pub stands : feeds.stands_for feed bytes
   pub within : length bytes ≤ limit
   pub count : length bytes ≡ (shelves.slot new which).taken
+  pub given : (shelves.slot new which).gave bytes ≡ true
   pub whole : IsWholeLog shelves which name old bytes
 
--- The feed stands for exactly the bytes that were taken,
--- no more than the limit and a front of the log.
+-- The feed stands for exactly the bytes that were taken, as the slot keeps account of them, no
+-- more than the limit and a front of the log.
 pub record StandsForTaken {F D : Type 0} (shelves : shelf.Ghosts F) (feeds : feed.Ghosts D)
     (which : Which) (name : List ℕ) (limit : ℕ) (old new : F) (feed : D) : Type 0 where
   pub bytes : List ℕ
   pub stands : feeds.stands_for feed bytes
   pub within : length bytes ≤ limit
   pub count : length bytes ≡ (shelves.slot new which).taken
+  pub given : (shelves.slot new which).gave bytes ≡ true
   pub front : IsFront shelves which name old bytes
 
 -- The feed stands for a front of the log, no longer than the limit.

@@ -2,7 +2,7 @@
 use Rattle.std.specs.Prelude.{ℕ, Bool, true, List, [], drop, Option, Some, if◌then◌else◌}
 use Rattle.audit_base.specs.declared.terms.Which.{Which}
 use Rattle.audit_base.specs.declared.terms.Which.TheVariants.{Orders, Trades}
-use Rattle.log_source.specs.Sources.{Slot}
+use Rattle.log_source.specs.Sources.{Slot, any_bytes}
 use Rattle.log_source.specs.declared.quiet_shelf.QuietSlot.{QuietSlot}
 use Rattle.log_source.specs.declared.quiet_shelf.QuietShelf.{QuietShelf}
 
@@ -13,6 +13,7 @@ quiet_state slot = record {
   started = slot.started;
   left = Some (if slot.started then drop slot.at slot.log.items else []);
   taken = slot.at;
+  gave = any_bytes;
   starts = slot.starts;
   faults = 0;
 }
@@ -20,7 +21,7 @@ quiet_state slot = record {
 -- the state of a slot whose log was just started, for this many times
 abbrev pub quiet_started_slot : List ℕ → ℕ → Slot
 quiet_started_slot log starts =
-    record { started = true; left = Some log; taken = 0; starts = starts; faults = 0 }
+    record { started = true; left = Some log; taken = 0; gave = any_bytes; starts = starts; faults = 0 }
 
 -- the log of a slot
 abbrev pub quiet_log : QuietShelf → Which → List ℕ

@@ -24,12 +24,13 @@ pub record HasFailureCause (old new : SinkState) : Type 0 where
   pub rose : RoseOrIsFull old.faults new.faults
   pub reached : IfSome new.wrote (λ bytes. new.sure ≤ length bytes)
 
--- What a write does: at `Ok n` the first n bytes of the piece, at least one,
--- are written, and at a failure none.
+-- What a write does: at `Ok n` the first n bytes of the piece, at least one, are written, and no
+-- fault is counted; at a failure none is written.
 pub record Writes (old new : SinkState) (result : Result ℕ Failed) (piece : List ℕ) : Type 0 where
   pub stays : SinkStays old new
   pub bound : IfOk result (λ n. (1 ≤ n) × (n ≤ length piece))
   pub bytes : WriteAppends old.wrote new.wrote result piece
+  pub quiet : OnOk result (new.faults ≡ old.faults)
   pub cause : OnErr result (HasFailureCause old new)
 
 -- a front of the bytes that is not all of them was written
@@ -38,11 +39,12 @@ pub record AppendsPart (old new : Option (List ℕ)) (bytes : List ℕ) : Type 0
   pub short : count < length bytes
   pub part : Appends old new (take count bytes)
 
--- What writing all the bytes does: at `Ok` they are written, and at a failure
--- a front of them, not all.
+-- What writing all the bytes does: at `Ok` they are written, and no fault is counted; at a failure
+-- a front of them is, not all.
 pub record Puts {T : Type 0} (old new : SinkState) (result : Result T Failed) (bytes : List ℕ)
     : Type 0 where
   pub stays : SinkStays old new
   pub whole : OnOk result (Appends old.wrote new.wrote bytes)
+  pub quiet : OnOk result (new.faults ≡ old.faults)
   pub part : OnErr result (AppendsPart old.wrote new.wrote bytes)
   pub cause : OnErr result (HasFailureCause old new)

@@ -1,5 +1,5 @@
 -- What a shelf holds of its two logs: the states before and after a start and a read.
-use Rattle.std.specs.Prelude.{◌≡◌, ℕ, ◌+◌, ◌-◌, ◌<◌, ◌≤◌, ◌^◌, ◌⊎◌, Bool, true, false, List, Option, None, IsSome, Result, is_ok, OnOk, OnErr, IsErrOf, MatchResult}
+use Rattle.std.specs.Prelude.{◌≡◌, ℕ, ◌+◌, ◌-◌, ◌<◌, ◌≤◌, ◌^◌, ◌⊎◌, Bool, true, false, List, [], ◌++◌, take, Option, None, IsSome, Result, is_ok, OnOk, OnErr, IsErrOf, MatchResult}
 use Rattle.std.specs.Io.{ReadsAtMost}
 use Rattle.std.specs.Io.KnownBytes.{ReadConsumes}
 use Rattle.audit_base.specs.declared.terms.Which.{Which}
@@ -20,18 +20,31 @@ other_log Orders = Trades
 other_log Trades = Orders
 
 -- The state of one slot of a shelf: whether a log is started, the bytes still to come where
--- they are known, how many bytes reads have given since the start, how many starts were made,
--- and how many faults were counted.
+-- they are known, how many bytes reads have given since the start, which bytes these may be as
+-- far as the shelf keeps account of them, how many starts were made, and how many faults were
+-- counted.
 pub record Slot : Type 0 where
   pub started : Bool
   pub left : Option (List ℕ)
   pub taken : ℕ
+  pub gave : List ℕ → Bool
   pub starts : ℕ
   pub faults : ℕ
 
+-- no account is kept of the bytes that reads gave: they may be any
+abbrev pub any_bytes : List ℕ → Bool
+any_bytes bytes = true
+
 -- a slot of a new shelf: nothing is started, taken or counted; `left` is what is known of it
 abbrev pub fresh_slot : Option (List ℕ) → Slot
-fresh_slot left = record { started = false; left = left; taken = 0; starts = 0; faults = 0 }
+fresh_slot left = record {
+  started = false;
+  left = left;
+  taken = 0;
+  gave = any_bytes;
+  starts = 0;
+  faults = 0;
+}
 
 -- a count of faults rose, or is the greatest value that it can show
 abbrev pub RoseOrIsFull : ℕ → ℕ → Type 0
@@ -49,12 +62,19 @@ pub record ChangesOneSlot {F : Type 0} (tells : F → Bool)
 pub record Starts {T : Type 0} (tells : Bool) (log : Option (List ℕ)) (old new : Slot)
     (result : Result T StartFault) : Type 0 where
   pub fresh : new.taken ≡ 0
+  pub given : new.gave [] ≡ true
   pub counted : new.starts ≡ count_after old.starts
   pub later : old.faults ≤ new.faults
   pub started : new.started ≡ is_ok result
   pub known : OnOk result (tells ≡ true → IsSome log × (new.left ≡ log))
   pub cause : IsErrOf result start.Failed → RoseOrIsFull old.faults new.faults
       ⊎ ((tells ≡ true) × (log ≡ None))
+
+-- reads that gave these bytes before a read into `buf` have given them and what it gave after it
+abbrev pub GivesMore : Slot → Slot → Result ℕ Failed → List ℕ → List ℕ → Type 0
+GivesMore old new result buf bytes =
+    old.gave bytes ≡ true
+    → MatchResult result (λ n. new.gave (bytes ++ take n buf) ≡ true) (λ _. new.gave bytes ≡ true)
 
 -- What a read into `buf` does to its slot: at `Ok n` the first n bytes of what
 -- was left are at the front of `buf`, and n is 0 only where nothing is left.
@@ -63,6 +83,7 @@ pub record Reads (old new : Slot) (result : Result ℕ Failed) (buf : List ℕ) 
   pub bound : ReadsAtMost result buf
   pub bytes : ReadConsumes old.left new.left result buf
   pub taken : MatchResult result (λ n. new.taken ≡ old.taken + n) (λ _. new.taken ≡ old.taken)
+  pub given : (bytes : List ℕ) → GivesMore old new result buf bytes
   pub started : new.started ≡ old.started
   pub starts : new.starts ≡ old.starts
   pub later : old.faults ≤ new.faults

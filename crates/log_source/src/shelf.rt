@@ -2,7 +2,8 @@
 //!
 //! A shelf's meaning is one record for each slot, so that "the other slot stays" is one equation. A
 //! slot counts its starts, since a log opened, read in part and opened again would else leave no
-//! trace in a contract.
+//! trace in a contract. It may keep account of the bytes that its reads gave, as a shelf that takes
+//! digests does: so it is known that these are the bytes which whoever read it was handed.
 ghost use Rattle.std.specs.Prelude.{◌≡◌, ℕ, ◌<◌, ◌≤◌, Bool, true, List, length, Option};
 ghost use Rattle.audit_base.specs.declared.terms.Which.{Which};
 ghost use Rattle.log_source.specs.Sources.{ChangesOneSlot, Slot, Starts, Reads, longest_read};
@@ -29,7 +30,8 @@ pub enum StartFault {
 ///
 /// Where the logs of a shelf are known (`tells`), so are the bytes under each of its names,
 /// and they never change. Each slot counts its starts and its faults, which never fall,
-/// and no call on one slot touches the other.
+/// and no call on one slot touches the other. What a slot says of the bytes that its reads gave
+/// since the start (`gave`) holds of those that they gave.
 pub trait Shelf {
     // Whether the bytes of its logs are known.
     ghost tells: { Self → Bool };

@@ -13,7 +13,8 @@ pub trait Sink {
     ghost state: { Self → SinkState };
 
     /// Writes a front of the piece, at least one byte of it, and answers how many bytes it took.
-    /// `Failed` comes only where the sink's faults rose, and nothing was then written.
+    /// A write that took some is no fault. `Failed` comes only where the sink's faults rose, and
+    /// nothing was then written.
     fn write(&mut self, piece: &[u8]) -> Result<usize, Failed>
         requires { 0 < length piece.now }
         ensures { Writes (state self.old) (state self.new) result piece.now };

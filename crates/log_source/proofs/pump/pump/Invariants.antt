@@ -19,6 +19,7 @@ pub record Pumping {F D : Type 0} (shelves : shelf.Ghosts F) (feeds : feed.Ghost
   pub read : List ℕ
   pub stands : feeds.stands_for feed read
   pub count : length read ≡ taken
+  pub given : (shelves.slot now which).gave read ≡ true
   pub known : shelves.tells first ≡ true → IsSome (shelves.log_of first which name) × Consumes (shelves.log_of first which name) (shelves.slot now which).left read
 
 abbrev pub invariant-pieces : goal.invariant-pieces

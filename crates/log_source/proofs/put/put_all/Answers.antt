@@ -17,6 +17,7 @@ loop-rest-preserved g c =
     let more : 0 < length c.loop-rest.rest.now = search rules in
     record {
       stays = Stays-trans _ _ _ i.stays w.stays;
+      quiet = w.quiet ∙ i.quiet;
       written = i.written ++ take c.in_ok-count.count c.loop-rest.rest.now;
       cut = cut_more _ i.written c.loop-rest.rest.now c.in_ok-count.count i.cut;
       appended = Appends-trans _ _ _ i.written _ i.appended w.bytes;

@@ -6,6 +6,7 @@ use Rattle.log_source.proofs.put.put_all.Given as goal
 
 pub record Putting {K : Type 0} (state : K → SinkState) (bytes : List ℕ) (first now : K) (rest : List ℕ) : Type 0 where
   pub stays : SinkStays (state first) (state now)
+  pub quiet : (state now).faults ≡ (state first).faults
   pub written : List ℕ
   pub cut : bytes ≡ written ++ rest
   pub appended : Appends (state first).wrote (state now).wrote written
