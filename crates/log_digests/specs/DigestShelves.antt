@@ -1,46 +1,31 @@
 -- A shelf that takes digests: what its hashes are of.
-use Rattle.std.specs.Prelude.{◌≡◌, ℕ, Bool, true, List, ◌++◌, length, Option, Some, option_map, IsSomeAnd}
-use Rattle.std.specs.Io.KnownBytes.{IsAtEnd}
+use Rattle.std.specs.Prelude.{ℕ, Bool, ◌&&◌, ◌==◌, ◌/◌, ◌%◌, ◌*◌, ◌^◌, List, length, take, drop}
+use Rattle.std.specs.Str.{bytes_eq}
 use Rattle.audit_base.specs.declared.terms.Which.{Which}
 use Rattle.audit_base.specs.declared.terms.Which.TheVariants.{Orders, Trades}
-use Rattle.log_source.specs.Sources.{Slot}
-use Rattle.log_digests.specs.Digests.{digest_of}
+use Rattle.log_source.specs.Sources.{Slot, with_account}
 use Rattle.log_digests.specs.declared.feeds.DigestFeed.{DigestFeed}
-use Rattle.sha2.specs.Hashers.{Holds256}
+use Rattle.sha2.specs.Sha256.{hash_after, initial_hash_256}
 
 -- the name of the log of a slot, of these two
 abbrev pub name_of_log : List ℕ → List ℕ → Which → List ℕ
 name_of_log orders trades Orders = orders
 name_of_log orders trades Trades = trades
 
--- The bytes were taken of the started log of a slot, from its first one; with those that are
--- left they are the log, where it is known.
-pub record IsFrontTaken (tells : Bool) (log : Option (List ℕ)) (slot : Slot) (bytes : List ℕ)
-    : Type 0 where
-  pub count : slot.started ≡ true → length bytes ≡ slot.taken
-  pub front : tells ≡ true → slot.started ≡ true
-      → IsSomeAnd slot.left (λ left. log ≡ Some (bytes ++ left))
+-- a hash may be of these bytes: it counted as many, it is what their whole blocks of 64 come to
+-- under SHA-256 (FIPS 180-4, 6.2), and it keeps the bytes that are left
+abbrev pub may_be_of : DigestFeed → List ℕ → Bool
+may_be_of feed bytes =
+    (feed.hasher.core.total == length bytes % 2 ^ 64)
+    && (bytes_eq feed.hasher.core.h (hash_after initial_hash_256 bytes (length bytes / 64))
+    && bytes_eq (take (length bytes % 64) feed.hasher.core.buffer)
+    (drop (length bytes / 64 * 64) bytes))
 
--- The feed was handed the bytes that were taken of the log of a slot, and no others.
-pub record HasDigested (feed : DigestFeed) (tells : Bool) (log : Option (List ℕ)) (slot : Slot)
-    : Type 0 where
-  pub bytes : List ℕ
-  pub held : Holds256 feed.hasher bytes
-  pub taken : IsFrontTaken tells log slot bytes
+-- the hash of the log of a slot, of these two
+abbrev pub feed_of_log : DigestFeed → DigestFeed → Which → DigestFeed
+feed_of_log orders trades Orders = orders
+feed_of_log orders trades Trades = trades
 
--- where a log is known, and was started and read to its end, the digest is that of the whole log
-abbrev pub IsDigestAtEnd : Bool → Option (List ℕ) → Slot → List ℕ → Type 0
-IsDigestAtEnd tells log slot digest =
-    tells ≡ true → slot.started ≡ true → IsAtEnd slot.left
-    → option_map digest_of log ≡ Some digest
-
--- The digest is that of some bytes, of which there are so many.
-pub record IsDigestOfSome (count : ℕ) (digest : List ℕ) : Type 0 where
-  pub bytes : List ℕ
-  pub digest_is : digest ≡ digest_of bytes
-  pub count_is : length bytes ≡ count
-
--- where a log was started, whether it is known or not, the digest is that of as many bytes as were
--- taken of it
-abbrev pub IsDigestOfTaken : Slot → List ℕ → Type 0
-IsDigestOfTaken slot digest = slot.started ≡ true → ∥ IsDigestOfSome slot.taken digest ∥₁
+-- the slot of the shelf below, with the hash for an account of what its reads gave
+abbrev pub digested_slot : Slot → DigestFeed → Slot
+digested_slot slot feed = with_account slot (may_be_of feed)

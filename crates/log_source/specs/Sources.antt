@@ -35,6 +35,10 @@ pub record Slot : Type 0 where
 abbrev pub any_bytes : List ℕ → Bool
 any_bytes bytes = true
 
+-- the slot, with this account of the bytes that its reads gave
+abbrev pub with_account : Slot → (List ℕ → Bool) → Slot
+with_account slot account = record slot { gave = account }
+
 -- a slot of a new shelf: nothing is started, taken or counted; `left` is what is known of it
 abbrev pub fresh_slot : Option (List ℕ) → Slot
 fresh_slot left = record {
