@@ -105,7 +105,7 @@ module _ (first second : Reading) (after : Continues first second) (later : Faul
       ends Trades = refl
 
   read_first : (step : LogStep) (bytes : List ℕ) → IsRead first step bytes → IsRead whole step bytes
-  read_first step bytes is = record { once = is.once; started = is.started; at_end = is.at_end; within = is.within; taken = is.taken; known = is.known }
+  read_first step bytes is = record { once = is.once; started = is.started; at_end = is.at_end; within = is.within; taken = is.taken; given = is.given; known = is.known }
 
   read_third : (bytes : List ℕ) → IsRead second third_step bytes → IsRead whole third_step bytes
   read_third bytes is = record {
@@ -114,6 +114,7 @@ module _ (first second : Reading) (after : Continues first second) (later : Faul
     at_end = is.at_end;
     within = subst (λ (n : ℕ). length bytes ≤ n) after.limit is.within;
     taken = is.taken;
+    given = is.given;
     known = λ t. sym (after.logs Trades certificate) ∙ is.known (after.tells ∙ t);
   }
 

@@ -61,6 +61,7 @@ module _ (first second : Reading) (on : ReadsInTurn first second) where
     at_end = rw orders-stay is.at_end;
     within = is.within;
     taken = rw orders-stay is.taken;
+    given = rw orders-stay is.given;
     known = is.known;
   }
 
@@ -75,6 +76,7 @@ module _ (first second : Reading) (on : ReadsInTurn first second) where
     at_end = is.at_end;
     within = subst (λ (n : ℕ). length bytes ≤ n) on.limit is.within;
     taken = is.taken;
+    given = is.given;
     known = λ t. sym (on.logs Trades name) ∙ is.known (on.tells ∙ t);
   }
 

@@ -138,6 +138,7 @@ module _ (command : Command) (orders trades : Source) (starts : StartsBoth comma
       at_end = rw orders-stay is.at_end;
       within = is.within;
       taken = rw orders-stay is.taken;
+      given = rw orders-stay is.given;
       known = is.known;
     }
 
@@ -152,6 +153,7 @@ module _ (command : Command) (orders trades : Source) (starts : StartsBoth comma
       at_end = is.at_end;
       within = subst (λ (n : ℕ). length bytes ≤ n) on.limit is.within;
       taken = is.taken;
+      given = is.given;
       known = λ t. sym (on.logs Trades name) ∙ is.known (on.tells ∙ t);
     }
 

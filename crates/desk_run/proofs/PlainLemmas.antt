@@ -71,7 +71,7 @@ module _ {F : Type 0} (shelves : Shelf F) (reads : List ℕ → List (List ℕ) 
   writes-day (Ok end) slot is stops = record {
     bytes = is.bytes;
     bodies = is.bodies;
-    read = record { once = slot.once; started = slot.started; at_end = slot.at_end; within = is.within; taken = is.count; known = is.whole };
+    read = record { once = slot.once; started = slot.started; at_end = slot.at_end; within = is.within; taken = is.count; given = is.given; known = is.whole };
     begins = is.begins;
     wrote = is.wrote;
     ends = is.holding;

@@ -1,18 +1,15 @@
 -- A slot with the hash of what was read of its log for an account, as it is started and read.
-use Rattle.std.proofs.Common.{◌≡◌, ℕ, Bool, true, false, List, [], ◌++◌, ◌&&◌, ◌/◌, ◌%◌, ◌*◌, ◌^◌, take, drop, length, Ok, Err, refl, sym, subst}
-use Rattle.std.specs.Prelude.{Option, Result, MatchResult, ◌==◌}
-use Rattle.std.specs.Str.{bytes_eq}
+use Rattle.std.proofs.Common.{◌≡◌, ℕ, Bool, true, false, List, [], ◌++◌, ◌&&◌, take, Ok, Err}
+use Rattle.std.specs.Prelude.{Option, Result}
 use Rattle.std.proofs.lemmas.Bool.{and_parts, eqb-true, eq-eqb}
 use Rattle.std.proofs.lemmas.Slice.Eq.{bytes_eq-Decides}
-use Rattle.audit_base.specs.declared.terms.Which.{Which}
-use Rattle.audit_base.specs.declared.terms.Which.TheVariants.{Orders, Trades}
-use Rattle.log_source.specs.Sources.{Slot, Starts, Reads, with_account}
+use Rattle.log_source.specs.Sources.{Slot, Starts, Reads}
 use Rattle.log_source.specs.declared.shelf.Failed.{Failed}
 use Rattle.log_source.specs.declared.shelf.StartFault.{StartFault}
 use Rattle.log_digests.specs.DigestShelves.{digested_slot, may_be_of}
 use Rattle.log_digests.specs.declared.feeds.DigestFeed.{DigestFeed}
 use Rattle.sha2.specs.Hashers.{Holds256}
-use Rattle.sha2.specs.Sha256.{Holds, hash_after, initial_hash_256}
+use Rattle.sha2.specs.Sha256.{Holds}
 
 both : (a b : Bool) → a ≡ true → b ≡ true → (a && b) ≡ true
 both true b e f = f

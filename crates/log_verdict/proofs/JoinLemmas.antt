@@ -54,6 +54,7 @@ module _ (first second : Reading) (after : Follows first second) where
       at_end = rw after.orders is.read.at_end;
       within = is.read.within;
       taken = rw after.orders is.read.taken;
+      given = rw after.orders is.read.given;
       known = is.read.known;
     };
     holds = so is.bytes is.holds;
@@ -72,6 +73,7 @@ module _ (first second : Reading) (after : Follows first second) where
       at_end = is.read.at_end;
       within = subst (λ (n : ℕ). length is.bytes ≤ n) after.limit is.read.within;
       taken = is.read.taken;
+      given = is.read.given;
       known = λ t. sym (after.logs Trades name) ∙ is.read.known (after.tells ∙ t);
     };
     holds = is.holds;

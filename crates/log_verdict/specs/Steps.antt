@@ -6,7 +6,7 @@ use Rattle.audit_base.specs.declared.terms.Which.TheVariants.{Orders, Trades}
 use Rattle.log_source.specs.declared.shelf.Shelf.{Ghosts as Shelf}
 use Rattle.log_verdict.specs.declared.sources.Source.{Source}
 use Rattle.log_source.specs.Calls.{count_after}
-use Rattle.log_source.specs.Sources.{Slot, RoseOrIsFull, longest_log}
+use Rattle.log_source.specs.Sources.{Slot, RoseOrIsFull, longest_log, with_account}
 
 -- What a call knows of a shelf: how many bytes a log may have, whether what the shelf has is
 -- known, what it has in each slot under a name, and its slots before and after the call.
@@ -36,6 +36,21 @@ reading_by source shelf old new = reading_within source.limit shelf old new
 abbrev pub reading : {S : Type 0} → Shelf S → S → S → Reading
 reading shelf old new = reading_within longest_log shelf old new
 
+-- what a call knows of a shelf, with these accounts of the bytes that its slots gave before and
+-- after
+abbrev pub with_accounts : Reading → (Which → List ℕ → Bool) → (Which → List ℕ → Bool) → Reading
+with_accounts r before after = record r {
+  before = λ log. with_account (r.before log) (before log);
+  after = λ log. with_account (r.after log) (after log);
+}
+
+-- This holds of a call by some account of the bytes that its slots gave, such as a hash of them,
+-- whatever account the shelf itself keeps.
+pub record HoldsBySomeAccount (holds : Reading → Type 0) (r : Reading) : Type 0 where
+  pub before : Which → List ℕ → Bool
+  pub after : Which → List ℕ → Bool
+  pub is : holds (with_accounts r before after)
+
 -- No call changes whether what the shelf has is known, or what it has in a slot under a name.
 pub record KeepsShelfLogs {S : Type 0} (shelf : Shelf S) (old new : S) : Type 0 where
   pub tells : shelf.tells new ≡ shelf.tells old
@@ -59,13 +74,15 @@ abbrev pub IsStartedOnce : LogStep → Type 0
 IsStartedOnce step = step.after.starts ≡ count_after step.before.starts
 
 -- The log was started once and read to its end, and these are its bytes, whatever pieces they
--- came in; where it is known what the shelf has, they are what it has under the name.
+-- came in: the slot keeps account of them. Where it is known what the shelf has, they are what it
+-- has under the name.
 pub record IsRead (r : Reading) (step : LogStep) (bytes : List ℕ) : Type 0 where
   pub once : IsStartedOnce step
   pub started : step.after.started ≡ true
   pub at_end : IsAtEnd step.after.left
   pub within : length bytes ≤ r.limit
   pub taken : length bytes ≡ step.after.taken
+  pub given : step.after.gave bytes ≡ true
   pub known : r.tells ≡ true → r.log_of step.log step.name ≡ Some bytes
 
 -- The log of this name was read to its end, and its bytes say this.

@@ -8,7 +8,7 @@ returns-in-Ok-clause-digest g c =
     let is = rw c.as_str.ensures at c.in-Ok.ensures.digest in
     record {
       bytes = is.bytes;
-      read = record { once = slot.once; started = slot.started; at_end = slot.at_end; within = is.within; taken = is.count; known = is.whole };
+      read = record { once = slot.once; started = slot.started; at_end = slot.at_end; within = is.within; taken = is.count; given = is.given; known = is.whole };
       holds = is.digest_is;
     }
 

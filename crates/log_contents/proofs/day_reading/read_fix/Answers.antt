@@ -10,7 +10,7 @@ returns-in-Ok-clause-read g c =
     let has = c.in-Ok.ensures fed.bytes fed.stands in
     record {
       bytes = fed.bytes;
-      read = record { once = slot.once; started = slot.started; at_end = slot.at_end; within = fed.within; taken = fed.count; known = fed.whole };
+      read = record { once = slot.once; started = slot.started; at_end = slot.at_end; within = fed.within; taken = fed.count; given = fed.given; known = fed.whole };
       holds = fix-summary _ _ g.R.FixRecord.meaning fed.bytes _ _ _ has.records has.kinds c.summary.ensures;
     }
 
@@ -19,5 +19,5 @@ returns-in-Err-clause-read g c =
     let fed = c.in_ok-pump.ensures.whole in
     let slot = c.in_ok-pump.ensures.slot in
     rw c.from.ensures (fix-unread (read_fix_log g.R.FixRecord.meaning) (reading_by c.args.source.now g.F.Shelf c.args.shelf.now c.pump.new.shelf) c.args.which c.args.source.now.name.now fed.bytes c.in-Err.fault
-    (record { once = slot.once; started = slot.started; at_end = slot.at_end; within = fed.within; taken = fed.count; known = fed.whole })
+    (record { once = slot.once; started = slot.started; at_end = slot.at_end; within = fed.within; taken = fed.count; given = fed.given; known = fed.whole })
     (c.in-Err.ensures fed.bytes fed.stands))

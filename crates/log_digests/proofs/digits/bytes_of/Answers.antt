@@ -1,5 +1,5 @@
 -- 64 digits are read, and are those of what was read.
-use Rattle.std.proofs.Common.{◌≡◌, Ok, Err, sym, ap, ◌∙◌}
+use Rattle.std.proofs.Common.{sym, ap, ◌∙◌}
 use Rattle.std.proofs.lemmas.Result.{MatchResult-at_ok}
 use Rattle.hex.specs.Hex.{encode_lower}
 use Rattle.log_digests.proofs.DigitLemmas.{are_written}

@@ -9,7 +9,7 @@ returns-in-Ok-clause-read g c =
     let slot = c.in_ok-pump.ensures.slot in
     record {
       bytes = fed.bytes;
-      read = record { once = slot.once; started = slot.started; at_end = slot.at_end; within = fed.within; taken = fed.count; known = fed.whole };
+      read = record { once = slot.once; started = slot.started; at_end = slot.at_end; within = fed.within; taken = fed.count; given = fed.given; known = fed.whole };
       holds = c.in-Ok.ensures.reads fed.bytes fed.stands;
     }
 
@@ -18,5 +18,5 @@ returns-in-Err-clause-read g c =
     let fed = c.in_ok-pump.ensures.whole in
     let slot = c.in_ok-pump.ensures.slot in
     rw c.from.ensures (unread-fault (read_csv_log g.R.CsvRecord.names g.R.CsvRecord.meaning) (reading_by c.args.source.now g.F.Shelf c.args.shelf.now c.pump.new.shelf) c.args.which c.args.source.now.name.now fed.bytes c.in-Err.fault
-    (record { once = slot.once; started = slot.started; at_end = slot.at_end; within = fed.within; taken = fed.count; known = fed.whole })
+    (record { once = slot.once; started = slot.started; at_end = slot.at_end; within = fed.within; taken = fed.count; given = fed.given; known = fed.whole })
     (c.in-Err.ensures.reads fed.bytes fed.stands))
