@@ -24,7 +24,7 @@ use Rattle.desk_words.specs.declared.requests.NamedLogs.{NamedLogs}
 use Rattle.log_digests.specs.declared.digests.LogDigests.{LogDigests}
 use Rattle.digest_keeper.specs.declared.digested.KeptCase.{KeptCase}
 use Rattle.desk_filing.specs.Causes.{ReadsDigestedLogs, ReadsLogsFor}
-use Rattle.desk_filing.specs.DigestedVerdicts.{AreDigestsOfTaken}
+use Rattle.desk_filing.specs.DigestedVerdicts.{AreDigestsOfGiven}
 use Rattle.desk_filing.specs.Days.{JudgesDay, JudgesGiven, JudgesWithout, TellsUnpaired}
 use Rattle.desk_filing.specs.Judging.{TellsBadPlace}
 use Rattle.desk_filing.specs.Steps.{JudgesLogs, NamesLogs, ReadsJudged, ReadsBadPlace, ReadsRecords, ReadsRefusal}
@@ -37,10 +37,8 @@ use Rattle.desk_filing.specs.declared.requests.FilingCommand.TheVariants as comm
 use Rattle.desk_filing.specs.declared.requests.FilingRequest.{FilingRequest}
 use Rattle.desk_filing.proofs.LogLemmas.{logs_of_records, reads_either, reads_of_records, stops_reading, turn_of_records}
 use Rattle.desk_filing.proofs.WritingLemmas.{ends_stopped}
-use Rattle.desk_filing.proofs.DigestedLemmas.{taken_digests}
 use Rattle.desk_filing.proofs.JudgeLemmas.{refuses}
 use Rattle.log_digests.specs.Digests.{digest_of}
-use Rattle.log_digests.specs.DigestShelves.{IsDigestAtEnd, IsDigestOfTaken}
 use Rattle.log_source.specs.declared.shelf.Shelf.{Ghosts as Shelf}
 use Rattle.log_verdict.specs.Steps.{KeepsShelfLogs, Reading, reading_by}
 use Rattle.log_verdict.specs.declared.sources.Source.{Source}
@@ -50,24 +48,11 @@ use Rattle.log_verdict.specs.declared.stops.Stop.TheVariants as stop
 use Rattle.log_verdict.specs.BothLogs.{IsUnreadOfTwoLogs, ReadsLogs, ReadsWithin}
 use Rattle.record_verdict.specs.Scopes.{admission_of}
 
--- The digests are those that the shelf took of both logs.
-pub record TakesDigests (r : Reading) (logs : NamedLogs) (digests : LogDigests) : Type 0 where
-  pub taken : AreDigestsOfTaken r digests
-  pub of_orders : IsDigestAtEnd r.tells (r.log_of Orders logs.orders) (r.after Orders) digests.orders
-  pub of_trades : IsDigestAtEnd r.tells (r.log_of Trades logs.trades) (r.after Trades) digests.trades
-
--- they were taken after the reading, of a shelf that tells as before and has the same logs
-pub takes_digests : (r : Reading) (logs : NamedLogs) (digests : LogDigests) (told : Bool) (log_of : Which → List ℕ → Option (List ℕ)) → told ≡ r.tells → ((w : Which) (n : List ℕ) → log_of w n ≡ r.log_of w n)
-    → IsDigestAtEnd told (log_of Orders logs.orders) (r.after Orders) digests.orders → IsDigestAtEnd told (log_of Trades logs.trades) (r.after Trades) digests.trades
-    → IsDigestOfTaken (r.after Orders) digests.orders → IsDigestOfTaken (r.after Trades) digests.trades → TakesDigests r logs digests
-takes_digests r logs digests told log_of is_told same first second of_first of_second = record {
-  taken = taken_digests r digests of_first of_second;
-  of_orders = λ tells started at_end. ap (option_map digest_of) (sym (same Orders logs.orders)) ∙ first (is_told ∙ tells) started at_end;
-  of_trades = λ tells started at_end. ap (option_map digest_of) (sym (same Trades logs.trades)) ∙ second (is_told ∙ tells) started at_end;
-}
-
-one_digest : (log : Option (List ℕ)) (bytes digest : List ℕ) → log ≡ Some bytes → option_map digest_of log ≡ Some digest → digest ≡ digest_of bytes
-one_digest log bytes digest is has = sym (same_Some (digest_of bytes) digest (sym (ap (option_map digest_of) is) ∙ has))
+-- the digests of both logs are those of what their slots gave
+pub digests_of_both : (r : Reading) (digests : LogDigests) → ((bytes : List ℕ) → (r.after Orders).gave bytes ≡ true → digests.orders ≡ digest_of bytes) → ((bytes : List ℕ) → (r.after Trades).gave bytes ≡ true → digests.trades ≡ digest_of bytes)
+    → AreDigestsOfGiven r digests
+digests_of_both r digests first second Orders = first
+digests_of_both r digests first second Trades = second
 
 refused_not_done : status.Refused ≡ status.Done → ⊥
 refused_not_done e = cc
@@ -91,13 +76,10 @@ module _ (r : Reading) (request : FilingRequest) (orders trades : Source) (names
       (subst (λ (p : Result (List TradeRecord) Finding). FilesDayOrNone digests kept request.label the_rule reads.entries p turn) (sym same) is))
 
   -- the logs were read so, with the digests that were taken
-  digested : (given : DayBeforeRule) (reads : ReadsRecords r request.logs (On given)) (digests : LogDigests) → TakesDigests r request.logs digests → ReadsDigestedLogs r request.logs (logs_of_records r request.logs (On given) reads digests)
-  digested given reads digests takes =
-      reads_of_records r request.logs (On given) reads digests takes.taken
-      (λ tells. one_digest (r.log_of Orders request.logs.orders) reads.orders digests.orders (reads.orders_read.known tells) (takes.of_orders tells reads.orders_read.started reads.orders_read.at_end))
-      (λ tells. one_digest (r.log_of Trades request.logs.trades) reads.trades digests.trades (reads.trades_read.known tells) (takes.of_trades tells reads.trades_read.started reads.trades_read.at_end))
+  digested : (given : DayBeforeRule) (reads : ReadsRecords r request.logs (On given)) (digests : LogDigests) → AreDigestsOfGiven r digests → ReadsDigestedLogs r request.logs (logs_of_records r request.logs (On given) reads digests)
+  digested given reads digests are = reads_of_records r request.logs (On given) reads digests are
 
-  module _ (ended : EndedTrades) (reads : ReadsRecords r request.logs (On (before_rule.Read ended))) (digests : LogDigests) (takes : TakesDigests r request.logs digests) where
+  module _ (ended : EndedTrades) (reads : ReadsRecords r request.logs (On (before_rule.Read ended))) (digests : LogDigests) (are : AreDigestsOfGiven r digests) where
     -- the cases of the records that the day has
     by_records : (given : FilingOutcome) → JudgesDay request.label the_rule digests ended given → (records : List TradeRecord) → reads.paired ≡ Ok records → HasTradesOf whole_day (admission_of the_rule) reads.entries ended records → ReadsJudged r request given
     by_records (judged.Cases cases) judges records same has =
@@ -106,11 +88,11 @@ module _ (r : Reading) (request : FilingRequest) (orders trades : Source) (names
           read = reads.good;
           turn = record {
             given = logs_of_records r request.logs (On (before_rule.Read ended)) reads digests;
-            reads = digested (before_rule.Read ended) reads digests takes;
+            reads = digested (before_rule.Read ended) reads digests are;
             is = λ kept.
                 turns (before_rule.Read ended) reads digests kept (filed_turn kept cases.items) (Ok records) same (record {
                   verdicts = is.verdicts;
-                  are = is.are;
+                  takes = is.takes;
                   is =
                       ap (filed_turn kept) is.is.1
                       ∙ ap (λ (long : Option (List ℕ)). day_turn kept long (cases_of_day request.label the_rule digests (symbols_of_whole_day reads.entries records) is.verdicts)) (sym is.is.0);
@@ -124,11 +106,11 @@ module _ (r : Reading) (request : FilingRequest) (orders trades : Source) (names
           not_done = λ e. refused_not_done (sym is.is.status_is ∙ e);
           turn = record {
             given = logs_of_records r request.logs (On (before_rule.Read ended)) reads digests;
-            reads = digested (before_rule.Read ended) reads digests takes;
+            reads = digested (before_rule.Read ended) reads digests are;
             is = λ kept.
                 turns (before_rule.Read ended) reads digests kept (unfiled_turn kept answer.status answer.text.items) (Ok records) same (record {
                   verdicts = is.verdicts;
-                  are = is.are;
+                  takes = is.takes;
                   is =
                       ap₂ (unfiled_turn kept) is.is.status_is is.is.text_is
                       ∙ ap (λ (long : Option (List ℕ)). day_turn kept long (cases_of_day request.label the_rule digests (symbols_of_whole_day reads.entries records) is.verdicts)) (sym is.is.is);
@@ -141,22 +123,22 @@ module _ (r : Reading) (request : FilingRequest) (orders trades : Source) (names
     by_paired given judges (Err finding) same has = absurd has
 
   -- the verdicts on its symbols
-  judges_read : (ended : EndedTrades) (digests : LogDigests) → TakesDigests r request.logs digests → (given : FilingOutcome) → JudgesDay request.label the_rule digests ended given
+  judges_read : (ended : EndedTrades) (digests : LogDigests) → AreDigestsOfGiven r digests → (given : FilingOutcome) → JudgesDay request.label the_rule digests ended given
       → AreRead (before_rule.Read ended) → ReadsJudged r request given
-  judges_read ended digests takes given judges reads = ⊎_elim
-      (λ records. by_paired ended records digests takes given judges records.paired refl records.holds)
+  judges_read ended digests are given judges reads = ⊎_elim
+      (λ records. by_paired ended records digests are given judges records.paired refl records.holds)
       (λ place. absurd place.holds)
       (either (before_rule.Read ended) reads)
 
   -- its reports do not pair
-  judges_unpaired : (finding : Finding) (digests : LogDigests) → TakesDigests r request.logs digests → (answer : CaseAnswer) → TellsUnpaired finding answer → AreRead (before_rule.Unpaired finding) → ReadsRefusal r request answer
-  judges_unpaired finding digests takes answer tells_finding reads = ⊎_elim
+  judges_unpaired : (finding : Finding) (digests : LogDigests) → AreDigestsOfGiven r digests → (answer : CaseAnswer) → TellsUnpaired finding answer → AreRead (before_rule.Unpaired finding) → ReadsRefusal r request answer
+  judges_unpaired finding digests are answer tells_finding reads = ⊎_elim
       (λ records. record {
         read = subst (ReadsLogsFor r request.logs) (sym tells_finding.status_is) records.good;
         not_done = λ e. refused_not_done (sym tells_finding.status_is ∙ e);
         turn = record {
           given = logs_of_records r request.logs (On (before_rule.Unpaired finding)) records digests;
-          reads = digested (before_rule.Unpaired finding) records digests takes;
+          reads = digested (before_rule.Unpaired finding) records digests are;
           is = λ kept.
               turns (before_rule.Unpaired finding) records digests kept (unfiled_turn kept answer.status answer.text.items) (Err finding) records.holds (ap₂ (unfiled_turn kept) tells_finding.status_is tells_finding.text_is);
         };
@@ -179,11 +161,11 @@ module _ (r : Reading) (request : FilingRequest) (orders trades : Source) (names
       (reads_either r request.logs orders trades names (λ entries paired. ⊥) (λ which place. (which ≡ log) × (place ≡ bad)) reads)
 
   -- what the logs come to
-  pub judges_given : (given : DayBeforeRule) (digests : LogDigests) → TakesDigests r request.logs digests → (made : FilingOutcome) → JudgesGiven request.label the_rule digests given made → AreRead given
+  pub judges_given : (given : DayBeforeRule) (digests : LogDigests) → AreDigestsOfGiven r digests → (made : FilingOutcome) → JudgesGiven request.label the_rule digests given made → AreRead given
       → ReadsJudged r request made
-  judges_given (before_rule.Read ended) digests takes made judges reads = judges_read ended digests takes made judges reads
-  judges_given (before_rule.Unpaired finding) digests takes (judged.Cases cases) judges reads = absurd judges
-  judges_given (before_rule.Unpaired finding) digests takes (judged.Refused answer) judges reads = judges_unpaired finding digests takes answer judges reads
+  judges_given (before_rule.Read ended) digests are made judges reads = judges_read ended digests are made judges reads
+  judges_given (before_rule.Unpaired finding) digests are (judged.Cases cases) judges reads = absurd judges
+  judges_given (before_rule.Unpaired finding) digests are (judged.Refused answer) judges reads = judges_unpaired finding digests are answer judges reads
 
   -- the same of logs that were not read into records
   pub judges_without : (why : NoRecords) (result : Result FilingOutcome Halt) → JudgesWithout why result → IsUnreadOfTwoLogs r orders trades why → JudgesLogs r request result

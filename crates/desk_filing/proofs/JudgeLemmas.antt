@@ -21,7 +21,7 @@ use Rattle.case_run.specs.declared.statuses.CaseStatus.{CaseStatus}
 use Rattle.case_run.specs.declared.statuses.CaseStatus.TheVariants as status
 use Rattle.log_digests.specs.declared.digests.LogDigests.{LogDigests}
 use Rattle.digest_keeper.specs.declared.digested.KeptCase.{KeptCase}
-use Rattle.desk_filing.specs.DigestedVerdicts.{AreDigestsOfTaken, HasDigestsOfLogs}
+use Rattle.desk_filing.specs.DigestedVerdicts.{AreDigestsOfGiven}
 use Rattle.desk_filing.specs.declared.digested_verdicts.DigestedVerdict.{DigestedVerdict}
 use Rattle.desk_filing.specs.Causes.{ReadsDigestedLogs, ReadsGoodLogs, ReadsLogsFor}
 use Rattle.desk_filing.specs.Lines.{comparison_line}
@@ -51,9 +51,6 @@ judged_sound q entries paired log bad is =
     by_found : (orders : List Order) (deals : List Deal) (found : Option Finding) → IsOutcomeByFinding q orders deals found (verdict.Malformed log bad) → ⊥
     by_found orders deals None is = absurd is
     by_found orders deals (Some finding) is = cc
-
-one_digest : (log : Option (List ℕ)) (bytes digest : List ℕ) → log ≡ Some bytes → option_map digest_of log ≡ Some digest → digest ≡ digest_of bytes
-one_digest log bytes digest is has = sym (same_Some (digest_of bytes) digest (sym (ap (option_map digest_of) is) ∙ has))
 
 -- what was read of the logs, by the bad place that is answered
 pub refuses : (r : Reading) (request : FilingRequest) (v : Verdict) (answer : CaseAnswer) → TellsBadPlace v answer → ReadsBadPlace r request.logs (λ log bad. v ≡ verdict.Malformed log bad) → ReadsRefusal r request answer
@@ -91,12 +88,9 @@ module _ (r : Reading) (request : FilingRequest) (orders trades : Source) (names
   no_bad v reads log bad e = judged_sound q reads.entries reads.paired log bad (subst (λ (w : Verdict). IsRecordVerdict q reads.entries reads.paired w) e reads.holds)
 
   -- the logs were read so, with the digests of the verdict
-  digested : (made : DigestedVerdict) (reads : ReadsRecords r request.logs (On made.verdict)) → HasDigestsOfLogs r.tells r.log_of orders trades made → AreDigestsOfTaken r made.digests
+  digested : (made : DigestedVerdict) (reads : ReadsRecords r request.logs (On made.verdict)) → AreDigestsOfGiven r made.digests
       → ReadsDigestedLogs r request.logs (logs_of_records r request.logs (On made.verdict) reads made.digests)
-  digested made reads has taken =
-      reads_of_records r request.logs (On made.verdict) reads made.digests taken
-      (λ tells. one_digest (r.log_of Orders orders.name.now) reads.orders made.digests.orders (ap (λ (n : List ℕ). r.log_of Orders n) names.orders_name ∙ reads.orders_read.known tells) (has.of_orders tells))
-      (λ tells. one_digest (r.log_of Trades trades.name.now) reads.trades made.digests.trades (ap (λ (n : List ℕ). r.log_of Trades n) names.trades_name ∙ reads.trades_read.known tells) (has.of_trades tells (no_bad made.verdict reads Orders)))
+  digested made reads are = reads_of_records r request.logs (On made.verdict) reads made.digests are
 
   module _ (table : q.table ≡ false) where
     -- the same question, without a table
@@ -104,14 +98,14 @@ module _ (r : Reading) (request : FilingRequest) (orders trades : Source) (names
     plain entries paired v is = subst (λ (t : Bool). IsRecordVerdict (question q.rule q.symbol t) entries paired v) table is
 
     -- `file`: a case, or a refusal
-    pub judges_symbol : request.command ≡ command.File q.rule q.symbol → (made : DigestedVerdict) (given : FilingOutcome) → ReadsVerdict r q orders trades made.verdict → HasDigestsOfLogs r.tells r.log_of orders trades made
-        → AreDigestsOfTaken r made.digests → IsJudgedVerdict made.digests request.label q made.verdict given → ReadsJudged r request given
-    judges_symbol asked made (judged.Cases cases) reads has taken is = ⊎_elim
+    pub judges_symbol : request.command ≡ command.File q.rule q.symbol → (made : DigestedVerdict) (given : FilingOutcome) → ReadsVerdict r q orders trades made.verdict → AreDigestsOfGiven r made.digests
+        → IsJudgedVerdict made.digests request.label q made.verdict given → ReadsJudged r request given
+    judges_symbol asked made (judged.Cases cases) reads are is = ⊎_elim
         (λ records. record {
           read = records.good;
           turn = record {
             given = logs_of_records r request.logs (On made.verdict) records made.digests;
-            reads = digested made records has taken;
+            reads = digested made records are;
             is = λ kept.
                 turn_of_records r request.logs (On made.verdict) records made.digests kept request refl (filed_turn kept cases.items)
                 (subst (λ (c : FilingCommand). IsTurnOfRecords made.digests kept request.label c (filed_turn kept cases.items) records.entries records.paired) (sym asked)
@@ -124,7 +118,7 @@ module _ (r : Reading) (request : FilingRequest) (orders trades : Source) (names
         })
         (λ place. absurd (is.1 place.log place.bad place.holds))
         (either made.verdict reads)
-    judges_symbol asked made (judged.Refused answer) reads has taken is = ⊎_elim
+    judges_symbol asked made (judged.Refused answer) reads are is = ⊎_elim
         (λ records. absurd (no_bad made.verdict records is.log is.bad is.is))
         (λ place. refuses r request made.verdict answer is place)
         (either made.verdict reads)
@@ -135,14 +129,14 @@ module _ (r : Reading) (request : FilingRequest) (orders trades : Source) (names
 
     -- `check`: a comparison, or a refusal
     pub compares_logs : request.command ≡ command.Check → (case : Case) → case.rule ≡ q.rule → case.symbol ≡ q.symbol → (filed : LogDigests) (made : DigestedVerdict) (answer : CaseAnswer) → ReadsVerdict r q orders trades made.verdict
-        → HasDigestsOfLogs r.tells r.log_of orders trades made → AreDigestsOfTaken r made.digests → IsComparedVerdict request.label case filed made.digests made.verdict answer
+        → AreDigestsOfGiven r made.digests → IsComparedVerdict request.label case filed made.digests made.verdict answer
         → TellsOfKept request (Some (record { case = case; digests = Some filed })) answer r
-    compares_logs asked case rule symbol filed made answer reads has taken (inl is) = ⊎_elim
+    compares_logs asked case rule symbol filed made answer reads are (inl is) = ⊎_elim
         (λ records. record {
           read = going answer.status is.tells.difference is.tells.status_is records.good;
           turn = record {
             given = logs_of_records r request.logs (On made.verdict) records made.digests;
-            reads = digested made records has taken;
+            reads = digested made records are;
             is = λ kept found.
                 subst (λ (s : CaseStatus). IsTurnOfLogs (logs_of_records r request.logs (On made.verdict) records made.digests) kept request (unfiled_turn kept s answer.text.items)) (sym is.tells.status_is)
                 (subst (λ (t : List ℕ). IsTurnOfLogs (logs_of_records r request.logs (On made.verdict) records made.digests) kept request (unfiled_turn kept (comparison_status is.tells.difference) t)) (sym is.tells.text_is)
@@ -166,7 +160,7 @@ module _ (r : Reading) (request : FilingRequest) (orders trades : Source) (names
         going : (s : CaseStatus) (d : Option CaseDifference) → s ≡ comparison_status d → ReadsGoodLogs r request.logs → ReadsLogsFor r request.logs s
         going s None e good = subst (ReadsLogsFor r request.logs) (sym e) good
         going s (Some what) e good = subst (ReadsLogsFor r request.logs) (sym e) good
-    compares_logs asked case rule symbol filed made answer reads has taken (inr is) = ⊎_elim
+    compares_logs asked case rule symbol filed made answer reads are (inr is) = ⊎_elim
         (λ records. absurd (no_bad made.verdict records is.log is.bad is.is))
         (λ place.
         let refusal = refuses r request made.verdict answer is place in

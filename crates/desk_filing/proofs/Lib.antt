@@ -10,6 +10,5 @@ mod TopLemmas
 mod DayCaseLemmas
 mod DayLemmas
 mod OneTurnLemmas
-mod DigestedLemmas
 mod SameTurnLemmas
 mod SameCallLemmas

@@ -12,12 +12,11 @@ use Rattle.case_run.specs.Turns.{halt_of_stop}
 use Rattle.desk_words.specs.declared.requests.NamedLogs.{NamedLogs}
 use Rattle.digest_keeper.specs.declared.digested.KeptCase.{KeptCase}
 use Rattle.desk_filing.specs.Causes.{IsLogInTurn, ReadsDigestedLog, ReadsDigestedLogs, ReadsLogAs, StopsAtLog, day_log_name}
-use Rattle.desk_filing.specs.DigestedVerdicts.{AreDigestsOfTaken}
+use Rattle.desk_filing.specs.DigestedVerdicts.{AreDigestsOfGiven}
 use Rattle.desk_filing.specs.Steps.{NamesLogs, ReadsBadPlace, ReadsRecords, StopsReading}
 use Rattle.desk_filing.specs.Turns.{DigestedLogs, FilingTurn, IsBadTurn, IsFilingTurn, IsTurnOfLogs, IsTurnOfRecords, digested_logs}
 use Rattle.desk_filing.specs.declared.requests.FilingRequest.{FilingRequest}
 use Rattle.log_digests.specs.Digests.{digest_of}
-use Rattle.log_digests.specs.DigestShelves.{IsDigestOfSome, IsDigestOfTaken}
 use Rattle.log_digests.specs.declared.digests.LogDigests.{LogDigests}
 use Rattle.log_verdict.specs.BothLogs.{IsStopOfTwoLogs, ReadsAfterOrders, ReadsLogs}
 use Rattle.log_verdict.specs.BothLogs as both
@@ -33,14 +32,9 @@ not_ok (Err other) bad e good = cc
 
 -- The digests of what was read.
 
--- a log with the digest that was taken of it
-pub digested_log : (r : Reading) (log : Which) (name bytes digest : List ℕ) → IsRead r (step_of r log name) bytes → IsDigestOfTaken (r.after log) digest → (r.tells ≡ true → digest ≡ digest_of bytes) → ReadsDigestedLog r log name bytes digest
-digested_log r log name bytes digest read taken known =
-    record { read = read; of_as_many = subst (λ (n : ℕ). ∥ IsDigestOfSome n digest ∥₁) (sym read.taken) (taken read.started); known = known }
-
 -- a log with its own digest
 own_digest : (r : Reading) (log : Which) (name bytes : List ℕ) → IsRead r (step_of r log name) bytes → ReadsDigestedLog r log name bytes (digest_of bytes)
-own_digest r log name bytes read = record { read = read; of_as_many = ∣ record { bytes = bytes; digest_is = refl; count_is = refl } ∣₁; known = λ tells. refl }
+own_digest r log name bytes read = record { read = read; digest_is = refl }
 
 module _ (r : Reading) (request : FilingRequest) (given : DigestedLogs) (kept : List KeptCase) (turn : FilingTurn) (tells : r.tells ≡ true) where
   -- the trade log was read where the order log says so
@@ -60,7 +54,7 @@ module _ (r : Reading) (request : FilingRequest) (given : DigestedLogs) (kept : 
 
   own_leaves : given.digests.orders ≡ digest_of given.orders → (said : Result (List OrderRecord) BadPlace) → AreTrades said → Leaves given.digests said → Leaves (digested_logs given.orders given.trades).digests said
   own_leaves first (Ok entries) read is =
-      let same : given.digests ≡ (digested_logs given.orders given.trades).digests = ap₂ {C = LogDigests} (λ a b. record { orders = a; trades = b }) first (read.known tells) in
+      let same : given.digests ≡ (digested_logs given.orders given.trades).digests = ap₂ {C = LogDigests} (λ a b. record { orders = a; trades = b }) first read.digest_is in
       subst (λ (d : LogDigests). Leaves d (Ok entries)) same is
   own_leaves first (Err bad) read is = is
 
@@ -71,7 +65,7 @@ module _ (r : Reading) (request : FilingRequest) (given : DigestedLogs) (kept : 
     trades = given.trades;
     has_orders = reads.orders.read.known tells;
     has_trades = λ ok. trades_known (records_of_order_log request.logs.orders_form given.orders) reads.trades ok;
-    is = own_leaves (reads.orders.known tells) (records_of_order_log request.logs.orders_form given.orders) reads.trades is;
+    is = own_leaves reads.orders.digest_is (records_of_order_log request.logs.orders_form given.orders) reads.trades is;
   }
 
 module _ (r : Reading) (logs : NamedLogs) (orders trades : Source) (names : NamesLogs logs orders trades) where
@@ -195,12 +189,15 @@ module _ (r : Reading) (logs : NamedLogs) (P : List OrderRecord → Result (List
   abbrev pub logs_of_records : DigestedLogs
   logs_of_records = record { orders = reads.orders; trades = reads.trades; digests = digests }
 
-  -- they were read so, where the digests were taken of them
-  pub reads_of_records : AreDigestsOfTaken r digests → (r.tells ≡ true → digests.orders ≡ digest_of reads.orders) → (r.tells ≡ true → digests.trades ≡ digest_of reads.trades) → ReadsDigestedLogs r logs logs_of_records
-  reads_of_records taken first second = record {
-    orders = digested_log r Orders logs.orders reads.orders digests.orders reads.orders_read (taken Orders) first;
-    trades = rw reads.orders_say (digested_log r Trades logs.trades reads.trades digests.trades reads.trades_read (taken Trades) second);
+  -- they were read so, where the digests are of what the slots gave
+  pub reads_of_records : AreDigestsOfGiven r digests → ReadsDigestedLogs r logs logs_of_records
+  reads_of_records are = record {
+    orders = record { read = reads.orders_read; digest_is = are Orders reads.orders reads.orders_read.given };
+    trades = rw reads.orders_say (with_trades reads.trades_read);
   }
+    where
+      with_trades : IsRead r (step_of r Trades logs.trades) reads.trades → ReadsDigestedLog r Trades logs.trades reads.trades digests.trades
+      with_trades read = record { read = read; digest_is = are Trades reads.trades read.given }
 
   -- what a command leaves of them
   pub turn_of_records : (kept : List KeptCase) (request : FilingRequest) → request.logs ≡ logs → (turn : FilingTurn) → IsTurnOfRecords digests kept request.label request.command turn reads.entries reads.paired → IsTurnOfLogs logs_of_records kept request turn

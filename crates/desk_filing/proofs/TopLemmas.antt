@@ -23,9 +23,9 @@ use Rattle.desk_filing.proofs.PassLemmas.{one_pass}
 use Rattle.desk_filing.proofs.ReadyLemmas.{files_request}
 use Rattle.log_digests.specs.DigestShelves.{name_of_log}
 use Rattle.log_source.specs.Sinks.{SinkState}
-use Rattle.log_source.specs.Sources.{Slot, longest_read}
+use Rattle.log_source.specs.Sources.{Slot, longest_read, with_account}
 use Rattle.log_source.specs.declared.shelf.Shelf.{Ghosts as Shelf}
-use Rattle.log_verdict.specs.Steps.{Reading, FaultsNeverFall}
+use Rattle.log_verdict.specs.Steps.{Reading, HoldsBySomeAccount, FaultsNeverFall, with_accounts}
 
 -- what was done with the limit of the sources is so with the limit of filing
 pub files_within : (r s : Reading) (a b : DigestOpenerState) (keeper : Option DigestKeeperState) (request : FilingRequest) (x y : SinkState) (answer : CaseStatus)
@@ -54,12 +54,21 @@ same_reading a b limit tells logs before after =
     ∙ ap (λ (s : Which → Slot). record a { limit = b.limit; tells = b.tells; log_of = b.log_of; before = s }) (fun_ext before)
     ∙ ap (λ (s : Which → Slot). record b { after = s }) (fun_ext after)
 
--- what was done over the shelf that takes digests is done over the shelf below
+-- a slot that is one below but for its account is so of the one below that
+pub accounted_below : (slot middle low : Slot) → slot ≡ with_account middle slot.gave → middle ≡ low → slot ≡ with_account low slot.gave
+accounted_below slot middle low is same = subst (λ (s : Slot). slot ≡ with_account s slot.gave) same is
+
+-- what was done over the shelf that takes digests is done over the shelf below, by its account
 pub files_below : (r s : Reading) (a b : DigestOpenerState) (keeper : Option DigestKeeperState) (request : FilingRequest) (x y : SinkState) (answer : CaseStatus)
-    → FilesRequest (filing_call r a b keeper) request x y answer → r.limit ≡ s.limit → r.tells ≡ s.tells → ((log : Which) (name : List ℕ) → r.log_of log name ≡ s.log_of log name) → ((log : Which) → r.before log ≡ s.before log) → ((log : Which) → r.after log ≡ s.after log)
-    → FilesRequest (filing_call s a b keeper) request x y answer
-files_below r s a b keeper request x y answer files limit tells logs before after =
-    subst (λ (q : Reading). FilesRequest (filing_call q a b keeper) request x y answer) (same_reading r s limit tells logs before after) files
+    → FilesRequest (filing_call r a b keeper) request x y answer → r.limit ≡ s.limit → r.tells ≡ s.tells → ((log : Which) (name : List ℕ) → r.log_of log name ≡ s.log_of log name)
+    → ((log : Which) → r.before log ≡ with_account (s.before log) (r.before log).gave) → ((log : Which) → r.after log ≡ with_account (s.after log) (r.after log).gave)
+    → HoldsBySomeAccount (λ q. FilesRequest (filing_call q a b keeper) request x y answer) s
+files_below r s a b keeper request x y answer files limit tells logs before after = record {
+  before = λ log. (r.before log).gave;
+  after = λ log. (r.after log).gave;
+  is = subst (λ (q : Reading). FilesRequest (filing_call q a b keeper) request x y answer)
+      (same_reading r (with_accounts s (λ log. (r.before log).gave) (λ log. (r.after log).gave)) limit tells logs before after) files;
+}
 
 -- the name of a log of a request
 pub named_log : (logs : NamedLogs) (orders trades : List ℕ) → orders ≡ logs.orders → trades ≡ logs.trades → (log : Which) → name_of_log orders trades log ≡ day_log_name logs log
@@ -68,15 +77,18 @@ named_log logs orders trades first second Trades = second
 
 -- memory ran out while well-formed words were read
 files_memory : {S : Type 0} (shelf : Shelf S) (old : S) (request : FilingRequest) (opener : DigestOpenerState) (sink : SinkState) → FilesAsked shelf old old (Some request) opener opener None sink sink status.Memory
-files_memory shelf old request opener sink =
-    files_request (filing_call (filing_reading shelf request.logs old old) opener opener None) refl request sink sink status.Memory
+files_memory shelf old request opener sink = record {
+  before = λ log. (shelf.slot old log).gave;
+  after = λ log. (shelf.slot old log).gave;
+  is = files_request (filing_call (filing_reading shelf request.logs old old) opener opener None) refl request sink sink status.Memory
     (record {
       decided = status.Memory;
       text = [];
       answers = inr (record { why = halt.Memory; read = one_pass request.command (λ pass. ReadsLogsUpTo pass request.logs halt.Memory) (filing_reading shelf request.logs old old) request.logs tt; by = λ e. cc; status_is = refl; text_is = refl });
       writes = inl (record { answer_is = refl; wrote = Appends-nil sink.wrote });
     })
-    (λ begins. inl begins) (λ log. omega arith)
+    (λ begins. inl begins) (λ log. omega arith);
+}
 
 -- the fault of a refusal
 pub same_fault : (made : Result FilingRequest WordsFault) (why other : WordsFault) → made ≡ Err why → made ≡ Err other → why ≡ other

@@ -12,7 +12,6 @@ use Rattle.desk_filing.specs.Turns.{DigestedLogs}
 use Rattle.desk_filing.specs.declared.requests.FilingCommand.{FilingCommand}
 use Rattle.desk_filing.specs.declared.requests.FilingCommand.TheVariants as command
 use Rattle.log_digests.specs.Digests.{digest_of}
-use Rattle.log_digests.specs.DigestShelves.{IsDigestOfSome}
 use Rattle.log_source.specs.Sources.{Slot}
 use Rattle.log_verdict.specs.LogVerdicts.{records_of_order_log, trades_of_trade_log}
 use Rattle.log_verdict.specs.Steps.{Reading, LogStep, FaultsNeverFall, IsRead, IsReadAs, IsReadFault, IsTooLong, IsUntouched, step_of}
@@ -91,13 +90,12 @@ HoldsOfPass (command.File the_rule symbol) holds r logs = holds r
 HoldsOfPass (command.FileAll the_rule) holds r logs = holds r
 HoldsOfPass command.Check holds r logs = holds r ⊎ HoldsOfSecond holds r logs
 
--- A log was started once and read to its end. These are its bytes, and the digest is that of as many;
--- where it is known what the shelf has, they are what that has under the name, and it is theirs.
+-- A log was started once and read to its end. These are its bytes, whether it is known what the
+-- shelf has or not, and the digest is theirs.
 pub record ReadsDigestedLog (r : Reading) (log : Which) (name bytes digest : List ℕ)
     : Type 0 where
   pub read : IsRead r (step_of r log name) bytes
-  pub of_as_many : ∥ IsDigestOfSome (length bytes) digest ∥₁
-  pub known : r.tells ≡ true → digest ≡ digest_of bytes
+  pub digest_is : digest ≡ digest_of bytes
 
 -- Two logs were gone over once, and gave these bytes and digests; a trade log is left alone where
 -- the order log is not in its grammar.

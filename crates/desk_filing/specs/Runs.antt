@@ -26,7 +26,7 @@ use Rattle.log_source.specs.Sinks.{SinkState}
 use Rattle.log_source.specs.Sources.{RoseOrIsFull, longest_read}
 use Rattle.log_source.specs.declared.shelf.Shelf.{Ghosts as Shelf}
 use Rattle.log_verdict.specs.LogVerdicts.{records_of_order_log}
-use Rattle.log_verdict.specs.Steps.{Reading, BeginsWithin, EndsWithin, FaultsNeverFall}
+use Rattle.log_verdict.specs.Steps.{Reading, HoldsBySomeAccount, BeginsWithin, EndsWithin, FaultsNeverFall}
 
 -- The states of a call.
 
@@ -248,12 +248,13 @@ pub record RefusesFilingWords {S : Type 0} (old new : S) (opener_old opener_new 
   pub opener_same : opener_new ≡ opener_old
   pub not_opened : keeper ≡ None
 
--- what a call says for its words: what well-formed words ask for is done, and others are refused
+-- what a call says for its words: what well-formed words ask for is done, by an account of the bytes
+-- that the shelf gave, and others are refused
 abbrev pub FilesAsked : {S : Type 0} → Shelf S → S → S → Option FilingRequest → DigestOpenerState
     → DigestOpenerState → Option DigestKeeperState → SinkState → SinkState → CaseStatus → Type 0
 FilesAsked shelf old new None opener_old opener_new keeper sink_old sink_new answer =
     RefusesFilingWords old new opener_old opener_new keeper sink_old sink_new answer
 FilesAsked shelf old new (Some request) opener_old opener_new keeper sink_old sink_new answer =
-    FilesRequest
-    (filing_call (filing_reading shelf request.logs old new) opener_old opener_new keeper)
-    request sink_old sink_new answer
+    HoldsBySomeAccount
+    (λ r. FilesRequest (filing_call r opener_old opener_new keeper) request sink_old sink_new
+    answer) (filing_reading shelf request.logs old new)

@@ -1,6 +1,6 @@
 //! The verdict on two logs, and the digests of the bytes that it is on.
 ghost use Rattle.std.specs.Prelude.{IfOk};
-ghost use Rattle.desk_filing.specs.DigestedVerdicts.{verdict_alone, AreDigestsOfTaken, HasDigestsOfLogs};
+ghost use Rattle.desk_filing.specs.DigestedVerdicts.{verdict_alone, AreDigestsOfGiven};
 ghost use Rattle.audit_report.specs.Texts.{IsVerdictInRange};
 ghost use Rattle.log_verdict.specs.BothLogs.{GivesVerdictOrStop, HaveOneLimit, StaysWithin};
 ghost use Rattle.log_verdict.specs.Steps.{reading_by, KeepsShelfLogs, FaultsNeverFall};
@@ -41,11 +41,8 @@ pub fn digested_verdict_on<'a, F: Shelf>(
         GivesVerdictOrStop (reading_by orders.now shelves shelf.old shelf.new)
         question.now orders.now trades.now (verdict_alone result) }
     ensures digests { let shelves = ⟦<DigestShelf<'a, F> as Shelf>⟧ in
-        IfOk result (λ made. HasDigestsOfLogs (shelves.tells shelf.old)
-        (shelves.log_of shelf.old) orders.now trades.now made) }
-    ensures taken { let shelves = ⟦<DigestShelf<'a, F> as Shelf>⟧ in
         let r = reading_by orders.now shelves shelf.old shelf.new in
-        IfOk result (λ made. AreDigestsOfTaken r made.digests) }
+        IfOk result (λ made. AreDigestsOfGiven r made.digests) }
     ensures within { let shelves = ⟦<DigestShelf<'a, F> as Shelf>⟧ in
         StaysWithin (reading_by orders.now shelves shelf.old shelf.new) result }
     ensures in_range { IfOk result (λ made. IsVerdictInRange made.verdict) }

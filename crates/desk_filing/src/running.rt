@@ -1,12 +1,11 @@
 //! The top call of filing: from the words of a command line to what is on file, the text that is
 //! written and the status.
-ghost use Rattle.std.specs.Prelude.{◌≡◌, ℕ, List, false, map};
+ghost use Rattle.std.specs.Prelude.{◌≡◌, ℕ, List, Some, map};
 ghost use Rattle.std.specs.Option.{option_map};
 ghost use Rattle.std.specs.String.{string_bytes};
-ghost use Rattle.audit_base.specs.declared.terms.Which.{Which};
 ghost use Rattle.desk_filing.specs.DigestOpeners.{KeepsDatabases};
 ghost use Rattle.desk_filing.specs.Laws.{OneFilingTurn};
-ghost use Rattle.desk_filing.specs.Runs.{FilesAsked, FilesRequest, filing_call, filing_reading};
+ghost use Rattle.desk_filing.specs.Runs.{FilesAsked, FilesRequest, filing_call};
 ghost use Rattle.desk_filing.specs.Steps.{RefusesWords};
 ghost use Rattle.desk_filing.specs.Words.{filing_request_of};
 ghost use Rattle.log_source.specs.Sinks.{SinkStays};
@@ -105,15 +104,13 @@ fn run_request<L: ShelfLogs, F: Shelf, K: Sink, O: DigestOpener>(
     out: &mut K,
     opener: &mut O,
 ) -> Ran<CaseStatus, HandedBack<F, O::Book>>
-    requires fresh { (which : Which) → (F.slot shelf which).started ≡ false }
     requires tells { F.tells shelf ≡ L.tells }
     requires logs { (which : Which) (name : List ℕ) →
         F.log_of shelf which name ≡ L.log_of which name }
     ensures logs { KeepsShelfLogs F.Shelf shelf result.back.shelf }
-    ensures files { let r = filing_reading F.Shelf request.now.logs shelf result.back.shelf in
-        FilesRequest (filing_call r (O.state opener.old) (O.state opener.new)
-        (option_map O.Book.state result.back.keeper)) request.now (K.state out.old)
-        (K.state out.new) result.status }
+    ensures files { FilesAsked F.Shelf shelf result.back.shelf (Some request.now)
+        (O.state opener.old) (O.state opener.new) (option_map O.Book.state result.back.keeper)
+        (K.state out.old) (K.state out.new) result.status }
     ensures opener { KeepsDatabases (O.state opener.old) (O.state opener.new) }
     ensures stays { SinkStays (K.state out.old) (K.state out.new) }
 {
@@ -140,8 +137,8 @@ fn run_request<L: ShelfLogs, F: Shelf, K: Sink, O: DigestOpener>(
 /// logs are read and judged before the database is opened, and it is opened only to check, or where
 /// they come to cases that are to be filed. Each log is started once, the trade log only after an
 /// order log in its grammar; `check` goes over them at most twice. The verdict that is filed or
-/// compared is of the bytes that were read last; so are the digests, where the logs of the shelf
-/// are known, and else each is that of as many bytes. The shelf has under every name what it had.
+/// compared is of the bytes that were read last, and so are the digests, whether the logs of the
+/// shelf are known or not. The shelf has under every name what it had.
 /// `ReadFault` comes only where a log could not be read, `TooLong` where one has more than
 /// 34,359,738,368 bytes, `Malformed` where one is not in its grammar, `KeeperFault` only where the database could not be opened or its keeper's faults rose,
 /// `WriteFault` only where the sink's did, and `Memory` where memory ran out. Only after `Done`,
@@ -158,7 +155,6 @@ pub fn run_filing<F: Shelf, K: Sink, O: DigestOpener>(
     out: &mut K,
     opener: &mut O,
 ) -> Ran<CaseStatus, HandedBack<F, O::Book>>
-    requires fresh { (which : Which) → (F.slot shelf which).started ≡ false }
     ensures files { FilesAsked F.Shelf shelf result.back.shelf
         (filing_request_of (map string_bytes words.now)) (O.state opener.old) (O.state opener.new)
         (option_map O.Book.state result.back.keeper) (K.state out.old) (K.state out.new)
@@ -180,7 +176,6 @@ pub fn run_filing_seeded<F: Shelf, K: Sink, O: DigestOpener>(
     out: &mut K,
     opener: &mut O,
 ) -> Ran<CaseStatus, HandedBack<F, O::Book>>
-    requires fresh { (which : Which) → (F.slot shelf which).started ≡ false }
     ensures files { FilesAsked F.Shelf shelf result.back.shelf
         (filing_request_of (map string_bytes words.now)) (O.state opener.old) (O.state opener.new)
         (option_map O.Book.state result.back.keeper) (K.state out.old) (K.state out.new)

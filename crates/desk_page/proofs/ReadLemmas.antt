@@ -13,7 +13,6 @@ use Rattle.command_run.specs.Deciding.{DecidesWithout, IsAnswerOfKind}
 use Rattle.command_run.specs.VerdictAnswers.{IsVerdictAnswer}
 use Rattle.command_run.proofs.UnreadLemmas.{gives_unread, stays_unread}
 use Rattle.log_digests.specs.Digests.{digest_of}
-use Rattle.log_digests.specs.DigestShelves.{IsDigestAtEnd}
 use Rattle.log_source.specs.declared.shelf.Shelf.{Ghosts as Shelf}
 use Rattle.log_verdict.specs.declared.sources.Source.{Source}
 use Rattle.log_verdict.specs.declared.stops.NoRecords.{NoRecords}
@@ -31,14 +30,13 @@ use Rattle.record_verdict.specs.BeforeRule.{IsBeforeRule}
 use Rattle.record_verdict.specs.Scopes.{scope_of}
 use Rattle.symbol_offences.specs.OffenceAnswers.{is_absent}
 
--- the digest of a log, by what is known of the shelf before
-of-log : (tells told : Bool) (known log : Option (List ℕ)) (digest : List ℕ) → told ≡ tells → log ≡ known → (told ≡ true → option_map digest_of log ≡ Some digest)
-    → tells ≡ true → option_map digest_of known ≡ Some digest
-of-log tells told known log digest is-told is-log has told-so = ap (option_map digest_of) (sym is-log) ∙ has (is-told ∙ told-so)
+-- the digest of a log whose bytes are known
+of-log : (log : Option (List ℕ)) (bytes digest : List ℕ) → log ≡ Some bytes → digest ≡ digest_of bytes → option_map digest_of log ≡ Some digest
+of-log log bytes digest is has = ap (option_map digest_of) is ∙ ap Some (sym has)
 
 module _ (is_picture : Pictures) (r : Reading) (request : PageRequest) (orders trades : Source) (digests : LogDigests) (given : BeforeRule) (answer : Answer) (digested : IsDigestedAnswer is_picture request digests given answer)
-    (tells : Bool) (log_of : Which → List ℕ → Option (List ℕ)) (is-told : tells ≡ r.tells) (logs : (log : Which) (name : List ℕ) → log_of log name ≡ r.log_of log name)
-    (first : IsDigestAtEnd tells (log_of Orders request.logs.orders) (r.after Orders) digests.orders) (second : IsDigestAtEnd tells (log_of Trades request.logs.trades) (r.after Trades) digests.trades) where
+    (nameless : (log : Which) (name other : List ℕ) → r.log_of log name ≡ r.log_of log other)
+    (first : (bytes : List ℕ) → (r.after Orders).gave bytes ≡ true → digests.orders ≡ digest_of bytes) (second : (bytes : List ℕ) → (r.after Trades).gave bytes ≡ true → digests.trades ≡ digest_of bytes) where
   abbrev of_records : List OrderRecord → Result (List TradeRecord) Finding → Type 0
   of_records entries paired = IsAnswerOfKind (IsAnswerToRecords is_picture (logs_in r) request entries paired) answer
 
@@ -67,8 +65,8 @@ module _ (is_picture : Pictures) (r : Reading) (request : PageRequest) (orders t
         bytes = holds.bytes;
         read = holds.read;
         holds = by-trades (record {
-          of_orders = of-log r.tells tells (r.log_of Orders request.logs.orders) (log_of Orders request.logs.orders) digests.orders is-told (logs Orders request.logs.orders) (λ t. first t is.read.started is.read.at_end);
-          of_trades = of-log r.tells tells (r.log_of Trades request.logs.trades) (log_of Trades request.logs.trades) digests.trades is-told (logs Trades request.logs.trades) (λ t. second t holds.read.started holds.read.at_end);
+          of_orders = λ t. of-log (r.log_of Orders request.logs.orders) is.bytes digests.orders (nameless Orders request.logs.orders orders.name.now ∙ is.read.known t) (first is.bytes is.read.given);
+          of_trades = λ t. of-log (r.log_of Trades request.logs.trades) holds.bytes digests.trades (nameless Trades request.logs.trades trades.name.now ∙ holds.read.known t) (second holds.bytes holds.read.given);
         }) entries (trades_of_trade_log trades.form holds.bytes) holds.holds;
       }
 

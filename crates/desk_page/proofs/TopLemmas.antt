@@ -15,12 +15,13 @@ use Rattle.log_source.specs.declared.shelf.Shelf.{Ghosts as Shelf}
 use Rattle.log_source.specs.Sinks.{SinkState}
 use Rattle.log_verdict.specs.declared.stops.Stop.{Stop}
 use Rattle.log_verdict.specs.BothLogs.{StaysWithin}
-use Rattle.log_verdict.specs.Steps.{FaultsNeverFall, Reading}
+use Rattle.log_source.specs.Sources.{with_account}
+use Rattle.log_verdict.specs.Steps.{FaultsNeverFall, HoldsBySomeAccount, Reading, with_accounts}
 use Rattle.desk_page.specs.declared.requests.PageRequest.{PageRequest}
 use Rattle.desk_page.specs.PageAnswers.{logs_in, Pictures}
 use Rattle.desk_page.specs.PageLogs.{ShelfLogs}
 use Rattle.desk_page.specs.Requests.{page_command}
-use Rattle.desk_page.specs.TopCall.{AnswersPage, AnswersPageWords, page_reading, RefusesOrLacksMemory}
+use Rattle.desk_page.specs.TopCall.{AnswersPage, AnswersPageRequest, AnswersPageWords, RefusesOrLacksMemory}
 
 -- what a call says, by what was decided of the command over a shelf of these logs
 pub answers-decided : (is_picture : Pictures) (shelf : ShelfLogs) (r : Reading) (request : PageRequest) (old new : SinkState) (s : Status) (decided : Result Answer Stop) → shelf ≡ logs_in r
@@ -54,20 +55,35 @@ same-reading a b limit tells logs before after i = record {
   after = λ log. after log i;
 }
 
--- what was answered over the shelf that takes digests is answered over the shelf below
+-- what was answered over the shelf that takes digests is answered over the shelf below, by its account
 pub answers-below : (is_picture : Pictures) (r s : Reading) (request : PageRequest) (old new : SinkState) (answer : Status) → AnswersPage is_picture r request old new answer
+    → r.limit ≡ s.limit → r.tells ≡ s.tells → ((log : Which) (name : List ℕ) → r.log_of log name ≡ s.log_of log name)
+    → ((log : Which) → r.before log ≡ with_account (s.before log) (r.before log).gave) → ((log : Which) → r.after log ≡ with_account (s.after log) (r.after log).gave)
+    → HoldsBySomeAccount (λ q. AnswersPage is_picture q request old new answer) s
+answers-below is_picture r s request old new answer is limit tells logs before after = record {
+  before = λ log. (r.before log).gave;
+  after = λ log. (r.after log).gave;
+  is = subst (λ (q : Reading). AnswersPage is_picture q request old new answer) (same-reading r (with_accounts s (λ log. (r.before log).gave) (λ log. (r.after log).gave)) limit tells logs before after) is;
+}
+
+-- what was answered over a shelf is answered over one that is the same to contracts
+pub answers-same : (is_picture : Pictures) (r s : Reading) (request : PageRequest) (old new : SinkState) (answer : Status) → HoldsBySomeAccount (λ q. AnswersPage is_picture q request old new answer) r
     → r.limit ≡ s.limit → r.tells ≡ s.tells → ((log : Which) (name : List ℕ) → r.log_of log name ≡ s.log_of log name) → ((log : Which) → r.before log ≡ s.before log) → ((log : Which) → r.after log ≡ s.after log)
-    → AnswersPage is_picture s request old new answer
-answers-below is_picture r s request old new answer is limit tells logs before after =
-    subst (λ (q : Reading). AnswersPage is_picture q request old new answer) (same-reading r s limit tells logs before after) is
+    → HoldsBySomeAccount (λ q. AnswersPage is_picture q request old new answer) s
+answers-same is_picture r s request old new answer is limit tells logs before after =
+    subst (λ (q : Reading). HoldsBySomeAccount (λ p. AnswersPage is_picture p request old new answer) q) (same-reading r s limit tells logs before after) is
 
 -- memory ran out while well-formed words were read
-memory-answered : {S : Type 0} (is_picture : Pictures) (shelf : Shelf S) (old : S) (request : PageRequest) (sink : SinkState) → AnswersPage is_picture (page_reading shelf request.logs old old) request sink sink status.Memory
+memory-answered : {S : Type 0} (is_picture : Pictures) (shelf : Shelf S) (old : S) (request : PageRequest) (sink : SinkState) → AnswersPageRequest is_picture shelf request old old sink sink status.Memory
 memory-answered is_picture shelf old request sink = record {
-  held = λ logs there. inr (record { status_is = refl; nothing = refl });
-  causes = refl;
-  too_long = λ begins. inl begins;
-  later = λ log. omega arith;
+  before = λ log. (shelf.slot old log).gave;
+  after = λ log. (shelf.slot old log).gave;
+  is = record {
+    held = λ logs there. inr (record { status_is = refl; nothing = refl });
+    causes = refl;
+    too_long = λ begins. inl begins;
+    later = λ log. omega arith;
+  };
 }
 
 -- the fault of a refusal

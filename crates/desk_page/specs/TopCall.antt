@@ -10,7 +10,7 @@ use Rattle.log_digests.specs.DigestShelves.{name_of_log}
 use Rattle.log_source.specs.declared.shelf.Shelf.{Ghosts as Shelf}
 use Rattle.log_source.specs.Sinks.{SinkState}
 use Rattle.log_source.specs.Sources.{longest_read}
-use Rattle.log_verdict.specs.Steps.{FaultsNeverFall, Reading}
+use Rattle.log_verdict.specs.Steps.{FaultsNeverFall, HoldsBySomeAccount, Reading}
 use Rattle.desk_page.specs.declared.requests.PageRequest.{PageRequest}
 use Rattle.desk_page.specs.PageAnswers.{logs_in, Pictures}
 use Rattle.desk_page.specs.Requests.{page_command}
@@ -44,6 +44,13 @@ pub record AnswersPage (is_picture : Pictures) (r : Reading) (request : PageRequ
   pub too_long : AnswersTooLong r status
   pub later : FaultsNeverFall r
 
+-- the same of what a request asks for, by an account of the bytes that the shelf gave
+abbrev pub AnswersPageRequest : {S : Type 0} → Pictures → Shelf S → PageRequest → S → S
+    → SinkState → SinkState → Status → Type 0
+AnswersPageRequest is_picture shelf request old new sink_old sink_new status =
+    HoldsBySomeAccount (λ r. AnswersPage is_picture r request sink_old sink_new status)
+    (page_reading shelf request.logs old new)
+
 -- The words are not well-formed: the usage line was written, unless the sink failed, and nothing
 -- was done to the shelf.
 pub record RefusesPageWords {S : Type 0} (old new : S) (sink_old sink_new : SinkState)
@@ -57,8 +64,7 @@ abbrev pub AnswersPageWords : {S : Type 0} → Pictures → Shelf S → Option P
 AnswersPageWords is_picture shelf None old new sink_old sink_new status =
     RefusesPageWords old new sink_old sink_new status
 AnswersPageWords is_picture shelf (Some request) old new sink_old sink_new status =
-    AnswersPage is_picture (page_reading shelf request.logs old new) request sink_old sink_new
-    status
+    AnswersPageRequest is_picture shelf request old new sink_old sink_new status
 
 -- words that ask for nothing: the usage line was written, unless the sink failed; where memory ran
 -- out nothing was written

@@ -1,6 +1,6 @@
 //! The top call of `page`: from the words of a command line to the page that is written and the
 //! status.
-ghost use Rattle.std.specs.Prelude.{◌≡◌, ℕ, List, false, map};
+ghost use Rattle.std.specs.Prelude.{◌≡◌, ℕ, List, map};
 ghost use Rattle.std.specs.String.{string_bytes};
 ghost use Rattle.audit_base.specs.declared.terms.Which.{Which};
 ghost use Rattle.command_run.specs.Deciding.{DecidesAnswer};
@@ -10,7 +10,7 @@ ghost use Rattle.log_verdict.specs.BothLogs.{StaysWithin};
 ghost use Rattle.log_verdict.specs.Steps.{reading_within, FaultsNeverFall, KeepsShelfLogs};
 ghost use Rattle.desk_page.specs.PageAnswers.{logs_in};
 ghost use Rattle.desk_page.specs.Requests.{page_command};
-ghost use Rattle.desk_page.specs.TopCall.{AnswersPage, AnswersPageWords, page_reading, RefusesOrLacksMemory};
+ghost use Rattle.desk_page.specs.TopCall.{AnswersPage, AnswersPageRequest, AnswersPageWords, page_reading, RefusesOrLacksMemory};
 ghost use Rattle.desk_page.specs.Words.{page_request_of};
 
 use crate::answers::page_on;
@@ -88,11 +88,9 @@ fn run_known<D: Drawing, W: KnownLogs, F: Shelf, K: Sink>(
     shelf: F,
     out: &mut K,
 ) -> Ran<Status, F>
-    requires fresh { (which : Which) → (F.slot shelf which).started ≡ false }
     requires known { W.shelf ≡ logs_in (page_reading F.Shelf request.now.logs shelf shelf) }
-    ensures answers { AnswersPage D.is_picture
-        (page_reading F.Shelf request.now.logs shelf result.back)
-        request.now (K.state out.old) (K.state out.new) result.status }
+    ensures answers { AnswersPageRequest D.is_picture F.Shelf request.now shelf result.back
+        (K.state out.old) (K.state out.new) result.status }
     ensures stays { SinkStays (K.state out.old) (K.state out.new) }
 {
     let (orders, trades) = (request.logs.orders.as_str(), request.logs.trades.as_str());
@@ -113,10 +111,8 @@ fn run_named<D: Drawing, F: Shelf, K: Sink>(
     shelf: F,
     out: &mut K,
 ) -> Ran<Status, F>
-    requires { (which : Which) → (F.slot shelf which).started ≡ false }
-    ensures answers { AnswersPage D.is_picture
-        (page_reading F.Shelf request.now.logs shelf result.back)
-        request.now (K.state out.old) (K.state out.new) result.status }
+    ensures answers { AnswersPageRequest D.is_picture F.Shelf request.now shelf result.back
+        (K.state out.old) (K.state out.new) result.status }
     ensures stays { SinkStays (K.state out.old) (K.state out.new) }
 {
     run_known::<D, Brand, F, K>(alloc, seed, request, shelf, out)
@@ -130,13 +126,11 @@ fn run_same<D: Drawing, L: ShelfLogs, F: Shelf, K: Sink>(
     shelf: F,
     out: &mut K,
 ) -> Ran<Status, F>
-    requires fresh { (which : Which) → (F.slot shelf which).started ≡ false }
     requires tells { F.tells shelf ≡ L.tells }
     requires logs { (which : Which) (name : List ℕ) →
         F.log_of shelf which name ≡ L.log_of which name }
-    ensures answers { AnswersPage D.is_picture
-        (page_reading F.Shelf request.now.logs shelf result.back)
-        request.now (K.state out.old) (K.state out.new) result.status }
+    ensures answers { AnswersPageRequest D.is_picture F.Shelf request.now shelf result.back
+        (K.state out.old) (K.state out.new) result.status }
     ensures stays { SinkStays (K.state out.old) (K.state out.new) }
     ensures logs { KeepsShelfLogs F.Shelf shelf result.back }
 {
@@ -157,10 +151,8 @@ fn run_request<D: Drawing, F: Shelf, K: Sink>(
     shelf: F,
     out: &mut K,
 ) -> Ran<Status, F>
-    requires { (which : Which) → (F.slot shelf which).started ≡ false }
-    ensures answers { AnswersPage D.is_picture
-        (page_reading F.Shelf request.now.logs shelf result.back)
-        request.now (K.state out.old) (K.state out.new) result.status }
+    ensures answers { AnswersPageRequest D.is_picture F.Shelf request.now shelf result.back
+        (K.state out.old) (K.state out.new) result.status }
     ensures stays { SinkStays (K.state out.old) (K.state out.new) }
     ensures logs { KeepsShelfLogs F.Shelf shelf result.back }
 {
@@ -201,7 +193,6 @@ pub fn run_page<D: Drawing, F: Shelf, K: Sink>(
     shelf: F,
     out: &mut K,
 ) -> Ran<Status, F>
-    requires fresh { (which : Which) → (F.slot shelf which).started ≡ false }
     ensures answers { AnswersPageWords D.is_picture F.Shelf
         (page_request_of (map string_bytes words.now)) shelf result.back
         (K.state out.old) (K.state out.new) result.status }
@@ -219,7 +210,6 @@ pub fn run_page_seeded<D: Drawing, F: Shelf, K: Sink>(
     shelf: F,
     out: &mut K,
 ) -> Ran<Status, F>
-    requires fresh { (which : Which) → (F.slot shelf which).started ≡ false }
     ensures answers { AnswersPageWords D.is_picture F.Shelf
         (page_request_of (map string_bytes words.now)) shelf result.back
         (K.state out.old) (K.state out.new) result.status }

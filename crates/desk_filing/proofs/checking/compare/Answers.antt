@@ -9,7 +9,7 @@ use Rattle.desk_filing.proofs.checking.compare.Goals as goal
 pub returns-in_ok-compared-in-Ok-clause-compares : goal.returns-in_ok-compared-in-Ok-clause-compares
 returns-in_ok-compared-in-Ok-clause-compares g c =
     compares_logs _ c.args.request.now c.args.orders.now c.args.trades.now c.requires.names (record { rule = c.args.filed.now.case.rule; symbol = c.args.filed.now.case.symbol; table = false }) refl
-    c.requires.asked c.args.filed.now.case refl refl c.args.filed.now.digests c.in-Ok.made _ c.in-Ok.ensures.decides c.in-Ok.ensures.digests c.in-Ok.ensures.taken c.in_ok-compared-in-Ok.ensures
+    c.requires.asked c.args.filed.now.case refl refl c.args.filed.now.digests c.in-Ok.made _ c.in-Ok.ensures.decides c.in-Ok.ensures.digests c.in_ok-compared-in-Ok.ensures
 
 pub returns-in-Err-clause-compares : goal.returns-in-Err-clause-compares
 returns-in-Err-clause-compares g c =

@@ -1,11 +1,10 @@
-use Rattle.desk_filing.proofs.DayLemmas.{ends_without_at, judges_given, judges_without, takes_digests}
+use Rattle.desk_filing.proofs.DayLemmas.{ends_without_at, judges_given, judges_without, digests_of_both}
 use Rattle.desk_filing.proofs.days.judge_day.Goals as goal
 
 pub returns-in_ok-judged_logs-in-Ok-clause-judges : goal.returns-in_ok-judged_logs-in-Ok-clause-judges
 returns-in_ok-judged_logs-in-Ok-clause-judges g c =
     judges_given _ c.args.request.now c.args.orders.now c.args.trades.now c.requires.names c.args.rule c.requires.asked c.in-Ok.given _
-    (takes_digests _ c.args.request.now.logs _ _ _ c.read_day.ensures.logs.tells c.read_day.ensures.logs.logs (c.digest.ensures.at_end c.args.request.now.logs.orders) (c.digest-in-Ok.ensures.at_end c.args.request.now.logs.trades)
-    c.digest.ensures.taken c.digest-in-Ok.ensures.taken)
+    (digests_of_both _ _ c.digest.ensures c.digest-in-Ok.ensures)
     _ c.in_ok-judged_logs-in-Ok.ensures (rw (c.whole.ensures, c.of.ensures) at c.in-Ok.ensures.decides)
 
 pub returns-in-Err-clause-judges : goal.returns-in-Err-clause-judges

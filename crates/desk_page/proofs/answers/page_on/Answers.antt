@@ -1,12 +1,12 @@
 -- Both logs were read to their ends by what gives the page.
+use Rattle.std.proofs.Common.{refl}
 use Rattle.desk_page.proofs.ReadLemmas.{gives-unread, reads-page, stays-unread}
 use Rattle.desk_page.proofs.answers.page_on.Goals as goal
 
 pub returns-in_ok-answer_digested-in-Ok-clause-decides : goal.returns-in_ok-answer_digested-in-Ok-clause-decides
 returns-in_ok-answer_digested-in-Ok-clause-decides g c =
     let read = rw (c.scope.ensures, c.question_of.ensures) at c.in-Ok.ensures.decides in
-    reads-page g.D.Drawing.is_picture _ c.args.request.now c.args.orders.now c.args.trades.now _ _ _ c.in_ok-answer_digested-in-Ok.ensures _ _ c.in-Ok.ensures.logs.tells c.in-Ok.ensures.logs.logs
-    (c.digest.ensures.at_end c.args.request.now.logs.orders) (c.digest-in-Ok.ensures.at_end c.args.request.now.logs.trades) read
+    reads-page g.D.Drawing.is_picture _ c.args.request.now c.args.orders.now c.args.trades.now _ _ _ c.in_ok-answer_digested-in-Ok.ensures (λ log name other. refl) c.digest.ensures c.digest-in-Ok.ensures read
 
 pub returns-in-Err-clause-decides : goal.returns-in-Err-clause-decides
 returns-in-Err-clause-decides g c =
