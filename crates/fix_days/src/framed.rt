@@ -124,6 +124,3 @@ impl<B: Bodies> Feed for FramedFeed<B> {
         self.messages.feed(piece)
     }
 }
-
-#[cfg(test)]
-mod tests;

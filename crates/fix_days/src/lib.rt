@@ -14,8 +14,6 @@ mod beginnings;
 pub mod bodies;
 pub mod faults;
 pub mod framed;
-#[cfg(test)]
-mod joined;
 pub mod laws;
 pub mod lines;
 mod looking;

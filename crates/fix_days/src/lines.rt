@@ -270,6 +270,3 @@ impl<B: Bodies, S: SohText> Feed for LineFeed<B, S> {
         self.take_messages(false)
     }
 }
-
-#[cfg(test)]
-mod tests;

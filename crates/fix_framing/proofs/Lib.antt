@@ -7,7 +7,6 @@ pub mod HeaderTestLemmas
 pub mod LengthLemmas
 pub mod MessageLemmas
 pub mod PrefixLemmas
-pub mod RoomLemmas
 pub mod StayLemmas
 pub mod TestLemmas
 pub mod TrailerLemmas

@@ -146,6 +146,3 @@ impl<H: Headers> Framer<H> {
         &self.bytes
     }
 }
-
-#[cfg(test)]
-mod tests;

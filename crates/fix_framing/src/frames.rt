@@ -230,6 +230,3 @@ pub fn frame_at<H: Headers>(bytes: &[u8], at: usize) -> Result<Frame, FrameFault
         end: at + places.trailer + TRAILER,
     })
 }
-
-#[cfg(test)]
-mod tests;

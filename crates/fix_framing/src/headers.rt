@@ -106,6 +106,3 @@ impl Headers for AnyVersion {
         size_among(&HEADERS, text)
     }
 }
-
-#[cfg(test)]
-mod tests;

@@ -12,6 +12,4 @@ pub mod framer;
 pub mod frames;
 pub mod headers;
 pub mod laws;
-#[cfg(test)]
-mod vectors;
 pub mod writing;

@@ -71,6 +71,3 @@ pub fn write_frame(alloc: Global, body: &[u8], out: &mut Vec<u8>) -> Result<(), 
         }
     }
 }
-
-#[cfg(test)]
-mod tests;

@@ -9,6 +9,4 @@
 pub mod escapes;
 pub mod laws;
 pub mod markup;
-#[cfg(test)]
-mod markup_rows;
 pub mod words;

@@ -6,6 +6,8 @@ mod checks;
 #[cfg(test)]
 mod days;
 #[cfg(test)]
+mod markup;
+#[cfg(test)]
 mod names;
 #[cfg(test)]
 mod verdicts;

@@ -1,10 +1,11 @@
-use super::*;
-use crate::frames::{Frame, frame_at};
-use crate::vectors::HEARTBEATS;
-use std::process::Abort;
+//! The versions that a message may have.
+use crate::framing::checks::assert_prefixes_truncated;
+use crate::framing::vectors::HEARTBEATS;
+use fix_framing::frames::{Frame, FrameFault, frame_at};
+use fix_framing::headers::{AnyVersion, Fix44};
 
 #[test]
-fn a_message_of_each_version_is_found(rt: HostRuntime) {
+fn a_message_of_each_version_is_found_and_no_prefix_of_it(rt: HostRuntime) {
     for &(text, body) in &HEARTBEATS {
         let end = text.len();
         let want = Frame {
@@ -13,21 +14,7 @@ fn a_message_of_each_version_is_found(rt: HostRuntime) {
             end,
         };
         assert_eq!(rt; frame_at::<AnyVersion>(text, 0), Ok(want), "{end}");
-    }
-}
-
-/// Each proper prefix of the message is truncated.
-fn assert_prefixes_truncated(rt: &impl Abort, message: &[u8]) {
-    for size in 0..message.len() {
-        let front = &message[..size];
-        assert!(rt; frame_at::<AnyVersion>(front, 0) == Err(FrameFault::Truncated));
-    }
-}
-
-#[test]
-fn each_proper_prefix_of_each_version_is_truncated(rt: HostRuntime) {
-    for &(text, _) in &HEARTBEATS {
-        assert_prefixes_truncated(&rt, text);
+        assert_prefixes_truncated::<AnyVersion>(&rt, text);
     }
 }
 
@@ -54,7 +41,7 @@ fn no_message_begins_with_another_version(rt: HostRuntime) {
 fn fix_44_alone_has_one_version(rt: HostRuntime) {
     for &(text, body) in &HEARTBEATS {
         let found = frame_at::<Fix44>(text, 0);
-        let is_44 = text.starts_with(HEADER);
+        let is_44 = text.starts_with(b"8=FIX.4.4\x019=");
         assert_eq!(rt; found.is_ok(), is_44, "{body}");
         assert_eq!(rt; found == Err(FrameFault::Begin), !is_44, "{body}");
     }

@@ -1,7 +1,8 @@
-use super::*;
-use crate::headers::Fix44;
-use crate::vectors::{H, M1, M2, M3, M4, P, Q, R1, R2};
-use std::process::Abort;
+//! Frames of FIX 4.4, and the first test that a broken one fails.
+use crate::framing::checks::assert_prefixes_truncated;
+use crate::framing::vectors::{H, M1, M2, M3, M4, P, Q, R1, R2, TWO_ORDERS};
+use fix_framing::frames::{Frame, FrameFault, frame_at};
+use fix_framing::headers::Fix44;
 
 /// The texts of the four damaged logs: M1 with another sum, with a shorter and with a longer
 /// length, and M1 and M2 without the last byte of M2.
@@ -35,7 +36,7 @@ const WHOLE: [(&[u8], usize); 12] = [
 ];
 
 #[test]
-fn messages_are_found_whole(rt: HostRuntime) {
+fn messages_are_found_whole_and_after_others(rt: HostRuntime) {
     for &(text, body) in &WHOLE {
         let end = text.len();
         let want = Frame {
@@ -45,6 +46,12 @@ fn messages_are_found_whole(rt: HostRuntime) {
         };
         assert_eq!(rt; frame_at::<Fix44>(text, 0), Ok(want), "{body} {end}");
     }
+    let second = Frame {
+        start: 86,
+        body: 101,
+        end: 171,
+    };
+    assert_eq!(rt; frame_at::<Fix44>(TWO_ORDERS, 86), Ok(second));
 }
 
 /// Bytes, a place in them, and the first test that fails from there on.
@@ -115,29 +122,9 @@ fn damaged_messages_give_the_first_failing_test(rt: HostRuntime) {
     }
 }
 
-/// Each proper prefix of the message is truncated.
-fn assert_prefixes_truncated(rt: &impl Abort, message: &[u8]) {
-    for size in 0..message.len() {
-        assert!(rt; frame_at::<Fix44>(&message[..size], 0) == Err(FrameFault::Truncated));
-    }
-}
-
 #[test]
 fn each_proper_prefix_of_a_message_is_truncated(rt: HostRuntime) {
-    assert_prefixes_truncated(&rt, H);
-    assert_prefixes_truncated(&rt, M1);
-    assert_prefixes_truncated(&rt, P);
-}
-
-#[test]
-fn a_message_is_found_after_others(rt: HostRuntime) {
-    let want = Frame {
-        start: 86,
-        body: 101,
-        end: 171,
-    };
-    let mut log = [0u8; 171];
-    log[..86].copy_from_slice(M1);
-    log[86..].copy_from_slice(M2);
-    assert_eq!(rt; frame_at::<Fix44>(&log, 86), Ok(want));
+    assert_prefixes_truncated::<Fix44>(&rt, H);
+    assert_prefixes_truncated::<Fix44>(&rt, M1);
+    assert_prefixes_truncated::<Fix44>(&rt, P);
 }

@@ -1,21 +1,23 @@
+//! Logs that come in pieces.
 ghost use Rattle.std.specs.Prelude.{ℕ, ◌<◌, ◌≤◌, List, length};
 ghost use Rattle.fix_framing.specs.Framing.{FramerHasRoom};
 
-use super::*;
-use crate::headers::{AnyVersion, Fix44};
-use crate::vectors::{DAY, M2, MIXED_DAY};
+use crate::framing::vectors::{DAY, MIXED_DAY, TWO_ORDERS};
+use fix_framing::framer::{Framer, Step};
+use fix_framing::headers::{AnyVersion, Fix44, Headers};
 use std::process::Abort;
+use std::test::Fail;
 
-/// A log of four messages: where each begins, and from where to where its body runs.
+/// A log and its messages: where each begins, and from where to where its body runs.
 struct Log<'a> {
     text: &'a [u8],
-    messages: [(u64, usize, usize); 4],
+    messages: &'a [(u64, usize, usize)],
 }
 
 /// The day of FIX 4.4.
 const ONE_VERSION: Log<'static> = Log {
     text: DAY,
-    messages: [
+    messages: &[
         (0, 16, 158),
         (167, 181, 186),
         (195, 210, 279),
@@ -26,7 +28,7 @@ const ONE_VERSION: Log<'static> = Log {
 /// The day whose messages differ in version.
 const MIXED: Log<'static> = Log {
     text: MIXED_DAY,
-    messages: [(0, 14, 19), (28, 44, 58), (67, 81, 86), (95, 110, 115)],
+    messages: &[(0, 14, 19), (28, 44, 58), (67, 81, 86), (95, 110, 115)],
 };
 
 /// Takes all messages that are whole, each one the next of the log, after `given` of them.
@@ -43,7 +45,7 @@ fn take_messages<H: Headers>(
     'messages: loop {
         match framer.next_frame() {
             Step::Whole { start, body, to } => {
-                assert!(rt; given < 4);
+                assert!(rt; given < log.messages.len());
                 let (offset, from, end) = log.messages[given];
                 assert_eq!(rt; start, offset);
                 assert!(rt; log.text.get(from..end) == framer.held().get(body..to));
@@ -83,29 +85,25 @@ fn a_day_is_framed_in_pieces_of_every_size(rt: HostRuntime) {
     for size in 1..=DAY.len() {
         assert_eq!(rt; feed_in_pieces::<Fix44>(&rt, &ONE_VERSION, size), 4);
     }
-}
-
-#[test]
-fn a_day_of_several_versions_is_framed(rt: HostRuntime) {
     for size in 1..=MIXED_DAY.len() {
         assert_eq!(rt; feed_in_pieces::<AnyVersion>(&rt, &MIXED, size), 4);
     }
 }
 
-/// A Framer that has dropped the 86 bytes before `M2` and holds its first five.
+/// Two orders, of which the second begins at byte 86.
+const ORDERS: Log<'static> = Log {
+    text: TWO_ORDERS,
+    messages: &[(0, 15, 79), (86, 101, 164)],
+};
+
+// After the first piece the 86 bytes are dropped, and five of the second order are held.
 #[test]
-fn a_framer_is_its_fields(rt: HostRuntime) {
-    let Ok(bytes) = Vec::from_slice(rt.alloc(), b"8=FIX") else {
-        assert!(rt; false, "memory");
-        return;
-    };
-    let mut framer = Framer::<Fix44> {
-        bytes,
-        base: 86,
-        next: 0,
-        headers: PhantomData,
-    };
-    assert_eq!(rt; framer.feed(&M2[5..]), Ok(()));
+fn a_framer_goes_on_within_a_message(rt: HostRuntime) -> Result<(), Fail> {
+    let mut framer = Framer::<Fix44>::new(rt.alloc());
+    framer.feed(&TWO_ORDERS[..91])?;
+    assert_eq!(rt; take_messages(&rt, &mut framer, &ORDERS, 0), 1);
+    assert!(rt; framer.held() == b"8=FIX".as_slice());
+    framer.feed(&TWO_ORDERS[91..])?;
     assert_eq!(rt;
         framer.next_frame(),
         Step::Whole {
@@ -114,4 +112,5 @@ fn a_framer_is_its_fields(rt: HostRuntime) {
             to: 78
         }
     );
+    Ok(())
 }

@@ -1,6 +1,6 @@
 //! A small page, as it is written.
-use crate::markup::{Attribute, Markup};
-use crate::words::{AttributeName, Tag};
+use page_markup::markup::{Attribute, Markup};
+use page_markup::words::{AttributeName, Tag};
 use std::test::Fail;
 
 /// What a page with a hostile name in it looks like.

@@ -1,7 +1,7 @@
 use Rattle.std.proofs.Common.{◌+◌, ◌-◌, ◌++◌, take, drop, sym, ap, ◌∙◌, ◌≡◌, arith}
 use Rattle.std.proofs.lemmas.List.{take-append-drop, drop-drop}
-use Rattle.fix_framing.proofs.RoomLemmas.{room-fed}
-use Rattle.fix_framing.proofs.framer.tests.feed_in_pieces.Goals as goal
+use Rattle.log_tests.proofs.RoomLemmas.{room-fed}
+use Rattle.log_tests.proofs.framing.framer.feed_in_pieces.Goals as goal
 
 pub pieces-preserved : goal.pieces-preserved
 pieces-preserved g c =

@@ -1,6 +1,6 @@
 use Rattle.std.proofs.Common.{◌-◌, length, drop}
 use Rattle.fix_framing.specs.Framing.{FramerHasRoom}
-use Rattle.fix_framing.proofs.framer.tests.feed_in_pieces.Given as goal
+use Rattle.log_tests.proofs.framing.framer.feed_in_pieces.Given as goal
 
 abbrev pub invariant-pieces : goal.invariant-pieces
 invariant-pieces g l = FramerHasRoom g.H.Headers.headers l.framer (drop l.from l.text)

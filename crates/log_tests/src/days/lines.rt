@@ -1,12 +1,19 @@
+//! Days whose messages stand on lines, in a dress in which a text may stand for SOH.
 ghost use Rattle.std.specs.Prelude.{◌≡◌, ◌≤◌, IsTrue};
 ghost use Rattle.fix_days.specs.Lines.{is_soh_text};
 
-use super::*;
-use crate::joined::Joined;
+use crate::days::joined::{Joined, is_read};
+use audit_base::faults::NoMemory;
 use audit_base::terms::Which;
+use fix_days::faults::BadMessage;
+use fix_days::lines::{LineFeed, SohText, is_soh_text};
+use fix_days::read_day::ReadDay;
+use fix_framing::frames::FrameFault;
 use log_source::limits::LONGEST_READ;
 use log_source::memory_shelf::MemoryShelf;
 use log_source::pump::pump;
+use std::alloc::Global;
+use std::marker::Brand;
 use std::process::Abort;
 
 /// What may stand for SOH.
@@ -156,11 +163,6 @@ fn read_in_pieces(
     requires piece { 1 ≤ piece }
 {
     read_dressed::<Brand>(alloc, soh, day, piece)
-}
-
-/// Whether the day was read as these bodies and this first bad message.
-fn is_read(read: &Result<ReadDay<Joined>, NoMemory>, text: &[u8], bad: Option<BadMessage>) -> bool {
-    matches!(read, Ok(day) if day.bodies.text.as_slice() == text && day.bad == bad)
 }
 
 #[test]

@@ -1,16 +1,18 @@
 //! The taker of bodies that the tests use.
-use crate::bodies::Bodies;
 use audit_base::faults::NoMemory;
+use fix_days::bodies::Bodies;
+use fix_days::faults::BadMessage;
+use fix_days::read_day::ReadDay;
 use std::alloc::Global;
 
 /// The bodies, each with `;` after it.
 #[derive(Drop)]
-pub struct Joined {
-    pub text: Vec<u8>,
+pub(crate) struct Joined {
+    pub(crate) text: Vec<u8>,
 }
 
 impl Joined {
-    pub fn new(alloc: Global) -> Self {
+    pub(crate) fn new(alloc: Global) -> Self {
         Joined {
             text: Vec::new(alloc),
         }
@@ -27,4 +29,13 @@ impl Bodies for Joined {
         self.text.push(b';')?;
         Ok(())
     }
+}
+
+/// Whether a day was read as these bodies and this first bad message.
+pub(crate) fn is_read(
+    read: &Result<ReadDay<Joined>, NoMemory>,
+    text: &[u8],
+    bad: Option<BadMessage>,
+) -> bool {
+    matches!(read, Ok(day) if day.bodies.text.as_slice() == text && day.bad == bad)
 }

@@ -1,6 +1,6 @@
 use Rattle.fix_framing.specs.declared.framer.Step.TheVariants.{Whole}
-use Rattle.fix_framing.proofs.RoomLemmas.{room-answered, room-kept}
-use Rattle.fix_framing.proofs.framer.tests.take_messages.Goals as goal
+use Rattle.log_tests.proofs.RoomLemmas.{room-answered, room-kept}
+use Rattle.log_tests.proofs.framing.framer.take_messages.Goals as goal
 
 pub messages-preserved : goal.messages-preserved
 messages-preserved g c =

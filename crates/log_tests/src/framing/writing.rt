@@ -1,7 +1,8 @@
-use super::*;
-use crate::frames::{Frame, frame_at};
-use crate::headers::Fix44;
-use crate::vectors::{H, M1, P, R1};
+//! Messages that are written.
+use crate::framing::vectors::{H, M1, P, R1};
+use fix_framing::frames::{Frame, frame_at};
+use fix_framing::headers::Fix44;
+use fix_framing::writing::write_frame;
 
 #[test]
 fn written_messages_are_the_vectors(rt: HostRuntime) {

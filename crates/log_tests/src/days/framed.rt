@@ -1,14 +1,18 @@
+//! Days whose messages stand one after another, after a byte order mark if there is one.
 ghost use Rattle.std.specs.Prelude.{◌≤◌, length};
 
-use super::*;
-use crate::faults::BadMessage;
-use crate::joined::Joined;
-use crate::read_day::ReadDay;
+use crate::days::joined::{Joined, is_read};
+use audit_base::faults::NoMemory;
 use audit_base::terms::Which;
+use fix_days::faults::BadMessage;
+use fix_days::framed::FramedFeed;
+use fix_days::read_day::ReadDay;
 use fix_framing::frames::FrameFault;
+use log_source::feed::Feed;
 use log_source::limits::LONGEST_READ;
 use log_source::memory_shelf::MemoryShelf;
 use log_source::pump::pump;
+use std::alloc::Global;
 use std::process::Abort;
 
 /// A day, and the bodies that are read of it, each with `;` after it.
@@ -115,11 +119,6 @@ fn read_cut(alloc: Global, day: &[u8], cut: usize) -> Result<ReadDay<Joined>, No
     feed.feed(&day[..cut])?;
     feed.feed(&day[cut..])?;
     feed.close()
-}
-
-/// Whether the day was read as these bodies and this first bad message.
-fn is_read(read: &Result<ReadDay<Joined>, NoMemory>, text: &[u8], bad: Option<BadMessage>) -> bool {
-    matches!(read, Ok(day) if day.bodies.text.as_slice() == text && day.bad == bad)
 }
 
 #[test]

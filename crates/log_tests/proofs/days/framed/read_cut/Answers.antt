@@ -1,6 +1,6 @@
 use Rattle.std.proofs.Common.{◌-◌, [], ◌++◌, length, take, drop, arith}
 use Rattle.std.proofs.lemmas.List.{length-append, length-drop, length-take-le}
-use Rattle.fix_days.proofs.framed.tests.read_cut.Goals as goal
+use Rattle.log_tests.proofs.days.framed.read_cut.Goals as goal
 
 pub close-requires : goal.close-requires
 close-requires c =
