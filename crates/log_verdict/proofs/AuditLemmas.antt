@@ -15,8 +15,8 @@ use Rattle.audit_base.specs.Trades.{deal_of_trade, deals_of_symbol, trades_of_sy
 use Rattle.matching_core.specs.declared.deals_draft.ResolvedTrades.{ResolvedTrades}
 use Rattle.record_verdict.specs.declared.before_rule.BeforeRule.TheVariants as before_rule
 use Rattle.log_verdict.specs.declared.both.Both.{Both}
-use Rattle.log_verdict.specs.declared.reading.Collected.{Collected}
-use Rattle.log_verdict.specs.declared.reading.Collected.TheVariants as collected
+use Rattle.log_verdict.specs.declared.reading.CollectedTrades.{CollectedTrades}
+use Rattle.log_verdict.specs.declared.reading.CollectedTrades.TheVariants as collected
 use Rattle.record_verdict.specs.declared.scopes.Scope.{Scope}
 use Rattle.record_verdict.specs.Scopes.{finding_before_rule_in_scope, unadmitted_order_finding}
 use Rattle.log_verdict.specs.declared.sources.Source.{Source}
@@ -63,7 +63,7 @@ ended_before scope entries ts ended is end = by_finding ended.finding refl
 
 module _ {X Y : Type 0} (r : Reading) (scope : Scope) (trades : Source) (of_orders : X → List OrderRecord → Type 0) (of_trades : Y → List TradeRecord → Type 0) (entries : List OrderRecord) (orders : X) (taken : of_orders orders entries) where
   -- the trade log was read, and whatever it says, this is found
-  pub after_any : (kept : Collected Y) (finding : Finding) → ((paired : Result (List TradeRecord) Finding) → finding_before_rule_in_scope scope entries paired ≡ Some finding)
+  pub after_any : (kept : CollectedTrades Y) (finding : Finding) → ((paired : Result (List TradeRecord) Finding) → finding_before_rule_in_scope scope entries paired ≡ Some finding)
       → IsReadAs r Trades trades.name.now (λ bytes. HasCollected of_trades kept (trades_of_trade_log trades.form bytes))
       → ReadsTrades r trades (λ paired. AreLogsBeforeRule scope of_orders of_trades entries paired (record { given = before_rule.Found finding; orders = orders; trades = kept })) (λ bad. ⊥)
   after_any kept finding found is =

@@ -11,10 +11,10 @@ use Rattle.audit_base.specs.declared.terms.Which.TheVariants.{Orders, Trades}
 use Rattle.log_source.specs.declared.shelf.Shelf.{Ghosts as Shelf}
 use Rattle.log_source.specs.Calls.{count_after}
 use Rattle.log_source.specs.Sources.{Slot, RoseOrIsFull}
-use Rattle.log_verdict.specs.declared.reading.Collected.{Collected}
-use Rattle.log_verdict.specs.declared.reading.Collected.TheVariants as collected
-use Rattle.log_verdict.specs.declared.reading.Unread.{Unread}
-use Rattle.log_verdict.specs.declared.reading.Unread.TheVariants as unread
+use Rattle.log_verdict.specs.declared.reading.CollectedTrades.{CollectedTrades}
+use Rattle.log_verdict.specs.declared.reading.CollectedTrades.TheVariants as collected
+use Rattle.log_verdict.specs.declared.reading.ReadingFault.{ReadingFault}
+use Rattle.log_verdict.specs.declared.reading.ReadingFault.TheVariants as unread
 use Rattle.log_verdict.specs.declared.sources.Source.{Source}
 use Rattle.log_verdict.specs.declared.stops.NoRecords.{NoRecords}
 use Rattle.log_verdict.specs.declared.stops.NoRecords.TheVariants as norecords
@@ -146,12 +146,12 @@ module _ (first second : Reading) (after : Follows first second) where
       (stays (subst (λ (n : ℕ). (second.before Trades).taken ≤ n) (sym after.limit) (subst (λ (s : Slot). s.taken ≤ first.limit) (sym after.trades) (begins Trades))))
 
 -- a log with a bad place has given a collector nothing
-none-collected : {K : Type 0} (has_taken : K → List TradeRecord → Type 0) (kept : Collected K) (bad : BadPlace) → HasCollected has_taken kept (Err bad) → ⊥
+none-collected : {K : Type 0} (has_taken : K → List TradeRecord → Type 0) (kept : CollectedTrades K) (bad : BadPlace) → HasCollected has_taken kept (Err bad) → ⊥
 none-collected has_taken (collected.Trades collector) bad has = let says : Err bad ≡ Ok (Ok has.trades) = has.says in cc
 none-collected has_taken (collected.Alone finding) bad has = cc
 
 -- what holds of whatever a trade log was read into holds of the log
-pub reads-collected : {K : Type 0} (r : Reading) (trades : Source) (has_taken : K → List TradeRecord → Type 0) (kept : Collected K) (P : Result (List TradeRecord) Finding → Type 0)
+pub reads-collected : {K : Type 0} (r : Reading) (trades : Source) (has_taken : K → List TradeRecord → Type 0) (kept : CollectedTrades K) (P : Result (List TradeRecord) Finding → Type 0)
     → ((paired : Result (List TradeRecord) Finding) → HasCollected has_taken kept (Ok paired) → P paired)
     → IsReadAs r Trades trades.name.now (λ bytes. HasCollected has_taken kept (trades_of_trade_log trades.form bytes)) → ReadsTrades r trades P (λ bad. ⊥)
 reads-collected r trades has_taken kept P so is =
@@ -162,7 +162,7 @@ reads-collected r trades has_taken kept P so is =
     by-said (Err bad) has = absurd (none-collected has_taken kept bad has)
 
 -- where the order log was not read into records, after which the trade log is left alone
-pub orders-unread : (r : Reading) (orders trades : Source) (why : Unread) → IsUnread (records_of_order_log orders.form) r Orders orders.name.now why → IsUntouched r Trades
+pub orders-unread : (r : Reading) (orders trades : Source) (why : ReadingFault) → IsUnread (records_of_order_log orders.form) r Orders orders.name.now why → IsUntouched r Trades
     → IsUnreadOfTwoLogs r orders trades (no_records Orders why)
 orders-unread r orders trades (unread.Bad bad) is same = record { bytes = is.bytes; read = is.read; holds = rw is.holds ((refl, refl), same) }
 orders-unread r orders trades unread.ReadFault is same = record { in_turn = same; fault = is }
@@ -170,21 +170,21 @@ orders-unread r orders trades unread.TooLong is same = record { in_turn = same; 
 orders-unread r orders trades unread.Memory is same = tt
 
 -- where the trade log was not
-pub trades-unread : (r : Reading) (trades : Source) (why : Unread) → IsUnread (trades_of_trade_log trades.form) r Trades trades.name.now why → IsUnreadTrades r trades (no_records Trades why)
+pub trades-unread : (r : Reading) (trades : Source) (why : ReadingFault) → IsUnread (trades_of_trade_log trades.form) r Trades trades.name.now why → IsUnreadTrades r trades (no_records Trades why)
 trades-unread r trades (unread.Bad bad) is = (refl, is)
 trades-unread r trades unread.ReadFault is = (refl, is)
 trades-unread r trades unread.TooLong is = (refl, is)
 trades-unread r trades unread.Memory is = tt
 
 -- then the slots stay within the limit, unless a log is too long
-pub orders-within : {T : Type 0} (r : Reading) (why : Unread) (result : Result T NoRecords) → result ≡ Err (no_records Orders why) → ((why ≡ unread.TooLong → ⊥) → (r.after Orders).taken ≤ r.limit)
+pub orders-within : {T : Type 0} (r : Reading) (why : ReadingFault) (result : Result T NoRecords) → result ≡ Err (no_records Orders why) → ((why ≡ unread.TooLong → ⊥) → (r.after Orders).taken ≤ r.limit)
     → IsUntouched r Trades → ReadsWithin r result
 orders-within r (unread.Bad bad) result is within same begins = rw is (inr (ends-within r (within (λ e. cc)) (subst (λ (s : Slot). s.taken ≤ r.limit) (sym same) (begins Trades))))
 orders-within r unread.ReadFault result is within same begins = rw is (inr (ends-within r (within (λ e. cc)) (subst (λ (s : Slot). s.taken ≤ r.limit) (sym same) (begins Trades))))
 orders-within r unread.TooLong result is within same begins = rw is (inl tt)
 orders-within r unread.Memory result is within same begins = rw is (inr (ends-within r (within (λ e. cc)) (subst (λ (s : Slot). s.taken ≤ r.limit) (sym same) (begins Trades))))
 
-pub trades-within : {T : Type 0} (r : Reading) (why : Unread) (result : Result T NoRecords) → result ≡ Err (no_records Trades why) → ((why ≡ unread.TooLong → ⊥) → (r.after Trades).taken ≤ r.limit)
+pub trades-within : {T : Type 0} (r : Reading) (why : ReadingFault) (result : Result T NoRecords) → result ≡ Err (no_records Trades why) → ((why ≡ unread.TooLong → ⊥) → (r.after Trades).taken ≤ r.limit)
     → ReadsWithinAt r Trades result
 trades-within r (unread.Bad bad) result is within = rw is (inr (within (λ e. cc)))
 trades-within r unread.ReadFault result is within = rw is (inr (within (λ e. cc)))

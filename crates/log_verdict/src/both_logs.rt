@@ -16,18 +16,18 @@ ghost use Rattle.log_verdict.specs.Steps.{reading_by, KeepsShelfLogs, FaultsNeve
 ghost use Rattle.record_verdict.specs.BeforeRule.{IsBeforeRule, IsJudgeable};
 
 use crate::both::Both;
-use crate::reading::{Collected, collect_orders, collect_trades};
+use crate::reading::{CollectedTrades, collect_orders, collect_trades};
 use crate::sources::Source;
 use crate::stops::NoRecords;
 use audit_base::findings::Finding;
 use audit_base::records::{OrderRecord, TradeRecord};
 use audit_base::terms::Which;
 use instruction_history::history::History;
-use instruction_history::history_draft::{AuditedSymbol, HistoryDraft};
+use instruction_history::history_draft::{SymbolGhost, HistoryDraft};
 use log_source::collector::Collector;
 use log_source::counter::Counter;
 use log_source::shelf::Shelf;
-use matching_core::deals_draft::{AuditedHistory, DealsDraft};
+use matching_core::deals_draft::{HistoryGhost, DealsDraft};
 use record_verdict::before_rule::BeforeRule;
 use record_verdict::scopes::Scope;
 use std::alloc::Global;
@@ -40,7 +40,7 @@ pub struct LogsBeforeRule<X, Y> {
     /// What was kept of the order log.
     pub orders: X,
     /// What was kept of the trade log, or that a report has no partner.
-    pub trades: Collected<Y>,
+    pub trades: CollectedTrades<Y>,
 }
 
 /// What is known where a finding about the orders decides: of the trade log is only kept what is
@@ -79,7 +79,7 @@ fn after_finding<F: Shelf, X: Collector<Entry = OrderRecord>, Y: Collector<Entry
 
 /// What is known where the history has no finding: its trades decide.
 fn after_history<
-    M: AuditedHistory,
+    M: HistoryGhost,
     F: Shelf,
     X: Collector<Entry = OrderRecord>,
     Y: Collector<Entry = TradeRecord>,
@@ -112,20 +112,20 @@ fn after_history<
         second: kept,
     };
     match collect_trades::<F, Both<DealsDraft<M>, Y>>(alloc, shelf, trades, both) {
-        Ok(Collected::Trades(both)) => {
+        Ok(CollectedTrades::Trades(both)) => {
             let Both { first, second } = both;
             Ok(LogsBeforeRule {
                 given: BeforeRule::of(first.end()),
                 orders,
-                trades: Collected::Trades(second),
+                trades: CollectedTrades::Trades(second),
             })
         }
-        Ok(Collected::Alone(finding)) => {
+        Ok(CollectedTrades::Alone(finding)) => {
             let alone = &finding;
             Ok(LogsBeforeRule {
                 given: BeforeRule::Found(*alone),
                 orders,
-                trades: Collected::Alone(*alone),
+                trades: CollectedTrades::Alone(*alone),
             })
         }
         Err(unread) => Err(NoRecords::at(Which::Trades, unread)),
@@ -134,7 +134,7 @@ fn after_history<
 
 /// What is known where the order log has been read: the trade log is read.
 fn after_orders<
-    S: AuditedSymbol,
+    S: SymbolGhost,
     F: Shelf,
     X: Collector<Entry = OrderRecord>,
     Y: Collector<Entry = TradeRecord>,
@@ -180,7 +180,7 @@ fn after_orders<
 /// beside it, the first of the orders and the second of the trades; or why that is not known. The
 /// order log is read first, and the trade log only where that is in its grammar; each is read once.
 pub fn read_keeping<
-    S: AuditedSymbol,
+    S: SymbolGhost,
     F: Shelf,
     X: Collector<Entry = OrderRecord>,
     Y: Collector<Entry = TradeRecord>,

@@ -11,7 +11,7 @@ use Rattle.audit_base.specs.Trades.{deal_of_trade, deals_of_symbol, trades_of_sy
 use Rattle.audit_base.specs.Verdicts.{paired_trades}
 use Rattle.further_checks.specs.FurtherRules.{times_of_symbol}
 use Rattle.log_verdict.specs.declared.both_logs.LogsBeforeRule.{LogsBeforeRule}
-use Rattle.log_verdict.specs.declared.reading.Collected.TheVariants as collected
+use Rattle.log_verdict.specs.declared.reading.CollectedTrades.TheVariants as collected
 use Rattle.log_verdict.specs.BothLogs.{AreLogsBeforeRule}
 use Rattle.log_verdict.specs.Collecting.{HasCollected}
 use Rattle.matching_core.specs.declared.deals_draft.ResolvedTrades.{ResolvedTrades}
@@ -20,13 +20,13 @@ use Rattle.record_verdict.specs.declared.before_rule.BeforeRule.TheVariants as b
 use Rattle.record_verdict.specs.declared.scopes.Scope.{Scope}
 use Rattle.record_verdict.specs.BeforeRule.{IsBeforeRule, IsJudgeable}
 use Rattle.symbol_offences.specs.declared.order_log.OrdersOfSymbol.{OrdersOfSymbol}
-use Rattle.symbol_offences.specs.declared.questions.Keeping.{Keeping}
-use Rattle.symbol_offences.specs.declared.symbol_logs.QuotedRecords.{QuotedRecords}
-use Rattle.symbol_offences.specs.declared.symbol_logs.SymbolLogs.{SymbolLogs}
+use Rattle.symbol_offences.specs.declared.questions.KeepingOptions.{KeepingOptions}
+use Rattle.symbol_offences.specs.declared.symbol_before_rule.QuotedRecords.{QuotedRecords}
+use Rattle.symbol_offences.specs.declared.symbol_before_rule.SymbolBeforeRule.{SymbolBeforeRule}
 use Rattle.symbol_offences.specs.declared.trade_log.TradesOfSymbol.{TradesOfSymbol}
 use Rattle.symbol_offences.specs.OrderLog.{IsOrdersOfSymbol}
 use Rattle.symbol_offences.specs.Questions.{kept_if}
-use Rattle.symbol_offences.specs.SymbolLogs.{ArePlacesRising, IsReadyToTell, IsSymbolLogs, kept_history, kept_trades, places_of_records}
+use Rattle.symbol_offences.specs.SymbolBeforeRule.{ArePlacesRising, IsReadyToTell, IsSymbolBeforeRule, kept_history, kept_trades, places_of_records}
 use Rattle.symbol_offences.specs.TradeLog.{IsTradesOfSymbol}
 use Rattle.symbol_offences.proofs.KeptLemmas.{history-rises, trades-rise}
 
@@ -45,9 +45,9 @@ none-paired P finding (Ok trades) says is = absurd cc
 none-paired P finding (Err other) says is = is
 
 -- what was kept of both logs is what they give of the symbol
-pub kept-logs : {Q : Type 0} (symbol : List ℕ) (keeping : Keeping) (scope : Scope) (entries : List OrderRecord) (paired : Result (List TradeRecord) Finding) (read : LogsBeforeRule (OrdersOfSymbol Q) (TradesOfSymbol Q)) (kept : TradesOfSymbol Q)
+pub kept-logs : {Q : Type 0} (symbol : List ℕ) (keeping : KeepingOptions) (scope : Scope) (entries : List OrderRecord) (paired : Result (List TradeRecord) Finding) (read : LogsBeforeRule (OrdersOfSymbol Q) (TradesOfSymbol Q)) (kept : TradesOfSymbol Q)
     → scope.symbol ≡ symbol → AreLogsBeforeRule scope (IsOrdersOfSymbol symbol keeping.records) (IsTradesOfSymbol symbol keeping) entries paired read → IsTradesOfSymbol symbol keeping kept (paired_trades paired)
-    → IsSymbolLogs scope keeping entries paired (record { given = read.given; times = kept.times; quoted = record { orders = read.orders.records; trades = kept.records } })
+    → IsSymbolBeforeRule scope keeping entries paired (record { given = read.given; times = kept.times; quoted = record { orders = read.orders.records; trades = kept.records } })
 kept-logs symbol keeping scope entries paired read kept named is has = record {
   before = is.before;
   times = has.times_are ∙ ap (λ (s : List ℕ). kept_if keeping.times (times_of_symbol s (paired_trades paired))) (sym named);
@@ -64,7 +64,7 @@ same-count : (orders : List Order) (symbol : List ℕ) (trades : List TradeRecor
 unfolding deals_of_symbol
 same-count orders symbol trades = length-map (trades_of_symbol symbol trades) (λ e. e.1.time) ∙ sym (length-map (trades_of_symbol symbol trades) (deal_of_trade orders))
 
-pub ready-of : (scope : Scope) (keeping : Keeping) (entries : List OrderRecord) (paired : Result (List TradeRecord) Finding) (logs : SymbolLogs) → IsSymbolLogs scope keeping entries paired logs → IsJudgeable logs.given
+pub ready-of : (scope : Scope) (keeping : KeepingOptions) (entries : List OrderRecord) (paired : Result (List TradeRecord) Finding) (logs : SymbolBeforeRule) → IsSymbolBeforeRule scope keeping entries paired logs → IsJudgeable logs.given
     → IsReadyToTell keeping logs
 ready-of scope keeping entries paired logs is judgeable = record {
   judgeable = judgeable;

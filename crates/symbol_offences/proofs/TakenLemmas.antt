@@ -8,7 +8,7 @@ use Rattle.audit_base.specs.Orders.{same_name}
 use Rattle.day_records.specs.KeptOrders.{KeptEntries}
 use Rattle.day_records.specs.KeptTrades.{KeptDeals}
 use Rattle.symbol_offences.specs.declared.order_log.OrdersOfSymbol.{OrdersOfSymbol}
-use Rattle.symbol_offences.specs.declared.questions.Keeping.{Keeping}
+use Rattle.symbol_offences.specs.declared.questions.KeepingOptions.{KeepingOptions}
 use Rattle.symbol_offences.specs.declared.trade_log.TradesOfSymbol.{TradesOfSymbol}
 use Rattle.symbol_offences.specs.OrderLog.{IsOrdersOfSymbol, with_entry_if}
 use Rattle.symbol_offences.specs.TradeLog.{IsTradesOfSymbol, with_time_if, with_trade_if}
@@ -59,7 +59,7 @@ own-symbol symbol keeps old entries entry has same =
 
 -- The trade log.
 
-module _ {Q : Type 0} (symbol : List ℕ) (keeping : Keeping) (old new : TradesOfSymbol Q) (trades : List TradeRecord) (trade : TradeRecord) (has : IsTradesOfSymbol symbol keeping old trades) where
+module _ {Q : Type 0} (symbol : List ℕ) (keeping : KeepingOptions) (old new : TradesOfSymbol Q) (trades : List TradeRecord) (trade : TradeRecord) (has : IsTradesOfSymbol symbol keeping old trades) where
   pub other-trade_taken : same_name trade.symbol old.symbol ≡ false → new.symbol ≡ old.symbol → new.count ≡ old.count + 1 → new.keeping ≡ old.keeping → new.times.items ≡ old.times.items → new.records ≡ old.records
       → IsTradesOfSymbol symbol keeping new (trades ++ trade ∷ [])
   other-trade_taken other symbol_same counted keeping_same times_same records_same =
@@ -78,8 +78,8 @@ module _ {Q : Type 0} (symbol : List ℕ) (keeping : Keeping) (old new : TradesO
   own-trade_taken same symbol_same counted keeping_same times_new records_new =
       let own : same_name trade.symbol symbol ≡ true = subst (λ (s : List ℕ). same_name trade.symbol s ≡ true) has.named same in
       let at : old.count + 1 ≡ length trades + 1 = ap (λ (n : ℕ). n + 1) has.count in
-      let records_kept : old.keeping.records ≡ keeping.records = ap (λ (k : Keeping). k.records) has.keeps_so in
-      let times_kept : old.keeping.times ≡ keeping.times = ap (λ (k : Keeping). k.times) has.keeps_so in
+      let records_kept : old.keeping.records ≡ keeping.records = ap (λ (k : KeepingOptions). k.records) has.keeps_so in
+      let times_kept : old.keeping.times ≡ keeping.times = ap (λ (k : KeepingOptions). k.times) has.keeps_so in
       record {
         named = symbol_same ∙ has.named;
         count = counted ∙ count-more old.count trades trade has.count;
@@ -93,7 +93,7 @@ module _ {Q : Type 0} (symbol : List ℕ) (keeping : Keeping) (old new : TradesO
       }
 
 -- the trade is of the symbol whose records are kept
-pub own-trade_symbol : {Q : Type 0} (symbol : List ℕ) (keeping : Keeping) (old : TradesOfSymbol Q) (trades : List TradeRecord) (trade : TradeRecord) → IsTradesOfSymbol symbol keeping old trades
+pub own-trade_symbol : {Q : Type 0} (symbol : List ℕ) (keeping : KeepingOptions) (old : TradesOfSymbol Q) (trades : List TradeRecord) (trade : TradeRecord) → IsTradesOfSymbol symbol keeping old trades
     → same_name trade.symbol old.symbol ≡ true → trade.symbol ≡ old.records.symbol
 own-trade_symbol symbol keeping old trades trade has same =
     same-text trade.symbol old.symbol same ∙ has.named ∙ sym (ap (λ (k : KeptDeals). k.symbol) has.records_are)

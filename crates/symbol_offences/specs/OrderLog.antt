@@ -3,7 +3,7 @@ use Rattle.std.specs.Prelude.{◌≡◌, ℕ, Bool, List, length, if◌then◌el
 use Rattle.audit_base.specs.declared.records.OrderRecord.{OrderRecord}
 use Rattle.day_records.specs.KeptOrders.{KeptEntries, with_entry}
 use Rattle.symbol_offences.specs.declared.order_log.OrdersOfSymbol.{OrdersOfSymbol}
-use Rattle.symbol_offences.specs.SymbolLogs.{kept_history}
+use Rattle.symbol_offences.specs.SymbolBeforeRule.{kept_history}
 
 -- exactly these records of the order log were handed on, and those of the symbol are kept where
 -- they are quoted

@@ -10,16 +10,16 @@ use Rattle.log_verdict.specs.declared.both_logs.LogsBeforeRule.{LogsBeforeRule}
 use Rattle.log_verdict.specs.BothLogs.{AreLogsBeforeRule}
 use Rattle.record_verdict.specs.declared.scopes.Scope.{Scope}
 use Rattle.symbol_offences.specs.declared.order_log.OrdersOfSymbol.{OrdersOfSymbol}
-use Rattle.symbol_offences.specs.declared.questions.Keeping.{Keeping}
-use Rattle.symbol_offences.specs.declared.symbol_logs.SymbolLogs.{SymbolLogs}
+use Rattle.symbol_offences.specs.declared.questions.KeepingOptions.{KeepingOptions}
+use Rattle.symbol_offences.specs.declared.symbol_before_rule.SymbolBeforeRule.{SymbolBeforeRule}
 use Rattle.symbol_offences.specs.declared.trade_log.TradesOfSymbol.{TradesOfSymbol}
 use Rattle.symbol_offences.specs.OrderLog.{IsOrdersOfSymbol}
 use Rattle.symbol_offences.specs.Questions.{kept_if}
-use Rattle.symbol_offences.specs.SymbolLogs.{IsSymbolLogs, kept_trades}
+use Rattle.symbol_offences.specs.SymbolBeforeRule.{IsSymbolBeforeRule, kept_trades}
 
 -- exactly these records of the trade log were handed on, and the times of the symbol's trades and
 -- its records are kept where they are asked for
-pub record IsTradesOfSymbol {Q : Type 0} (symbol : List ℕ) (keeping : Keeping)
+pub record IsTradesOfSymbol {Q : Type 0} (symbol : List ℕ) (keeping : KeepingOptions)
     (kept : TradesOfSymbol Q) (trades : List TradeRecord) : Type 0 where
   pub named : kept.symbol ≡ symbol
   pub count : kept.count ≡ length trades
@@ -36,11 +36,11 @@ abbrev pub with_time_if : Bool → List Moment → Moment → List Moment
 with_time_if keeps times time = if keeps then times ++ time ∷ [] else times
 
 -- of whatever records both logs were read into, these are what they give of the symbol
-abbrev pub GivesSymbolLogs : {Q : Type 0} → List ℕ → Keeping
-    → LogsBeforeRule (OrdersOfSymbol Q) (TradesOfSymbol Q) → SymbolLogs → Type 0
-GivesSymbolLogs symbol keeping read logs =
+abbrev pub GivesSymbolBeforeRule : {Q : Type 0} → List ℕ → KeepingOptions
+    → LogsBeforeRule (OrdersOfSymbol Q) (TradesOfSymbol Q) → SymbolBeforeRule → Type 0
+GivesSymbolBeforeRule symbol keeping read logs =
     (scope : Scope) (entries : List OrderRecord) (paired : Result (List TradeRecord) Finding)
     → scope.symbol ≡ symbol
     → AreLogsBeforeRule scope (IsOrdersOfSymbol symbol keeping.records)
     (IsTradesOfSymbol symbol keeping) entries paired read
-    → IsSymbolLogs scope keeping entries paired logs
+    → IsSymbolBeforeRule scope keeping entries paired logs

@@ -1,7 +1,7 @@
 //! What is asked of the records of a symbol.
 ghost use Rattle.std.specs.Prelude.{◌≡◌, [], ℕ, List, false};
 ghost use Rattle.record_verdict.specs.RecordVerdicts.{question};
-ghost use Rattle.symbol_offences.specs.declared.questions.Keeping.{Keeping as AKeeping};
+ghost use Rattle.symbol_offences.specs.declared.questions.KeepingOptions.{KeepingOptions as KeepingOptionsSpec};
 ghost use Rattle.symbol_offences.specs.Questions.{keeping_for};
 
 use audit_base::names::Name;
@@ -24,7 +24,7 @@ pub struct OffenceQuestion {
 
 /// What is kept of a symbol beside what its verdict needs.
 #[derive(Clone, Copy, Debug)]
-pub struct Keeping {
+pub struct KeepingOptions {
     /// Its records, of both logs.
     pub records: bool,
     /// The times of its trades.
@@ -38,7 +38,7 @@ pub struct Keeping {
 pub trait QuestionGhost {
     ghost symbol: { List ℕ };
 
-    ghost keeping: { AKeeping };
+    ghost keeping: { KeepingOptionsSpec };
 }
 
 impl QuestionGhost for Brand {
@@ -60,10 +60,10 @@ impl OffenceQuestion {
     }
 
     /// What is kept for its answer.
-    pub(crate) fn keeping(&self) -> Keeping
+    pub(crate) fn keeping(&self) -> KeepingOptions
         ensures { result ≡ keeping_for self.now }
     {
-        Keeping {
+        KeepingOptions {
             records: self.records,
             times: self.checks.any(),
         }

@@ -7,17 +7,17 @@ ghost use Rattle.audit_base.specs.Verdicts.{paired_trades};
 ghost use Rattle.log_verdict.specs.BothLogs.{GivesOfRecords, HaveOneLimit, ReadsWithin};
 ghost use Rattle.log_verdict.specs.Collecting.{HasCollected};
 ghost use Rattle.log_verdict.specs.Steps.{reading_by, KeepsShelfLogs, FaultsNeverFall};
-ghost use Rattle.symbol_offences.specs.SymbolLogs.{IsReadyToTell, IsSymbolLogs};
-ghost use Rattle.symbol_offences.specs.TradeLog.{GivesSymbolLogs, IsTradesOfSymbol};
+ghost use Rattle.symbol_offences.specs.SymbolBeforeRule.{IsReadyToTell, IsSymbolBeforeRule};
+ghost use Rattle.symbol_offences.specs.TradeLog.{GivesSymbolBeforeRule, IsTradesOfSymbol};
 
 use crate::order_log::OrdersOfSymbol;
-use crate::questions::{Keeping, QuestionGhost};
-use crate::symbol_logs::{QuotedRecords, SymbolLogs};
+use crate::questions::{KeepingOptions, QuestionGhost};
+use crate::symbol_before_rule::{QuotedRecords, SymbolBeforeRule};
 use crate::trade_log::TradesOfSymbol;
 use audit_base::names::Name;
 use log_source::shelf::Shelf;
 use log_verdict::both_logs::{LogsBeforeRule, read_keeping};
-use log_verdict::reading::Collected;
+use log_verdict::reading::CollectedTrades;
 use log_verdict::sources::Source;
 use log_verdict::stops::NoRecords;
 use record_verdict::scopes::Scope;
@@ -28,8 +28,8 @@ use std::marker::Brand;
 fn kept_trades<Q: QuestionGhost>(
     alloc: Global,
     symbol: Name,
-    keeping: Keeping,
-    trades: Collected<TradesOfSymbol<Q>>,
+    keeping: KeepingOptions,
+    trades: CollectedTrades<TradesOfSymbol<Q>>,
 ) -> TradesOfSymbol<Q>
     requires symbol { symbol ≡ Q.symbol }
     requires keeping { keeping ≡ Q.keeping }
@@ -38,8 +38,8 @@ fn kept_trades<Q: QuestionGhost>(
         → has_taken result (paired_trades paired) }
 {
     match trades {
-        Collected::Trades(kept) => kept,
-        Collected::Alone(_) => TradesOfSymbol::new(alloc, symbol, keeping),
+        CollectedTrades::Trades(kept) => kept,
+        CollectedTrades::Alone(_) => TradesOfSymbol::new(alloc, symbol, keeping),
     }
 }
 
@@ -47,13 +47,13 @@ fn kept_trades<Q: QuestionGhost>(
 fn logs_of<Q: QuestionGhost>(
     alloc: Global,
     symbol: Name,
-    keeping: Keeping,
+    keeping: KeepingOptions,
     read: LogsBeforeRule<OrdersOfSymbol<Q>, TradesOfSymbol<Q>>,
-) -> SymbolLogs
+) -> SymbolBeforeRule
     requires symbol { symbol ≡ Q.symbol }
     requires keeping { keeping ≡ Q.keeping }
     ensures given { result.given ≡ read.given }
-    ensures gives { GivesSymbolLogs Q.symbol Q.keeping read result }
+    ensures gives { GivesSymbolBeforeRule Q.symbol Q.keeping read result }
 {
     let LogsBeforeRule {
         given,
@@ -71,7 +71,7 @@ fn logs_of<Q: QuestionGhost>(
         orders: records,
         trades,
     };
-    SymbolLogs {
+    SymbolBeforeRule {
         given,
         times,
         quoted,
@@ -83,16 +83,16 @@ fn read_asked<Q: QuestionGhost, F: Shelf>(
     alloc: Global,
     shelf: &mut F,
     scope: &Scope,
-    keeping: Keeping,
+    keeping: KeepingOptions,
     orders: &Source<'_>,
     trades: &Source<'_>,
-) -> Result<SymbolLogs, NoRecords>
+) -> Result<SymbolBeforeRule, NoRecords>
     requires symbol { scope.now.symbol ≡ Q.symbol }
     requires keeping { keeping ≡ Q.keeping }
     requires limit { HaveOneLimit orders.now trades.now }
     ensures logs { KeepsShelfLogs F.Shelf shelf.old shelf.new }
     ensures later { FaultsNeverFall (reading_by orders.now F.Shelf shelf.old shelf.new) }
-    ensures decides { GivesOfRecords (IsSymbolLogs scope.now keeping)
+    ensures decides { GivesOfRecords (IsSymbolBeforeRule scope.now keeping)
         (reading_by orders.now F.Shelf shelf.old shelf.new) orders.now trades.now result }
     ensures ready { IfOk result (IsReadyToTell keeping) }
     ensures within { ReadsWithin (reading_by orders.now F.Shelf shelf.old shelf.new) result }
@@ -115,14 +115,14 @@ pub fn read_symbol<F: Shelf>(
     alloc: Global,
     shelf: &mut F,
     scope: &Scope,
-    keeping: Keeping,
+    keeping: KeepingOptions,
     orders: &Source<'_>,
     trades: &Source<'_>,
-) -> Result<SymbolLogs, NoRecords>
+) -> Result<SymbolBeforeRule, NoRecords>
     requires limit { HaveOneLimit orders.now trades.now }
     ensures logs { KeepsShelfLogs F.Shelf shelf.old shelf.new }
     ensures later { FaultsNeverFall (reading_by orders.now F.Shelf shelf.old shelf.new) }
-    ensures decides { GivesOfRecords (IsSymbolLogs scope.now keeping)
+    ensures decides { GivesOfRecords (IsSymbolBeforeRule scope.now keeping)
         (reading_by orders.now F.Shelf shelf.old shelf.new) orders.now trades.now result }
     ensures ready { IfOk result (IsReadyToTell keeping) }
     ensures within { ReadsWithin (reading_by orders.now F.Shelf shelf.old shelf.new) result }

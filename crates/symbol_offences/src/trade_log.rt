@@ -6,7 +6,7 @@ ghost use Rattle.log_source.specs.Collectors.{HasPlace};
 ghost use Rattle.log_source.specs.Handing.{HandsOnMore};
 ghost use Rattle.symbol_offences.specs.TradeLog.{IsTradesOfSymbol, with_time_if, with_trade_if};
 
-use crate::questions::{Keeping, QuestionGhost};
+use crate::questions::{KeepingOptions, QuestionGhost};
 use audit_base::faults::NoMemory;
 use audit_base::names::Name;
 use audit_base::records::TradeRecord;
@@ -56,7 +56,7 @@ pub struct TradesOfSymbol<Q> {
     symbol: Name,
     /// How many records of the log there were, of all symbols.
     count: u32,
-    keeping: Keeping,
+    keeping: KeepingOptions,
     /// Those of the trades of the symbol, where they are kept.
     pub(crate) times: Vec<Stamp>,
     /// Those of the symbol, where they are kept.
@@ -66,7 +66,7 @@ pub struct TradesOfSymbol<Q> {
 
 impl<Q: QuestionGhost> TradesOfSymbol<Q> {
     /// No trades. Takes no memory.
-    pub fn new(alloc: Global, symbol: Name, keeping: Keeping) -> TradesOfSymbol<Q>
+    pub fn new(alloc: Global, symbol: Name, keeping: KeepingOptions) -> TradesOfSymbol<Q>
         requires symbol { symbol ≡ Q.symbol }
         requires keeping { keeping ≡ Q.keeping }
         ensures { IsTradesOfSymbol Q.symbol Q.keeping result [] }
