@@ -9,11 +9,12 @@
 ghost use Rattle.std.specs.Prelude.{◌≡◌, map};
 ghost use Rattle.std.specs.Process.{exit_status};
 ghost use Rattle.std.specs.String.{string_bytes};
-ghost use Rattle.casebook_program.specs.ClosedRuns.{CasebookAnswers, CasebookBegins, RunsThenCloses};
+ghost use Rattle.casebook_program.specs.ClosedRuns.{CasebookAnswers, CasebookBegins, CasebookBeginsOverUnknown, RunsThenCloses};
+ghost use Rattle.casebook_program.specs.FileOpeners.{file_opener_state};
 ghost use Rattle.case_run.specs.Statuses.{case_status_number};
 ghost use Rattle.case_run.specs.declared.statuses.CaseStatus.TheVariants as status;
 ghost use Rattle.stderr_notes.specs.CommandLines.{words_of_arguments};
-ghost use Rattle.stderr_notes.specs.ProgramAnswers.{AnswersCommandLine, EndsAsAnswer};
+ghost use Rattle.stderr_notes.specs.ProgramAnswers.{AnswersCommandLine, EndsAsAnswer, EndsAsSomeAnswer};
 
 use crate::closing::{Closing, run_and_close};
 use crate::file_opener::FileOpener;
@@ -137,9 +138,10 @@ fn exit_code(status: CaseStatus) -> ExitCode
 /// Answers the command line over these files, this output and this opener, whose casebook is then
 /// closed, and says on `notes` why, where the status is above 1.
 ///
-/// Nothing is known of the words, files, output and databases of the runtime, so that no clause
-/// could say of the program what this one does. What it is handed is seen in the code: the runtime
-/// itself as command line and files, its standard output, and an opener of its databases.
+/// Nothing is known of the words, files, output and databases of the runtime. So the call of the
+/// program says less than this one: that its process ends as some answer does. What it is handed is
+/// seen in the code: the runtime itself as command line and files, its standard output, and an
+/// opener of its databases.
 pub fn answer_command_line<
     R: CommandLine + AllocGlobal + RandomSource,
     S: FileSystem + Drop,
@@ -168,7 +170,12 @@ pub fn answer_command_line<
 }
 
 /// Runs the program, and gives the exit code of its process.
-pub fn run_casebook(rt: HostRuntime) -> ExitCode {
+pub fn run_casebook(rt: HostRuntime) -> ExitCode
+    ensures { let shelf = ⟦<NotedShelf<FileShelf<HostRuntime>> as Shelf>⟧ in
+        let closes = ⟦<FileOpener<HostRuntime> as Closing>⟧.closes in
+        EndsAsSomeAnswer (CasebookAnswers shelf file_opener_state closes) status.Memory
+        case_status_number (CasebookBeginsOverUnknown shelf file_opener_state) result }
+{
     let mut opener = FileOpener::new(rt);
     answer_command_line(&rt, rt, io::writer(&rt), &mut opener, &rt).code
 }

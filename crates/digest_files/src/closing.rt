@@ -1,7 +1,6 @@
 //! The call that files or checks, and the close of the database after it.
-ghost use Rattle.std.specs.Prelude.{◌≡◌, false, map};
+ghost use Rattle.std.specs.Prelude.{map};
 ghost use Rattle.std.specs.String.{string_bytes};
-ghost use Rattle.audit_base.specs.declared.terms.Which.{Which};
 ghost use Rattle.digest_files.specs.ClosedFilings.{FilesThenCloses};
 
 use case_run::statuses::CaseStatus;
@@ -38,7 +37,6 @@ pub fn file_and_close<F: Shelf, K: Sink, O: ClosingDigests>(
     out: &mut K,
     opener: &mut O,
 ) -> Ran<CaseStatus, F>
-    requires fresh { (which : Which) → (F.slot shelf which).started ≡ false }
     ensures { FilesThenCloses F.Shelf O.state O.closes shelf result.back opener.old opener.new
         (map string_bytes words.now) (K.state out.old) (K.state out.new) result.status }
 {
