@@ -34,7 +34,7 @@ use stderr_notes::command_line::{CommandLine, words_of};
 use stderr_notes::log_notes::print_end;
 use stderr_notes::noted_shelf::NotedShelf;
 use stderr_notes::notes::Notes;
-use stderr_notes::program_ends::{Ended, UsedEnds, exit_code, fresh_output, noted_files};
+use stderr_notes::program_ends::{ProgramEnd, UsedEnds, exit_code, fresh_output, noted_files};
 use stderr_notes::usage_notes::print_auditor_usage;
 
 /// Says on standard error why a run of these words ended above 1.
@@ -110,7 +110,7 @@ pub fn answer_command_line<
     S: FileSystem + Drop,
     W: Output + Drop,
     N: Notes,
->(machine: &R, files: S, output: W, notes: &N) -> Ended<S, W>
+>(machine: &R, files: S, output: W, notes: &N) -> ProgramEnd<S, W>
     ensures { let shelf = ⟦<NotedShelf<FileShelf<S>> as Shelf>⟧ in
         let state = ⟦<StdSink<W> as Sink>⟧.state in
         EndsAsAnswer (AuditorAnswersWords shelf) status.Memory status_number
@@ -121,7 +121,7 @@ pub fn answer_command_line<
     let mut shelf = noted_files(machine.alloc(), files);
     let mut out = fresh_output(output);
     let status = answer_words(machine, &mut shelf, &mut out, notes);
-    Ended {
+    ProgramEnd {
         code: exit_code(status),
         ends: UsedEnds { shelf, out },
     }

@@ -37,7 +37,7 @@ use stderr_notes::database_notes::{
 use stderr_notes::log_notes::print_stop;
 use stderr_notes::noted_shelf::NotedShelf;
 use stderr_notes::notes::Notes;
-use stderr_notes::program_ends::{Ended, UsedEnds, fresh_output, noted_files};
+use stderr_notes::program_ends::{ProgramEnd, UsedEnds, fresh_output, noted_files};
 use stderr_notes::usage_notes::print_casebook_usage;
 
 /// Says on standard error why a run ended above 1, or of which symbol a list is that may be
@@ -146,7 +146,7 @@ pub fn answer_command_line<
     W: Output + Drop,
     O: Closing,
     N: Notes,
->(machine: &R, files: S, output: W, opener: &mut O, notes: &N) -> Ended<S, W>
+>(machine: &R, files: S, output: W, opener: &mut O, notes: &N) -> ProgramEnd<S, W>
     ensures { let shelf = ⟦<NotedShelf<FileShelf<S>> as Shelf>⟧ in
         let state = ⟦<StdSink<W> as Sink>⟧.state in
         EndsAsAnswer (CasebookAnswers shelf O.state O.closes) status.Memory case_status_number
@@ -161,7 +161,7 @@ pub fn answer_command_line<
     let mut shelf = noted_files(machine.alloc(), files);
     let mut out = fresh_output(output);
     let status = answer_words(machine, &mut shelf, &mut out, opener, notes);
-    Ended {
+    ProgramEnd {
         code: exit_code(status),
         ends: UsedEnds { shelf, out },
     }

@@ -14,7 +14,7 @@ ghost use Rattle.continuous_audit.specs.Matching.{AreTradesAtStart, AreTradesSoF
 
 use super::books::BooksSoFar;
 use super::endings::{OrderEnd, sort_endings};
-use super::matching::{TradesSoFar, match_record};
+use super::expected_trades::{TradesSoFar, expect_record};
 use super::order_numbers::OrderNumbers;
 use super::pairs::{number_pairs, sort_pairs};
 use audit_base::faults::NoMemory;
@@ -55,7 +55,7 @@ fn match_records(
         (next_order_place orders.now (length orders.now)) so_far.new) }
 {
     for order in 0..orders.len() {
-        match_record(orders, endings, order, so_far)?;
+        expect_record(orders, endings, order, so_far)?;
     }
     Ok(())
 }

@@ -16,11 +16,11 @@ use Rattle.session_audit.specs.SessionVerdicts.{IsRejectedSession, IsSessionOfDe
 use Rattle.day_sessions.specs.JudgedSessions.{AreJudgedSessions, AreJudgedSessionsUpTo, AreJudgedSessionsOfShare, told_by_sessions}
 use Rattle.day_sessions.specs.SymbolSessions.{AddsSessionOfSymbol, IsSymbolSession, session_told}
 use Rattle.day_symbols.specs.Shares.{DayShare, symbols_in}
-use Rattle.day_records.specs.declared.day_trades.EndedTrades.{EndedTrades}
-use Rattle.day_records.specs.declared.symbol_records.SymbolRecords.{SymbolRecords}
-use Rattle.day_records.specs.declared.symbol_trades.SymbolTrades.{SymbolTrades}
-use Rattle.day_records.specs.SymbolRecords.{GivesSymbolTrades, HasFewSymbolRecords, times_if}
-use Rattle.day_records.specs.SymbolTrades.{HasFewOfSymbol}
+use Rattle.day_records.specs.declared.day_trades.DayRecords.{DayRecords}
+use Rattle.day_records.specs.declared.kept_records.KeptRecords.{KeptRecords}
+use Rattle.day_records.specs.declared.symbol_during_trades.SymbolDuringTrades.{SymbolDuringTrades}
+use Rattle.day_records.specs.KeptRecords.{GivesSymbolDuringTrades, HasFewKeptRecords, times_if}
+use Rattle.day_records.specs.SymbolDuringTrades.{HasFewOfSymbol}
 use Rattle.day_verdicts.specs.declared.judging.JudgedSymbols.{JudgedSymbols}
 use Rattle.day_verdicts.specs.CheckedSymbols.{HasFewTimed}
 use Rattle.day_verdicts.specs.DayVerdicts.{HasRoomForOne}
@@ -45,7 +45,7 @@ session-rejects symbol phases table entries trades given session before is findi
     (λ x. IsRejectedSession (Rejected x) session.conforms session.text.items)) there is).conforms_is
 
 -- the next symbol has few records
-pub next-few-records : (share : DayShare) (ended : EndedTrades) (n : ℕ) (own : SymbolRecords) (symbol : List ℕ) → IsNext share ended n own symbol → DayTradesFitPlaces share admission.All ended → HasFewSymbolRecords own
+pub next-few-records : (share : DayShare) (ended : DayRecords) (n : ℕ) (own : KeptRecords) (symbol : List ℕ) → IsNext share ended n own symbol → DayTradesFitPlaces share admission.All ended → HasFewKeptRecords own
 next-few-records share ended n own symbol next few = record {
   symbol = symbol;
   entries = few.entries;
@@ -54,7 +54,7 @@ next-few-records share ended n own symbol next few = record {
   fits_indices = few.has.fits_indices;
 }
 
-next-few : (share : DayShare) (ended : EndedTrades) (n : ℕ) (own : SymbolRecords) (symbol : List ℕ) (symbol_trades : SymbolTrades) → IsNext share ended n own symbol → GivesSymbolTrades ended.admission own symbol_trades → DayTradesFitPlaces share admission.All ended
+next-few : (share : DayShare) (ended : DayRecords) (n : ℕ) (own : KeptRecords) (symbol : List ℕ) (symbol_trades : SymbolDuringTrades) → IsNext share ended n own symbol → GivesSymbolDuringTrades ended.admission own symbol_trades → DayTradesFitPlaces share admission.All ended
     → HasFewOfSymbol ended.count symbol_trades
 next-few share ended n own symbol symbol_trades next gives few = record {
   admission = admission.All;
@@ -67,8 +67,8 @@ next-few share ended n own symbol symbol_trades next gives few = record {
 }
 
 -- what is known of it, and the times
-pub next-timed : (share : DayShare) (ended : EndedTrades) (n : ℕ) (own : SymbolRecords) (symbol : List ℕ) (symbol_trades : SymbolTrades) (checks : FurtherChecks) (asked : Bool) (times : List Moment) → IsNext share ended n own symbol
-    → asked ≡ asks_further checks → times ≡ times_if asked own.trades.trades → GivesSymbolTrades ended.admission own symbol_trades → DayTradesFitPlaces share admission.All ended → HasFewTimed checks ended.count symbol_trades times
+pub next-timed : (share : DayShare) (ended : DayRecords) (n : ℕ) (own : KeptRecords) (symbol : List ℕ) (symbol_trades : SymbolDuringTrades) (checks : FurtherChecks) (asked : Bool) (times : List Moment) → IsNext share ended n own symbol
+    → asked ≡ asks_further checks → times ≡ times_if asked own.trades.trades → GivesSymbolDuringTrades ended.admission own symbol_trades → DayTradesFitPlaces share admission.All ended → HasFewTimed checks ended.count symbol_trades times
 unfolding next-few
 next-timed share ended n own symbol symbol_trades checks asked times next asked_is times_are gives few = record {
   few = next-few share ended n own symbol symbol_trades next gives few;
@@ -76,8 +76,8 @@ next-timed share ended n own symbol symbol_trades checks asked times next asked_
 }
 
 -- one symbol more was judged
-pub sessions-next : (phases : List Phase) (table : Bool) (checks : FurtherChecks) (share : DayShare) (ended : EndedTrades) (n : ℕ) (own : SymbolRecords) (symbol : List ℕ) (symbol_trades : SymbolTrades) (asked : Bool) (times : List Moment) (old new : JudgedSymbols)
-    → IsNext share ended n own symbol → asked ≡ asks_further checks → times ≡ times_if asked own.trades.trades → GivesSymbolTrades ended.admission own symbol_trades
+pub sessions-next : (phases : List Phase) (table : Bool) (checks : FurtherChecks) (share : DayShare) (ended : DayRecords) (n : ℕ) (own : KeptRecords) (symbol : List ℕ) (symbol_trades : SymbolDuringTrades) (asked : Bool) (times : List Moment) (old new : JudgedSymbols)
+    → IsNext share ended n own symbol → asked ≡ asks_further checks → times ≡ times_if asked own.trades.trades → GivesSymbolDuringTrades ended.admission own symbol_trades
     → AddsSessionOfSymbol symbol phases table checks ended.count symbol_trades times old new → AreJudgedSessionsUpTo phases table checks share ended n old → AreJudgedSessionsUpTo phases table checks share ended (n + 1) new
 sessions-next phases table checks share ended n own symbol symbol_trades asked times old new next asked_is times_are gives one is = λ entries trades has.
     let symbols : List (List ℕ) = shared_symbols share entries trades in
@@ -95,7 +95,7 @@ sessions-next phases table checks share ended n own symbol symbol_trades asked t
     })
 
 -- there is room to count one symbol more
-pub room-for-session : (phases : List Phase) (table : Bool) (checks : FurtherChecks) (share : DayShare) (ended : EndedTrades) (n : ℕ) (judged : JudgedSymbols) → n < length ended.kept.items → length ended.kept.items < 2 ^ 64 → DayTradesFitPlaces share admission.All ended
+pub room-for-session : (phases : List Phase) (table : Bool) (checks : FurtherChecks) (share : DayShare) (ended : DayRecords) (n : ℕ) (judged : JudgedSymbols) → n < length ended.kept.items → length ended.kept.items < 2 ^ 64 → DayTradesFitPlaces share admission.All ended
     → AreJudgedSessionsUpTo phases table checks share ended n judged → HasRoomForOne judged.counts
 room-for-session phases table checks share ended n judged lt few_parts few is =
     let before = is few.entries few.trades few.has in
@@ -105,7 +105,7 @@ room-for-session phases table checks share ended n judged lt few_parts few is =
     room-for-one (take n symbols) (told_by_sessions checks few.entries few.trades (take n symbols) before.sessions) judged before.tells (omega (arith, told, count, lt, few_parts))
 
 -- all symbols were judged
-pub sessions-all : (phases : List Phase) (table : Bool) (checks : FurtherChecks) (share : DayShare) (ended : EndedTrades) (n : ℕ) (before rest : List SymbolRecords) (judged : JudgedSymbols) → before ++ rest ≡ ended.kept.items → length rest ≡ 0 → n ≡ length before
+pub sessions-all : (phases : List Phase) (table : Bool) (checks : FurtherChecks) (share : DayShare) (ended : DayRecords) (n : ℕ) (before rest : List KeptRecords) (judged : JudgedSymbols) → before ++ rest ≡ ended.kept.items → length rest ≡ 0 → n ≡ length before
     → AreJudgedSessionsUpTo phases table checks share ended n judged → AreJudgedSessionsOfShare phases table checks share ended judged
 sessions-all phases table checks share ended n before rest judged parts none at is = λ entries trades has.
     let symbols : List (List ℕ) = shared_symbols share entries trades in

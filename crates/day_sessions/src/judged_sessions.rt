@@ -8,8 +8,8 @@ ghost use Rattle.session_audit.specs.Phases.{ArePhases};
 use crate::questions::SessionQuestion;
 use crate::symbol_sessions::judge_symbol;
 use audit_base::faults::NoMemory;
-use day_records::day_trades::EndedTrades;
-use day_verdicts::judging::{JudgedSymbols, TimedTrades};
+use day_records::day_trades::DayRecords;
+use day_verdicts::judging::{JudgedSymbols, TradesWithTimes};
 use std::alloc::Global;
 
 /// The sessions of the symbols of a share, in their order: how many there are, and their lines,
@@ -20,14 +20,14 @@ use std::alloc::Global;
 pub fn judge_sessions(
     alloc: Global,
     question: &SessionQuestion<'_>,
-    ended: EndedTrades,
+    ended: DayRecords,
 ) -> Result<JudgedSymbols, NoMemory>
     requires phases { ArePhases question.now.phases.now }
     requires fits_places { DayTradesFitPlaces question.now.share AdmitsAll ended }
     ensures { let q = question.now in
         IfOk result (AreJudgedSessionsOfShare q.phases.now q.table q.checks q.share ended) }
 {
-    let EndedTrades {
+    let DayRecords {
         symbols,
         kept,
         count,
@@ -42,7 +42,7 @@ pub fn judge_sessions(
         };
         let times = symbol_records.trade_times(alloc, question.checks.any())?;
         let symbol_trades = symbol_records.resolve(alloc, seed, admission)?;
-        let timed = TimedTrades {
+        let timed = TradesWithTimes {
             symbol_trades,
             count,
             times,

@@ -10,7 +10,7 @@ use crate::questions::SessionQuestion;
 use audit_base::faults::NoMemory;
 use audit_base::names::Name;
 use audit_base::stamps::Stamp;
-use day_verdicts::judging::{JudgedSymbols, TimedTrades};
+use day_verdicts::judging::{JudgedSymbols, TradesWithTimes};
 use day_verdicts::symbol_reports::{SymbolReport, report_after};
 use further_checks::laws::nothing_is_found_unasked;
 use record_verdict::before_rule::BeforeRule;
@@ -45,7 +45,7 @@ pub(crate) fn judge_symbol(
     judged: &mut JudgedSymbols,
     symbol: &Name,
     question: &SessionQuestion<'_>,
-    timed: TimedTrades,
+    timed: TradesWithTimes,
 ) -> Result<(), NoMemory>
     requires phases { ArePhases question.now.phases.now }
     requires few { let q = question.now in
@@ -56,7 +56,7 @@ pub(crate) fn judge_symbol(
         timed.symbol_trades timed.times.items judged.old judged.new) }
 {
     nothing_is_found_unasked();
-    let TimedTrades {
+    let TradesWithTimes {
         symbol_trades,
         count,
         times,

@@ -7,19 +7,19 @@ use Rattle.audit_base.specs.declared.terms.Rule.{Rule}
 use Rattle.audit_report.specs.declared.verdicts.Verdict.{Verdict}
 use Rattle.day_symbols.specs.Shares.{DayShare, symbols_in}
 use Rattle.day_symbols.specs.Symbols.{symbols_of_day}
-use Rattle.day_records.specs.declared.day_trades.EndedTrades.{EndedTrades}
-use Rattle.day_records.specs.declared.symbol_records.SymbolRecords.{SymbolRecords}
-use Rattle.day_records.specs.declared.symbol_trades.SymbolTrades.{SymbolTrades}
-use Rattle.day_records.specs.SymbolRecords.{GivesSymbolTrades}
+use Rattle.day_records.specs.declared.day_trades.DayRecords.{DayRecords}
+use Rattle.day_records.specs.declared.kept_records.KeptRecords.{KeptRecords}
+use Rattle.day_records.specs.declared.symbol_during_trades.SymbolDuringTrades.{SymbolDuringTrades}
+use Rattle.day_records.specs.KeptRecords.{GivesSymbolDuringTrades}
 use Rattle.day_verdicts.specs.DayVerdicts.{IsVerdictOnSymbol}
 use Rattle.day_verdicts.specs.VerdictLists.{HasTakenShare, HasTakenUpTo, HasTakenVerdicts, TakesVerdict}
 use Rattle.day_verdicts.proofs.VerdictSteps.{IsNext, for-each-more, next-gives}
 use Rattle.record_verdict.specs.RecordVerdicts.{IsRecordVerdict, question}
 use Rattle.record_verdict.specs.Scopes.{admission_of}
 
-module _ {L : Type 0} (has_taken : L → List (List ℕ) → List Verdict → Type 0) (rule : Rule) (share : DayShare) (ended : EndedTrades) where
+module _ {L : Type 0} (has_taken : L → List (List ℕ) → List Verdict → Type 0) (rule : Rule) (share : DayShare) (ended : DayRecords) where
   -- one symbol more was judged and handed on
-  taken-next : (n : ℕ) (own : SymbolRecords) (symbol : List ℕ) (symbol_trades : SymbolTrades) (v : Verdict) (old new : L) → IsNext share ended n own symbol → GivesSymbolTrades ended.admission own symbol_trades
+  taken-next : (n : ℕ) (own : KeptRecords) (symbol : List ℕ) (symbol_trades : SymbolDuringTrades) (v : Verdict) (old new : L) → IsNext share ended n own symbol → GivesSymbolDuringTrades ended.admission own symbol_trades
       → IsVerdictOnSymbol (question rule symbol false) ended.count symbol_trades v → TakesVerdict (has_taken old) (has_taken new) symbol v → HasTakenUpTo has_taken rule share ended n old → HasTakenUpTo has_taken rule share ended (n + 1) new
   taken-next n own symbol symbol_trades v old new next gives one takes is = λ entries trades has.
       let symbols : List (List ℕ) = symbols_in share (symbols_of_day entries trades) in
@@ -34,8 +34,8 @@ module _ {L : Type 0} (has_taken : L → List (List ℕ) → List Verdict → Ty
       })
 
   -- the loop goes on with the symbols that are left
-  pub taken-on : (n : ℕ) (own : SymbolRecords) (symbol : List ℕ) (symbol_trades : SymbolTrades) (v : Verdict) (old new : L) (before rest : List SymbolRecords) → IsNext share ended n own symbol → before ++ own ∷ rest ≡ ended.kept.items → n ≡ length before
-      → GivesSymbolTrades ended.admission own symbol_trades → IsVerdictOnSymbol (question rule symbol false) ended.count symbol_trades v → TakesVerdict (has_taken old) (has_taken new) symbol v → HasTakenUpTo has_taken rule share ended n old
+  pub taken-on : (n : ℕ) (own : KeptRecords) (symbol : List ℕ) (symbol_trades : SymbolDuringTrades) (v : Verdict) (old new : L) (before rest : List KeptRecords) → IsNext share ended n own symbol → before ++ own ∷ rest ≡ ended.kept.items → n ≡ length before
+      → GivesSymbolDuringTrades ended.admission own symbol_trades → IsVerdictOnSymbol (question rule symbol false) ended.count symbol_trades v → TakesVerdict (has_taken old) (has_taken new) symbol v → HasTakenUpTo has_taken rule share ended n old
       → ((before ++ own ∷ []) ++ rest ≡ ended.kept.items) × (n + 1 ≡ length (before ++ own ∷ [])) × HasTakenUpTo has_taken rule share ended (n + 1) new
   taken-on n own symbol symbol_trades v old new before rest next all at gives one takes is = (
     append_assoc before (own ∷ []) rest ∙ all,
@@ -44,7 +44,7 @@ module _ {L : Type 0} (has_taken : L → List (List ℕ) → List Verdict → Ty
   )
 
   -- all symbols were judged
-  pub taken-all : (n : ℕ) (before rest : List SymbolRecords) (handed : L) → before ++ rest ≡ ended.kept.items → length rest ≡ 0 → n ≡ length before → HasTakenUpTo has_taken rule share ended n handed → HasTakenShare has_taken rule share ended handed
+  pub taken-all : (n : ℕ) (before rest : List KeptRecords) (handed : L) → before ++ rest ≡ ended.kept.items → length rest ≡ 0 → n ≡ length before → HasTakenUpTo has_taken rule share ended n handed → HasTakenShare has_taken rule share ended handed
   taken-all n before rest handed all none at is = λ entries trades has.
       let symbols : List (List ℕ) = symbols_in share (symbols_of_day entries trades) in
       let size : length before + length rest ≡ length ended.kept.items = sym (length-append before rest) ∙ ap length all in

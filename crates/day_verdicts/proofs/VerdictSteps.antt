@@ -13,12 +13,12 @@ use Rattle.day_symbols.specs.Kept.{AreForEach}
 use Rattle.day_symbols.specs.Shares.{DayShare, symbols_in}
 use Rattle.day_symbols.specs.Symbols.{symbols_of_day}
 use Rattle.day_symbols.proofs.PlaceLemmas.{got-left, got-last}
-use Rattle.day_records.specs.declared.day_trades.EndedTrades.{EndedTrades}
-use Rattle.day_records.specs.declared.symbol_records.SymbolRecords.{SymbolRecords}
-use Rattle.day_records.specs.declared.symbol_trades.SymbolTrades.{SymbolTrades}
+use Rattle.day_records.specs.declared.day_trades.DayRecords.{DayRecords}
+use Rattle.day_records.specs.declared.kept_records.KeptRecords.{KeptRecords}
+use Rattle.day_records.specs.declared.symbol_during_trades.SymbolDuringTrades.{SymbolDuringTrades}
 use Rattle.day_records.specs.DayTrades.{HasTradesOf}
-use Rattle.day_records.specs.SymbolRecords.{GivesSymbolTrades, HasFewSymbolRecords, HasSymbolRecords, times_if}
-use Rattle.day_records.specs.SymbolTrades.{HasFewOfSymbol, IsSymbolTrades}
+use Rattle.day_records.specs.KeptRecords.{GivesSymbolDuringTrades, HasFewKeptRecords, HasKeptRecords, times_if}
+use Rattle.day_records.specs.SymbolDuringTrades.{HasFewOfSymbol, IsSymbolDuringTrades}
 use Rattle.further_checks.specs.declared.findings.FurtherChecks.{FurtherChecks}
 use Rattle.further_checks.specs.FurtherRules.{asks_further}
 use Rattle.day_records.specs.KeptTrades.{KeptDeals}
@@ -61,30 +61,30 @@ abbrev pub shared_symbols : DayShare → List OrderRecord → List TradeRecord �
 shared_symbols share entries trades = symbols_in share (symbols_of_day entries trades)
 
 -- where the next symbol is
-pub record IsNext (share : DayShare) (ended : EndedTrades) (n : ℕ) (own : SymbolRecords) (symbol : List ℕ) : Type 0 where
+pub record IsNext (share : DayShare) (ended : DayRecords) (n : ℕ) (own : KeptRecords) (symbol : List ℕ) : Type 0 where
   pub records_there : slice_get ended.kept.items n ≡ Some own
   pub symbol_there : slice_get (symbols_in share ended.symbols) n ≡ Some symbol
 
-pub next-at : (share : DayShare) (ended : EndedTrades) (n : ℕ) (own : SymbolRecords) (symbol : List ℕ) (before rest : List SymbolRecords) → before ++ own ∷ rest ≡ ended.kept.items → n ≡ length before
+pub next-at : (share : DayShare) (ended : DayRecords) (n : ℕ) (own : KeptRecords) (symbol : List ℕ) (before rest : List KeptRecords) → before ++ own ∷ rest ≡ ended.kept.items → n ≡ length before
     → slice_get (symbols_in share ended.symbols) n ≡ Some symbol → IsNext share ended n own symbol
 next-at share ended n own symbol before rest all at got = record {
-  records_there = ap (slice_get ended.kept.items) at ∙ ap (λ (xs : List SymbolRecords). slice_get xs (length before)) (sym all) ∙ behind-at before own rest;
+  records_there = ap (slice_get ended.kept.items) at ∙ ap (λ (xs : List KeptRecords). slice_get xs (length before)) (sym all) ∙ behind-at before own rest;
   symbol_there = got;
 }
 
 -- the records of it
-pub next-records : (share : DayShare) (admission : Admission) (ended : EndedTrades) (n : ℕ) (own : SymbolRecords) (symbol : List ℕ) → IsNext share ended n own symbol → (entries : List OrderRecord) (trades : List TradeRecord)
-    → HasTradesOf share admission entries ended trades → HasSymbolRecords entries trades symbol own
+pub next-records : (share : DayShare) (admission : Admission) (ended : DayRecords) (n : ℕ) (own : KeptRecords) (symbol : List ℕ) → IsNext share ended n own symbol → (entries : List OrderRecord) (trades : List TradeRecord)
+    → HasTradesOf share admission entries ended trades → HasKeptRecords entries trades symbol own
 next-records share admission ended n own symbol next entries trades has =
     has.records_are.each n symbol own (ap (λ (s : List (List ℕ)). slice_get (symbols_in share s) n) (sym has.symbols_are) ∙ next.symbol_there) next.records_there
 
 -- what they give
-pub next-gives : (share : DayShare) (admission : Admission) (ended : EndedTrades) (n : ℕ) (own : SymbolRecords) (symbol : List ℕ) (symbol_trades : SymbolTrades) → IsNext share ended n own symbol → GivesSymbolTrades ended.admission own symbol_trades
-    → (entries : List OrderRecord) (trades : List TradeRecord) → HasTradesOf share admission entries ended trades → IsSymbolTrades admission entries trades symbol symbol_trades
+pub next-gives : (share : DayShare) (admission : Admission) (ended : DayRecords) (n : ℕ) (own : KeptRecords) (symbol : List ℕ) (symbol_trades : SymbolDuringTrades) → IsNext share ended n own symbol → GivesSymbolDuringTrades ended.admission own symbol_trades
+    → (entries : List OrderRecord) (trades : List TradeRecord) → HasTradesOf share admission entries ended trades → IsSymbolDuringTrades admission entries trades symbol symbol_trades
 next-gives share admission ended n own symbol symbol_trades next gives entries trades has =
-    subst (λ (a : Admission). IsSymbolTrades a entries trades symbol symbol_trades) has.admits (gives entries trades symbol (next-records share admission ended n own symbol next entries trades has))
+    subst (λ (a : Admission). IsSymbolDuringTrades a entries trades symbol symbol_trades) has.admits (gives entries trades symbol (next-records share admission ended n own symbol next entries trades has))
 
-pub next-few-records : (rule : Rule) (share : DayShare) (ended : EndedTrades) (n : ℕ) (own : SymbolRecords) (symbol : List ℕ) → IsNext share ended n own symbol → RuleTradesFitPlaces rule share ended → HasFewSymbolRecords own
+pub next-few-records : (rule : Rule) (share : DayShare) (ended : DayRecords) (n : ℕ) (own : KeptRecords) (symbol : List ℕ) → IsNext share ended n own symbol → RuleTradesFitPlaces rule share ended → HasFewKeptRecords own
 next-few-records rule share ended n own symbol next few = record {
   symbol = symbol;
   entries = few.entries;
@@ -93,7 +93,7 @@ next-few-records rule share ended n own symbol next few = record {
   fits_indices = few.has.fits_indices;
 }
 
-pub next-few : (rule : Rule) (share : DayShare) (ended : EndedTrades) (n : ℕ) (own : SymbolRecords) (symbol : List ℕ) (symbol_trades : SymbolTrades) → IsNext share ended n own symbol → GivesSymbolTrades ended.admission own symbol_trades → RuleTradesFitPlaces rule share ended
+pub next-few : (rule : Rule) (share : DayShare) (ended : DayRecords) (n : ℕ) (own : KeptRecords) (symbol : List ℕ) (symbol_trades : SymbolDuringTrades) → IsNext share ended n own symbol → GivesSymbolDuringTrades ended.admission own symbol_trades → RuleTradesFitPlaces rule share ended
     → HasFewOfSymbol ended.count symbol_trades
 next-few rule share ended n own symbol symbol_trades next gives few = record {
   admission = admission_of rule;
@@ -106,7 +106,7 @@ next-few rule share ended n own symbol symbol_trades next gives few = record {
 }
 
 -- the times of its trades, where they are asked for
-pub next-times : (share : DayShare) (admission : Admission) (ended : EndedTrades) (n : ℕ) (own : SymbolRecords) (symbol : List ℕ) (checks : FurtherChecks) (asked : Bool) (times : List Moment) → IsNext share ended n own symbol → asked ≡ asks_further checks
+pub next-times : (share : DayShare) (admission : Admission) (ended : DayRecords) (n : ℕ) (own : KeptRecords) (symbol : List ℕ) (checks : FurtherChecks) (asked : Bool) (times : List Moment) → IsNext share ended n own symbol → asked ≡ asks_further checks
     → times ≡ times_if asked own.trades.trades → (entries : List OrderRecord) (trades : List TradeRecord) → HasTradesOf share admission entries ended trades → times ≡ asked_times checks symbol trades
 next-times share admission ended n own symbol checks asked times next asked_is times_are entries trades has =
     let own_has = next-records share admission ended n own symbol next entries trades has in
@@ -115,8 +115,8 @@ next-times share admission ended n own symbol checks asked times next asked_is t
     ∙ ap (λ (kept : KeptDeals). times_if (asks_further checks) kept.trades) own_has.trades_are
 
 -- what is known of it, and the times
-pub next-timed : (rule : Rule) (share : DayShare) (ended : EndedTrades) (n : ℕ) (own : SymbolRecords) (symbol : List ℕ) (symbol_trades : SymbolTrades) (checks : FurtherChecks) (asked : Bool) (times : List Moment) → IsNext share ended n own symbol
-    → asked ≡ asks_further checks → times ≡ times_if asked own.trades.trades → GivesSymbolTrades ended.admission own symbol_trades → RuleTradesFitPlaces rule share ended → HasFewTimed checks ended.count symbol_trades times
+pub next-timed : (rule : Rule) (share : DayShare) (ended : DayRecords) (n : ℕ) (own : KeptRecords) (symbol : List ℕ) (symbol_trades : SymbolDuringTrades) (checks : FurtherChecks) (asked : Bool) (times : List Moment) → IsNext share ended n own symbol
+    → asked ≡ asks_further checks → times ≡ times_if asked own.trades.trades → GivesSymbolDuringTrades ended.admission own symbol_trades → RuleTradesFitPlaces rule share ended → HasFewTimed checks ended.count symbol_trades times
 unfolding next-few
 next-timed rule share ended n own symbol symbol_trades checks asked times next asked_is times_are gives few = record {
   few = next-few rule share ended n own symbol symbol_trades next gives few;
@@ -124,8 +124,8 @@ next-timed rule share ended n own symbol symbol_trades checks asked times next a
 }
 
 -- one symbol more was judged
-pub judged-next : (rule : Rule) (table : Bool) (checks : FurtherChecks) (share : DayShare) (ended : EndedTrades) (n : ℕ) (own : SymbolRecords) (symbol : List ℕ) (symbol_trades : SymbolTrades) (asked : Bool) (times : List Moment) (old new : JudgedSymbols)
-    → IsNext share ended n own symbol → asked ≡ asks_further checks → times ≡ times_if asked own.trades.trades → GivesSymbolTrades ended.admission own symbol_trades
+pub judged-next : (rule : Rule) (table : Bool) (checks : FurtherChecks) (share : DayShare) (ended : DayRecords) (n : ℕ) (own : KeptRecords) (symbol : List ℕ) (symbol_trades : SymbolDuringTrades) (asked : Bool) (times : List Moment) (old new : JudgedSymbols)
+    → IsNext share ended n own symbol → asked ≡ asks_further checks → times ≡ times_if asked own.trades.trades → GivesSymbolDuringTrades ended.admission own symbol_trades
     → AddsVerdictOnSymbol (question rule symbol table) checks ended.count symbol_trades times old new → IsJudgedUpTo rule table checks share ended n old → IsJudgedUpTo rule table checks share ended (n + 1) new
 judged-next rule table checks share ended n own symbol symbol_trades asked times old new next asked_is times_are gives one is = λ entries trades has.
     let symbols : List (List ℕ) = shared_symbols share entries trades in
@@ -143,7 +143,7 @@ judged-next rule table checks share ended n own symbol symbol_trades asked times
     })
 
 -- there is room to count one symbol more
-pub room-for : (rule : Rule) (table : Bool) (checks : FurtherChecks) (share : DayShare) (ended : EndedTrades) (n : ℕ) (judged : JudgedSymbols) → n < length ended.kept.items → length ended.kept.items < 2 ^ 64 → RuleTradesFitPlaces rule share ended → IsJudgedUpTo rule table checks share ended n judged
+pub room-for : (rule : Rule) (table : Bool) (checks : FurtherChecks) (share : DayShare) (ended : DayRecords) (n : ℕ) (judged : JudgedSymbols) → n < length ended.kept.items → length ended.kept.items < 2 ^ 64 → RuleTradesFitPlaces rule share ended → IsJudgedUpTo rule table checks share ended n judged
     → HasRoomForOne judged.counts
 room-for rule table checks share ended n judged lt few_parts few is =
     let before = is few.entries few.trades few.has in
@@ -153,7 +153,7 @@ room-for rule table checks share ended n judged lt few_parts few is =
     room-for-one (take n symbols) (told_of_symbols checks few.entries few.trades (take n symbols) before.verdicts) judged before.tells (omega (arith, told, count, lt, few_parts))
 
 -- all symbols were judged
-pub judged-all : (rule : Rule) (table : Bool) (checks : FurtherChecks) (share : DayShare) (ended : EndedTrades) (n : ℕ) (before rest : List SymbolRecords) (judged : JudgedSymbols) → before ++ rest ≡ ended.kept.items → length rest ≡ 0 → n ≡ length before
+pub judged-all : (rule : Rule) (table : Bool) (checks : FurtherChecks) (share : DayShare) (ended : DayRecords) (n : ℕ) (before rest : List KeptRecords) (judged : JudgedSymbols) → before ++ rest ≡ ended.kept.items → length rest ≡ 0 → n ≡ length before
     → IsJudgedUpTo rule table checks share ended n judged → IsJudgedShare rule table checks share ended judged
 judged-all rule table checks share ended n before rest judged all none at is = λ entries trades has.
     let symbols : List (List ℕ) = shared_symbols share entries trades in

@@ -11,19 +11,19 @@ use Rattle.audit_report.specs.declared.day_line.DayCounts.{DayCounts}
 use Rattle.day_symbols.specs.Kept.{AreForEach}
 use Rattle.day_symbols.specs.Shares.{DayShare, symbols_in}
 use Rattle.day_symbols.specs.Symbols.{symbols_of_day}
-use Rattle.day_records.specs.declared.day_trades.EndedTrades.{EndedTrades}
-use Rattle.day_records.specs.declared.symbol_trades.SymbolTrades.{SymbolTrades}
+use Rattle.day_records.specs.declared.day_trades.DayRecords.{DayRecords}
+use Rattle.day_records.specs.declared.symbol_during_trades.SymbolDuringTrades.{SymbolDuringTrades}
 use Rattle.day_records.specs.DayTrades.{HasTradesOf}
-use Rattle.day_records.specs.SymbolTrades.{IsSymbolTrades}
+use Rattle.day_records.specs.SymbolDuringTrades.{IsSymbolDuringTrades}
 use Rattle.day_verdicts.specs.declared.judging.JudgedSymbols.{JudgedSymbols}
 use Rattle.day_verdicts.specs.declared.symbol_reports.SymbolReport.{SymbolReport}
 use Rattle.day_verdicts.specs.CheckedSymbols.{after_checks, after_given, asked_times}
-use Rattle.day_verdicts.specs.ToldSymbols.{AddsTold, Told, TellsSymbols, tell_each, told_by}
+use Rattle.day_verdicts.specs.SymbolAnswers.{AddsTold, SymbolAnswer, TellsSymbols, tell_each, told_by}
 use Rattle.further_checks.specs.declared.findings.FurtherChecks.{FurtherChecks}
 use Rattle.record_verdict.specs.declared.before_rule.BeforeRule.{BeforeRule}
 use Rattle.record_verdict.specs.declared.questions.Question.{Question}
-use Rattle.record_verdict.specs.declared.verdicts.Judged.{Judged}
-use Rattle.record_verdict.specs.Judged.{as_verdict}
+use Rattle.record_verdict.specs.declared.verdicts.RecordVerdict.{RecordVerdict}
+use Rattle.record_verdict.specs.RecordVerdict.{as_verdict}
 use Rattle.record_verdict.specs.RecordVerdicts.{IsRecordVerdict, question}
 use Rattle.record_verdict.specs.Scopes.{admission_of}
 use Rattle.record_verdict.specs.Stages.{IsVerdictAfterStages}
@@ -44,19 +44,19 @@ is_acceptance (verdict.Rejected finding) = false
 is_acceptance (verdict.Malformed log bad) = false
 
 -- what a verdict tells
-abbrev pub told_by_verdict : Verdict → Told
+abbrev pub told_by_verdict : Verdict → SymbolAnswer
 told_by_verdict the_verdict =
     record { accepted = is_acceptance the_verdict; text = verdict_text the_verdict }
 
 -- what is told of a symbol by its verdict, and then by the checks that are asked for
 abbrev pub told_of_symbol : FurtherChecks → List OrderRecord → List TradeRecord → List ℕ → Verdict
-    → Told
+    → SymbolAnswer
 told_of_symbol checks entries trades symbol the_verdict =
     after_checks checks entries trades symbol (told_by_verdict the_verdict)
 
 -- what is told of each of these symbols
 abbrev pub told_of_symbols : FurtherChecks → List OrderRecord → List TradeRecord → List (List ℕ)
-    → List Verdict → List Told
+    → List Verdict → List SymbolAnswer
 told_of_symbols checks entries trades symbols verdicts =
     tell_each (told_of_symbol checks entries trades) symbols verdicts
 
@@ -72,10 +72,10 @@ pub record IsJudgedDay (rule : Rule) (table : Bool) (checks : FurtherChecks)
 
 -- of whatever records this is known of the symbol, this is the verdict on them that the question
 -- asks for
-abbrev pub IsVerdictOnSymbol : Question → ℕ → SymbolTrades → Verdict → Type 0
+abbrev pub IsVerdictOnSymbol : Question → ℕ → SymbolDuringTrades → Verdict → Type 0
 IsVerdictOnSymbol q count symbol_trades the_verdict =
     (entries : List OrderRecord) (trades : List TradeRecord)
-    → IsSymbolTrades (admission_of q.rule) entries trades q.symbol symbol_trades
+    → IsSymbolDuringTrades (admission_of q.rule) entries trades q.symbol symbol_trades
     → count ≡ length trades
     → IsRecordVerdict q entries (Ok trades) the_verdict
 
@@ -87,35 +87,35 @@ pub record HasRoomForOne (counts : DayCounts) : Type 0 where
 
 -- of whatever records this is known of the symbol, this is told of it by the verdict, and then by
 -- the checks, with these times of its trades
-abbrev pub IsToldOfSymbol : Question → FurtherChecks → ℕ → SymbolTrades → List Moment → Verdict
-    → Told → Type 0
+abbrev pub IsToldOfSymbol : Question → FurtherChecks → ℕ → SymbolDuringTrades → List Moment → Verdict
+    → SymbolAnswer → Type 0
 IsToldOfSymbol q checks count symbol_trades times the_verdict told =
     (entries : List OrderRecord) (trades : List TradeRecord)
-    → IsSymbolTrades (admission_of q.rule) entries trades q.symbol symbol_trades
+    → IsSymbolDuringTrades (admission_of q.rule) entries trades q.symbol symbol_trades
     → count ≡ length trades → times ≡ asked_times checks q.symbol trades
     → told ≡ told_of_symbol checks entries trades q.symbol the_verdict
 
 -- This is told of what was given by the verdict on it, and then by the checks.
 pub record TellsVerdict (q : Question) (checks : FurtherChecks) (given : BeforeRule)
     (times : List Moment) (report : SymbolReport) : Type 0 where
-  pub one : Judged
+  pub one : RecordVerdict
   pub is : IsVerdictAfterStages q given one
   pub told_is : told_by report ≡ after_given checks given times (told_by_verdict (as_verdict one))
 
 -- What the verdict that the question asks for, and then the checks tell of the symbol is counted
 -- and written.
 pub record AddsVerdictOnSymbol (q : Question) (checks : FurtherChecks) (count : ℕ)
-    (symbol_trades : SymbolTrades) (times : List Moment) (old new : JudgedSymbols)
+    (symbol_trades : SymbolDuringTrades) (times : List Moment) (old new : JudgedSymbols)
     : Type 0 where
   pub one : Verdict
   pub is : IsVerdictOnSymbol q count symbol_trades one
-  pub told : Told
+  pub told : SymbolAnswer
   pub told_is : IsToldOfSymbol q checks count symbol_trades times one told
   pub adds : AddsTold old new q.symbol told
 
 -- whatever records the day has, these are the counts and lines of the verdicts on this many first
 -- symbols of the share
-abbrev pub IsJudgedUpTo : Rule → Bool → FurtherChecks → DayShare → EndedTrades → ℕ
+abbrev pub IsJudgedUpTo : Rule → Bool → FurtherChecks → DayShare → DayRecords → ℕ
     → JudgedSymbols → Type 0
 IsJudgedUpTo rule table checks share ended n judged =
     (entries : List OrderRecord) (trades : List TradeRecord)
@@ -125,7 +125,7 @@ IsJudgedUpTo rule table checks share ended n judged =
 
 -- whatever records the day has, these are the counts and lines of the verdicts on the symbols of
 -- the share
-abbrev pub IsJudgedShare : Rule → Bool → FurtherChecks → DayShare → EndedTrades → JudgedSymbols
+abbrev pub IsJudgedShare : Rule → Bool → FurtherChecks → DayShare → DayRecords → JudgedSymbols
     → Type 0
 IsJudgedShare rule table checks share ended judged =
     (entries : List OrderRecord) (trades : List TradeRecord)
@@ -134,7 +134,7 @@ IsJudgedShare rule table checks share ended judged =
     (symbols_in share (symbols_of_day entries trades)) judged
 
 -- the day has some records, of trades fewer than there are places
-pub record RuleTradesFitPlaces (rule : Rule) (share : DayShare) (ended : EndedTrades) : Type 0 where
+pub record RuleTradesFitPlaces (rule : Rule) (share : DayShare) (ended : DayRecords) : Type 0 where
   pub entries : List OrderRecord
   pub trades : List TradeRecord
   pub has : HasTradesOf share (admission_of rule) entries ended trades

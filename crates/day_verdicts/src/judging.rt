@@ -1,12 +1,12 @@
 //! The verdict on each symbol of a share, one symbol after another.
 ghost use Rattle.std.specs.Prelude.{◌≡◌, ◌++◌, IfOk, OnOk};
 ghost use Rattle.audit_report.specs.DayTexts.{day_line};
-ghost use Rattle.day_records.specs.SymbolTrades.{HasFewOfSymbol};
+ghost use Rattle.day_records.specs.SymbolDuringTrades.{HasFewOfSymbol};
 ghost use Rattle.record_verdict.specs.BeforeRule.{IsJudgeable};
-ghost use Rattle.record_verdict.specs.Judged.{as_verdict, IsJudgedInRange};
+ghost use Rattle.record_verdict.specs.RecordVerdict.{as_verdict, IsJudgedInRange};
 ghost use Rattle.day_verdicts.specs.CheckedSymbols.{HasFewTimed, HasTimes};
 ghost use Rattle.day_verdicts.specs.DayVerdicts as day;
-ghost use Rattle.day_verdicts.specs.ToldSymbols.{told_by, with_one, AddsTold, IsNothingTold};
+ghost use Rattle.day_verdicts.specs.SymbolAnswers.{told_by, with_one, AddsTold, IsNothingTold};
 
 use crate::symbol_reports::{SymbolReport, report_after};
 use audit_base::faults::NoMemory;
@@ -16,23 +16,23 @@ use audit_base::terms::Rule;
 use audit_report::day_line::{DayCounts, append_day_line};
 use audit_report::reports::report_text;
 use audit_report::symbol_lines::append_symbol_lines;
-use day_records::day_trades::EndedTrades;
-use day_records::symbol_trades::SymbolTrades;
+use day_records::day_trades::DayRecords;
+use day_records::symbol_during_trades::SymbolDuringTrades;
 use day_symbols::shares::DayShare;
 use further_checks::findings::FurtherChecks;
 use further_checks::laws::nothing_is_found_unasked;
 use record_verdict::before_rule::BeforeRule;
 use record_verdict::questions::Question;
-use record_verdict::verdicts::{Judged, verdict_after};
+use record_verdict::verdicts::{RecordVerdict, verdict_after};
 use std::alloc::Global;
 
 /// The verdict on a symbol of a day, by what is known of it, whose memory is freed.
 pub(crate) fn verdict_of(
     alloc: Global,
     question: &Question,
-    symbol_trades: SymbolTrades,
+    symbol_trades: SymbolDuringTrades,
     count: u32,
-) -> Result<Judged, NoMemory>
+) -> Result<RecordVerdict, NoMemory>
     requires { HasFewOfSymbol count symbol_trades }
     ensures judged { IfOk result (λ judged.
         day.IsVerdictOnSymbol question.now count symbol_trades (as_verdict judged)) }
@@ -43,12 +43,12 @@ pub(crate) fn verdict_of(
 }
 
 /// Whether a verdict is that the records are accepted.
-fn is_acceptance(judged: &Judged) -> bool
+fn is_acceptance(judged: &RecordVerdict) -> bool
     ensures { result ≡ day.is_acceptance (as_verdict judged.now) }
 {
     match judged {
-        Judged::Accepted(_) => true,
-        Judged::Rejected(_) => false,
+        RecordVerdict::Accepted(_) => true,
+        RecordVerdict::Rejected(_) => false,
     }
 }
 
@@ -72,8 +72,8 @@ fn report_of(
 
 /// What is known of a symbol after all trades of a day.
 #[derive(Drop)]
-pub struct TimedTrades {
-    pub symbol_trades: SymbolTrades,
+pub struct TradesWithTimes {
+    pub symbol_trades: SymbolDuringTrades,
     /// How many trades the day has, of all symbols.
     pub count: u32,
     /// The times of the trades of the symbol, where a further check is asked for.
@@ -130,7 +130,7 @@ impl JudgedSymbols {
         alloc: Global,
         question: &Question,
         checks: FurtherChecks,
-        timed: TimedTrades,
+        timed: TradesWithTimes,
     ) -> Result<(), NoMemory>
         requires few { HasFewTimed checks timed.count timed.symbol_trades timed.times.items }
         requires room { day.HasRoomForOne self.old.counts }
@@ -138,7 +138,7 @@ impl JudgedSymbols {
             timed.symbol_trades timed.times.items self.old self.new) }
     {
         nothing_is_found_unasked();
-        let TimedTrades {
+        let TradesWithTimes {
             symbol_trades,
             count,
             times,
@@ -172,12 +172,12 @@ pub fn judge_day(
     table: bool,
     checks: FurtherChecks,
     share: DayShare,
-    ended: EndedTrades,
+    ended: DayRecords,
 ) -> Result<JudgedSymbols, NoMemory>
     requires { day.RuleTradesFitPlaces rule share ended }
     ensures { IfOk result (day.IsJudgedShare rule table checks share ended) }
 {
-    let EndedTrades {
+    let DayRecords {
         symbols,
         kept,
         count,
@@ -197,7 +197,7 @@ pub fn judge_day(
             symbol: *symbol,
             table,
         };
-        let timed = TimedTrades {
+        let timed = TradesWithTimes {
             symbol_trades,
             count,
             times,

@@ -19,7 +19,7 @@ use Rattle.day_logs.specs.declared.before_rule.DayBeforeRule.{DayBeforeRule}
 use Rattle.day_logs.specs.declared.before_rule.DayBeforeRule.TheVariants as before_rule
 use Rattle.day_symbols.specs.Shares.{whole_day}
 use Rattle.day_records.specs.DayTrades.{HasTradesOf}
-use Rattle.day_records.specs.declared.day_trades.EndedTrades.{EndedTrades}
+use Rattle.day_records.specs.declared.day_trades.DayRecords.{DayRecords}
 use Rattle.desk_words.specs.declared.requests.NamedLogs.{NamedLogs}
 use Rattle.log_digests.specs.declared.digests.LogDigests.{LogDigests}
 use Rattle.digest_keeper.specs.declared.digested.KeptCase.{KeptCase}
@@ -97,7 +97,7 @@ module _ (r : Reading) (request : FilingRequest) (orders trades : Source) (names
       (λ tells. one_digest (r.log_of Orders request.logs.orders) reads.orders digests.orders (reads.orders_read.known tells) (takes.of_orders tells reads.orders_read.started reads.orders_read.at_end))
       (λ tells. one_digest (r.log_of Trades request.logs.trades) reads.trades digests.trades (reads.trades_read.known tells) (takes.of_trades tells reads.trades_read.started reads.trades_read.at_end))
 
-  module _ (ended : EndedTrades) (reads : ReadsRecords r request.logs (On (before_rule.Read ended))) (digests : LogDigests) (takes : TakesDigests r request.logs digests) where
+  module _ (ended : DayRecords) (reads : ReadsRecords r request.logs (On (before_rule.Read ended))) (digests : LogDigests) (takes : TakesDigests r request.logs digests) where
     -- the cases of the records that the day has
     by_records : (given : FilingOutcome) → JudgesDay request.label the_rule digests ended given → (records : List TradeRecord) → reads.paired ≡ Ok records → HasTradesOf whole_day (admission_of the_rule) reads.entries ended records → ReadsJudged r request given
     by_records (judged.Cases cases) judges records same has =
@@ -141,7 +141,7 @@ module _ (r : Reading) (request : FilingRequest) (orders trades : Source) (names
     by_paired given judges (Err finding) same has = absurd has
 
   -- the verdicts on its symbols
-  judges_read : (ended : EndedTrades) (digests : LogDigests) → TakesDigests r request.logs digests → (given : FilingOutcome) → JudgesDay request.label the_rule digests ended given
+  judges_read : (ended : DayRecords) (digests : LogDigests) → TakesDigests r request.logs digests → (given : FilingOutcome) → JudgesDay request.label the_rule digests ended given
       → AreRead (before_rule.Read ended) → ReadsJudged r request given
   judges_read ended digests takes given judges reads = ⊎_elim
       (λ records. by_paired ended records digests takes given judges records.paired refl records.holds)

@@ -41,11 +41,11 @@ use std::random::RandomSource;
 use stderr_notes::command_line::{CommandLine, words_of};
 use stderr_notes::noted_shelf::NotedShelf;
 use stderr_notes::notes::Notes;
-use stderr_notes::program_ends::{Ended, UsedEnds, fresh_output, noted_files};
+use stderr_notes::program_ends::{ProgramEnd, UsedEnds, fresh_output, noted_files};
 
 /// How a run ended, and the shelf that its logs were read from.
 #[derive(Drop)]
-struct Answered<F> {
+struct DeskRunEnd<F> {
     end: DeskEnd,
     shelf: NotedShelf<F>,
 }
@@ -58,7 +58,7 @@ fn run_words<R: AllocGlobal + RandomSource, F: Shelf, K: Sink, O: ClosingDigests
     out: &mut K,
     opener: &mut O,
     notes: &N,
-) -> Answered<F>
+) -> DeskRunEnd<F>
     requires fresh { (which : Which) →
         (⟦<NotedShelf<F> as Shelf>⟧.slot shelf which).started ≡ false }
     ensures { let shelves = ⟦<NotedShelf<F> as Shelf>⟧ in
@@ -70,7 +70,7 @@ fn run_words<R: AllocGlobal + RandomSource, F: Shelf, K: Sink, O: ClosingDigests
     let ran = ask_call(machine.alloc(), seed_of(machine), words, shelf, out, opener);
     tell_made_database(notes, words, was_missing);
     tell(notes, ran.status, words, &ran.back, &ran.stop);
-    Answered {
+    DeskRunEnd {
         end: ran.status,
         shelf: ran.back,
     }
@@ -83,7 +83,7 @@ fn answer_words<
     K: Sink,
     O: ClosingDigests,
     N: Notes,
->(machine: &R, shelf: NotedShelf<F>, out: &mut K, opener: &mut O, notes: &N) -> Answered<F>
+>(machine: &R, shelf: NotedShelf<F>, out: &mut K, opener: &mut O, notes: &N) -> DeskRunEnd<F>
     requires fresh { (which : Which) →
         (⟦<NotedShelf<F> as Shelf>⟧.slot shelf which).started ≡ false }
     ensures { let shelves = ⟦<NotedShelf<F> as Shelf>⟧ in
@@ -94,7 +94,7 @@ fn answer_words<
 {
     match words_of(machine) {
         Ok(words) => run_words(machine, &words, shelf, out, opener, notes),
-        Err(_) => Answered {
+        Err(_) => DeskRunEnd {
             end: DeskEnd::Run(Status::Memory),
             shelf,
         },
@@ -113,7 +113,7 @@ pub fn answer_command_line<
     W: Output + Drop,
     O: ClosingDigests,
     N: Notes,
->(machine: &R, files: S, output: W, opener: &mut O, notes: &N) -> Ended<S, W>
+>(machine: &R, files: S, output: W, opener: &mut O, notes: &N) -> ProgramEnd<S, W>
     ensures { let shelf = ⟦<NotedShelf<FileShelf<S>> as Shelf>⟧ in
         let state = ⟦<StdSink<W> as Sink>⟧.state in
         EndsAsAnswer (DeskAnswersWords shelf O.state O.closes) (ended.Run status.Memory)
@@ -128,7 +128,7 @@ pub fn answer_command_line<
     let shelf = noted_files(machine.alloc(), files);
     let mut out = fresh_output(output);
     let answered = answer_words(machine, shelf, &mut out, opener, notes);
-    Ended {
+    ProgramEnd {
         code: exit_code(answered.end),
         ends: UsedEnds {
             shelf: answered.shelf,

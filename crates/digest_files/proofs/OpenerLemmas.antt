@@ -4,12 +4,12 @@ use Rattle.std.proofs.Common.{◌≡◌, sym, ◌∙◌, refl, arith, ℕ, true,
 use Rattle.case_keeper.specs.declared.keeper.KeepFault.TheVariants.{Failed}
 use Rattle.digest_keeper.specs.DigestKeepers.{DigestKeeperState}
 use Rattle.desk_filing.specs.DigestOpeners.{DigestOpenerState, OpensDatabase}
-use Rattle.desk_filing.specs.declared.opener.Missing.{Missing}
+use Rattle.desk_filing.specs.declared.opener.MissingDatabase.{MissingDatabase}
 use Rattle.casebook_program.specs.SystemCalls.{KnownCalls}
 use Rattle.casebook_program.specs.declared.database_files.DatabaseFile.{DatabaseFile}
 use Rattle.digest_files.specs.FileDigestOpeners.{AsksWhereItMay, OpensWhereItMay}
 
-pub opens_untold : {B : Type 0} (state : B → DigestKeeperState) (old : DigestOpenerState) (path : List ℕ) (missing : Missing) (book : B)
+pub opens_untold : {B : Type 0} (state : B → DigestKeeperState) (old : DigestOpenerState) (path : List ℕ) (missing : MissingDatabase) (book : B)
     → (state book).faults ≡ 0 → old.tells ≡ false → OpensDatabase state old old path missing (Ok book)
 opens_untold state old path missing book fresh silent =
     record {
@@ -24,7 +24,7 @@ opens_untold state old path missing book fresh silent =
     opened_is_refused : Ok book ≡ Err Failed → ⊥
     opened_is_refused is = cc
 
-pub asks_unopened : (path : List ℕ) (missing : Missing) (place : Option DatabaseFile) (old new : KnownCalls)
+pub asks_unopened : (path : List ℕ) (missing : MissingDatabase) (place : Option DatabaseFile) (old new : KnownCalls)
     → AsksWhereItMay path missing false old new → OpensWhereItMay path missing false place old new
 asks_unopened path missing place old new asks =
     record { may = asks.may; mid = asks.mid; looked = asks.looked; asked = asks.asked }

@@ -7,8 +7,8 @@ use Rattle.casebook_program.specs.Databases.{AsksForDatabase, OpensUnderPath}
 use Rattle.casebook_program.specs.SystemCalls.{KnownCalls, MakesCalls, LooksFor}
 use Rattle.casebook_program.specs.declared.database_files.DatabaseFile.{DatabaseFile}
 use Rattle.desk_filing.specs.DigestOpeners.{DigestOpenerState}
-use Rattle.desk_filing.specs.declared.opener.Missing.{Missing}
-use Rattle.desk_filing.specs.declared.opener.Missing.TheVariants.{Make, Refuse}
+use Rattle.desk_filing.specs.declared.opener.MissingDatabase.{MissingDatabase}
+use Rattle.desk_filing.specs.declared.opener.MissingDatabase.TheVariants.{Make, Refuse}
 use Rattle.log_source.specs.Calls.{faults_after}
 use Rattle.digest_files.specs.declared.file_opener.FileDigestOpener.{FileDigestOpener}
 
@@ -31,13 +31,13 @@ RefusesDatabase old new result =
 
 -- a database may be opened under a path: always, where one that is not there is to be made; else
 -- where the system says that something is there
-abbrev pub MayOpen : List ℕ → Missing → Bool → KnownCalls → KnownCalls → Type 0
+abbrev pub MayOpen : List ℕ → MissingDatabase → Bool → KnownCalls → KnownCalls → Type 0
 MayOpen path Make may old new = (may ≡ true) × (new ≡ old)
 MayOpen path Refuse may old new = MakesCalls (LooksFor path may ∷ []) old new
 
 -- The database under a path was asked for where it may be opened; where it may not, nothing more was
 -- asked of the system, and so nothing made.
-pub record AsksWhereItMay (path : List ℕ) (missing : Missing) (opened : Bool)
+pub record AsksWhereItMay (path : List ℕ) (missing : MissingDatabase) (opened : Bool)
     (old new : KnownCalls) : Type 0 where
   pub may : Bool
   pub mid : KnownCalls
@@ -47,7 +47,7 @@ pub record AsksWhereItMay (path : List ℕ) (missing : Missing) (opened : Bool)
 
 -- The database under a path was opened, or refused, where it may be opened, and where it was opened
 -- it was asked where it is; where it may not, nothing more was asked of the system.
-pub record OpensWhereItMay (path : List ℕ) (missing : Missing) (opened : Bool)
+pub record OpensWhereItMay (path : List ℕ) (missing : MissingDatabase) (opened : Bool)
     (place : Option DatabaseFile) (old new : KnownCalls) : Type 0 where
   pub may : Bool
   pub mid : KnownCalls

@@ -6,10 +6,10 @@ ghost use Rattle.digest_files.specs.ClosedFilings.{FilesThenCloses};
 
 use case_run::statuses::CaseStatus;
 use desk_filing::opener::DigestOpener;
-use desk_filing::running::{HandedBack, run_filing_seeded};
+use desk_filing::running::{ShelfAndKeeper, run_filing_seeded};
 use log_source::shelf::Shelf;
 use log_source::sink::Sink;
-use log_verdict::runs::Ran;
+use log_verdict::runs::RunEnd;
 use seeded_hash::seed::HashSeed;
 use std::alloc::Global;
 
@@ -37,17 +37,17 @@ pub fn file_and_close<F: Shelf, K: Sink, O: ClosingDigests>(
     shelf: F,
     out: &mut K,
     opener: &mut O,
-) -> Ran<CaseStatus, F>
+) -> RunEnd<CaseStatus, F>
     requires fresh { (which : Which) → (F.slot shelf which).started ≡ false }
     ensures { FilesThenCloses F.Shelf O.state O.closes shelf result.back opener.old opener.new
         (map string_bytes words.now) (K.state out.old) (K.state out.new) result.status }
 {
-    let Ran { status, stop, back } = run_filing_seeded(alloc, seed, words, shelf, out, opener);
-    let HandedBack { shelf, keeper } = back;
+    let RunEnd { status, stop, back } = run_filing_seeded(alloc, seed, words, shelf, out, opener);
+    let ShelfAndKeeper { shelf, keeper } = back;
     if let Some(keeper) = keeper {
         opener.close(keeper);
     }
-    Ran {
+    RunEnd {
         status,
         stop,
         back: shelf,

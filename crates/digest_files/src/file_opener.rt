@@ -11,7 +11,7 @@ use case_keeper::keeper::KeepFault;
 use casebook_program::database_files::DatabaseFile;
 use casebook_program::database_system::DatabaseSystem;
 use casebook_program::databases::{close_database, open_database};
-use desk_filing::opener::{DigestOpener, Missing};
+use desk_filing::opener::{DigestOpener, MissingDatabase};
 use digest_sqlite::sql_digest_keeper::SqlDigestKeeper;
 use sqlite::{Alter, Connection};
 use std::alloc::Global;
@@ -34,12 +34,12 @@ pub struct FileDigestOpener<D> {
 }
 
 /// Whether a database may be opened under a path: there is a file, or one is to be made.
-fn may_open<D: DatabaseSystem>(system: &mut D, path: &str, missing: Missing) -> bool
+fn may_open<D: DatabaseSystem>(system: &mut D, path: &str, missing: MissingDatabase) -> bool
     ensures { MayOpen path.now missing result (D.calls system.old) (D.calls system.new) }
 {
     match missing {
-        Missing::Make => true,
-        Missing::Refuse => system.look_for(path),
+        MissingDatabase::Make => true,
+        MissingDatabase::Refuse => system.look_for(path),
     }
 }
 
@@ -48,7 +48,7 @@ fn open_keeper<S: Alter, D: DatabaseSystem<Connection = Connection<S>>>(
     alloc: Global,
     system: &mut D,
     path: &str,
-    missing: Missing,
+    missing: MissingDatabase,
 ) -> Result<SqlDigestKeeper<S>, KeepFault>
     ensures refused { is_path path.now ≡ false → result ≡ Err KeepFault.Failed }
     ensures asked { AsksWhereItMay path.now missing (is_ok result)
@@ -93,7 +93,7 @@ impl<S: Alter + Drop, D: DatabaseSystem<Connection = Connection<S>>> DigestOpene
 
     ghost state = { digest_file_opener_state };
 
-    fn open(&mut self, path: &str, missing: Missing) -> Result<SqlDigestKeeper<S>, KeepFault>
+    fn open(&mut self, path: &str, missing: MissingDatabase) -> Result<SqlDigestKeeper<S>, KeepFault>
         ensures opens { OpensDatabase sql_digest_state (digest_file_opener_state self.old)
             (digest_file_opener_state self.new) path.now missing result }
         // A path that is empty or begins with `-` is refused, and counted as a fault.

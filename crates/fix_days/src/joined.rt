@@ -5,19 +5,19 @@ use std::alloc::Global;
 
 /// The bodies, each with `;` after it.
 #[derive(Drop)]
-pub struct Joined {
+pub struct JoinedBodies {
     pub text: Vec<u8>,
 }
 
-impl Joined {
+impl JoinedBodies {
     pub fn new(alloc: Global) -> Self {
-        Joined {
+        JoinedBodies {
             text: Vec::new(alloc),
         }
     }
 }
 
-impl Bodies for Joined {
+impl Bodies for JoinedBodies {
     ghost use Rattle.std.specs.Prelude.{⊤};
 
     ghost has_taken = { λ _ _. ⊤ };

@@ -42,7 +42,7 @@ pub struct UsedEnds<S: FileSystem, W> {
 
 /// How a program ended: the exit code of its process, and what it hands back.
 #[derive(Drop)]
-pub struct Ended<S: FileSystem, W> {
+pub struct ProgramEnd<S: FileSystem, W> {
     pub code: ExitCode,
     pub ends: UsedEnds<S, W>,
 }

@@ -2,7 +2,7 @@ ghost use Rattle.std.specs.Prelude.{◌≤◌, length};
 
 use super::*;
 use crate::faults::BadMessage;
-use crate::joined::Joined;
+use crate::joined::JoinedBodies;
 use crate::read_day::ReadDay;
 use audit_base::terms::Which;
 use fix_framing::frames::FrameFault;
@@ -94,12 +94,12 @@ const BAD: [(&[u8], &[u8], u32, u64, FrameFault); 11] = [
 ];
 
 /// The bodies of the day, read in pieces of this size.
-fn read_in_pieces(alloc: Global, day: &[u8], piece: usize) -> Result<ReadDay<Joined>, NoMemory>
+fn read_in_pieces(alloc: Global, day: &[u8], piece: usize) -> Result<ReadDay<JoinedBodies>, NoMemory>
     requires { 1 ≤ piece }
 {
     let mut shelf = MemoryShelf::new(alloc, piece, Vec::new(alloc));
     shelf.put(String::new(alloc), Vec::from_slice(alloc, day)?)?;
-    let mut feed = FramedFeed::over(alloc, Joined::new(alloc));
+    let mut feed = FramedFeed::over(alloc, JoinedBodies::new(alloc));
     if pump(&mut shelf, Which::Orders, "", LONGEST_READ, &mut feed).is_err() {
         return Err(NoMemory);
     }
@@ -107,18 +107,18 @@ fn read_in_pieces(alloc: Global, day: &[u8], piece: usize) -> Result<ReadDay<Joi
 }
 
 /// The bodies of the day, read in two pieces.
-fn read_cut(alloc: Global, day: &[u8], cut: usize) -> Result<ReadDay<Joined>, NoMemory>
+fn read_cut(alloc: Global, day: &[u8], cut: usize) -> Result<ReadDay<JoinedBodies>, NoMemory>
     requires within { cut ≤ length day.now }
     requires short { length day.now ≤ 1000 }
 {
-    let mut feed = FramedFeed::over(alloc, Joined::new(alloc));
+    let mut feed = FramedFeed::over(alloc, JoinedBodies::new(alloc));
     feed.feed(&day[..cut])?;
     feed.feed(&day[cut..])?;
     feed.close()
 }
 
 /// Whether the day was read as these bodies and this first bad message.
-fn is_read(read: &Result<ReadDay<Joined>, NoMemory>, text: &[u8], bad: Option<BadMessage>) -> bool {
+fn is_read(read: &Result<ReadDay<JoinedBodies>, NoMemory>, text: &[u8], bad: Option<BadMessage>) -> bool {
     matches!(read, Ok(day) if day.bodies.text.as_slice() == text && day.bad == bad)
 }
 

@@ -2,7 +2,7 @@ ghost use Rattle.std.specs.Prelude.{◌≡◌, ◌≤◌, IsTrue};
 ghost use Rattle.fix_days.specs.Lines.{is_soh_text};
 
 use super::*;
-use crate::joined::Joined;
+use crate::joined::JoinedBodies;
 use audit_base::terms::Which;
 use log_source::limits::LONGEST_READ;
 use log_source::memory_shelf::MemoryShelf;
@@ -125,12 +125,12 @@ const BAD: [(&[u8], &[u8], &[u8], u32, u64, FrameFault); 9] = [
 ];
 
 /// The day, read in pieces of this size, where the text of `S` stands for SOH.
-fn read_dressed<S: SohText>(
+fn read_dressed<S: SohGhost>(
     alloc: Global,
     soh: &[u8],
     day: &[u8],
     piece: usize,
-) -> Result<ReadDay<Joined>, NoMemory>
+) -> Result<ReadDay<JoinedBodies>, NoMemory>
     requires soh { soh.now ≡ S.text }
     requires is { IsTrue (is_soh_text S.text) }
     requires piece { 1 ≤ piece }
@@ -138,7 +138,7 @@ fn read_dressed<S: SohText>(
     let mut shelf = MemoryShelf::new(alloc, piece, Vec::new(alloc));
     shelf.put(String::new(alloc), Vec::from_slice(alloc, day)?)?;
     let soh = Vec::from_slice(alloc, soh)?;
-    let mut feed = LineFeed::<Joined, S>::over(alloc, soh, Joined::new(alloc));
+    let mut feed = LineFeed::<JoinedBodies, S>::over(alloc, soh, JoinedBodies::new(alloc));
     if pump(&mut shelf, Which::Orders, "", LONGEST_READ, &mut feed).is_err() {
         return Err(NoMemory);
     }
@@ -151,7 +151,7 @@ fn read_in_pieces(
     soh: &[u8],
     day: &[u8],
     piece: usize,
-) -> Result<ReadDay<Joined>, NoMemory>
+) -> Result<ReadDay<JoinedBodies>, NoMemory>
     requires is { IsTrue (is_soh_text soh.now) }
     requires piece { 1 ≤ piece }
 {
@@ -159,7 +159,7 @@ fn read_in_pieces(
 }
 
 /// Whether the day was read as these bodies and this first bad message.
-fn is_read(read: &Result<ReadDay<Joined>, NoMemory>, text: &[u8], bad: Option<BadMessage>) -> bool {
+fn is_read(read: &Result<ReadDay<JoinedBodies>, NoMemory>, text: &[u8], bad: Option<BadMessage>) -> bool {
     matches!(read, Ok(day) if day.bodies.text.as_slice() == text && day.bad == bad)
 }
 

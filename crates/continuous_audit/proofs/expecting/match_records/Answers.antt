@@ -7,9 +7,9 @@ use Rattle.continuous_audit.proofs.expecting.match_records.Goals as goal
 pub loop-order-preserved : goal.loop-order-preserved
 loop-order-preserved c =
     let orders = c.args.orders.now in
-    let new = c.match_record.new.so_far in
+    let new = c.expect_record.new.so_far in
     let next = sym (add-one c.loop-order.order) in
-    let after = c.in_ok-match_record.ensures in
+    let after = c.in_ok-expect_record.ensures in
     record {
       dropped = subst (λ (m : ℕ). AreEndingsDropped c.args.endings.now new.books_so_far.start (next_order_place orders m)) next after.dropped;
       counted = subst (λ (m : ℕ). AreTradesSoFar orders m 0 new) next after.counted;

@@ -3,7 +3,7 @@ use Rattle.std.specs.Prelude.{option_map, slice_get}
 use Rattle.std.proofs.lemmas.List.{append_assoc}
 use Rattle.std.proofs.lemmas.Option.{slice_get_within}
 use Rattle.day_symbols.specs.Shares.{symbols_in}
-use Rattle.day_records.specs.declared.symbol_records.SymbolRecords.{SymbolRecords}
+use Rattle.day_records.specs.declared.kept_records.KeptRecords.{KeptRecords}
 use Rattle.day_verdicts.proofs.VerdictSteps.{next-at}
 use Rattle.day_sessions.proofs.SessionSteps.{next-few-records, next-timed, room-for-session, sessions-all, sessions-next}
 use Rattle.day_sessions.proofs.judged_sessions.judge_sessions.Goals as goal
@@ -11,7 +11,7 @@ use Rattle.day_sessions.proofs.judged_sessions.judge_sessions.Goals as goal
 pub resolve-requires : goal.resolve-requires
 resolve-requires c =
     let all : c.loop-symbol_records.yielded ++ c.in-Some.symbol_records ∷ c.next.new.self.rest.items ≡ c.args.ended.kept.items =
-    ap (λ (xs : List SymbolRecords). c.loop-symbol_records.yielded ++ xs) (sym c.in-Some.ensures.steps.0) ∙ c.loop-symbol_records.invariant.0 in
+    ap (λ (xs : List KeptRecords). c.loop-symbol_records.yielded ++ xs) (sym c.in-Some.ensures.steps.0) ∙ c.loop-symbol_records.invariant.0 in
     let got : slice_get (symbols_in c.args.question.now.share c.args.ended.symbols) c.loop-symbol_records.share_index ≡ Some c.in-Some-symbol_at.symbol.now =
     sym c.symbol_at.ensures ∙ ap (option_map (λ name. name.now)) c.in-Some-symbol_at.is in
     let next = next-at c.args.question.now.share c.args.ended c.loop-symbol_records.share_index c.in-Some.symbol_records c.in-Some-symbol_at.symbol.now c.loop-symbol_records.yielded c.next.new.self.rest.items all c.loop-symbol_records.invariant.1 got in
@@ -20,7 +20,7 @@ resolve-requires c =
 pub judge_symbol-requires-clause-few : goal.judge_symbol-requires-clause-few
 judge_symbol-requires-clause-few c =
     let all : c.loop-symbol_records.yielded ++ c.in-Some.symbol_records ∷ c.next.new.self.rest.items ≡ c.args.ended.kept.items =
-    ap (λ (xs : List SymbolRecords). c.loop-symbol_records.yielded ++ xs) (sym c.in-Some.ensures.steps.0) ∙ c.loop-symbol_records.invariant.0 in
+    ap (λ (xs : List KeptRecords). c.loop-symbol_records.yielded ++ xs) (sym c.in-Some.ensures.steps.0) ∙ c.loop-symbol_records.invariant.0 in
     let got : slice_get (symbols_in c.args.question.now.share c.args.ended.symbols) c.loop-symbol_records.share_index ≡ Some c.in-Some-symbol_at.symbol.now =
     sym c.symbol_at.ensures ∙ ap (option_map (λ name. name.now)) c.in-Some-symbol_at.is in
     let next = next-at c.args.question.now.share c.args.ended c.loop-symbol_records.share_index c.in-Some.symbol_records c.in-Some-symbol_at.symbol.now c.loop-symbol_records.yielded c.next.new.self.rest.items all c.loop-symbol_records.invariant.1 got in
@@ -30,7 +30,7 @@ judge_symbol-requires-clause-few c =
 pub judge_symbol-requires-clause-room : goal.judge_symbol-requires-clause-room
 judge_symbol-requires-clause-room c =
     let all : c.loop-symbol_records.yielded ++ c.in-Some.symbol_records ∷ c.next.new.self.rest.items ≡ c.args.ended.kept.items =
-    ap (λ (xs : List SymbolRecords). c.loop-symbol_records.yielded ++ xs) (sym c.in-Some.ensures.steps.0) ∙ c.loop-symbol_records.invariant.0 in
+    ap (λ (xs : List KeptRecords). c.loop-symbol_records.yielded ++ xs) (sym c.in-Some.ensures.steps.0) ∙ c.loop-symbol_records.invariant.0 in
     let got : slice_get (symbols_in c.args.question.now.share c.args.ended.symbols) c.loop-symbol_records.share_index ≡ Some c.in-Some-symbol_at.symbol.now =
     sym c.symbol_at.ensures ∙ ap (option_map (λ name. name.now)) c.in-Some-symbol_at.is in
     let next = next-at c.args.question.now.share c.args.ended c.loop-symbol_records.share_index c.in-Some.symbol_records c.in-Some-symbol_at.symbol.now c.loop-symbol_records.yielded c.next.new.self.rest.items all c.loop-symbol_records.invariant.1 got in
@@ -40,7 +40,7 @@ judge_symbol-requires-clause-room c =
 pub loop-symbol_records-preserved : goal.loop-symbol_records-preserved
 loop-symbol_records-preserved c =
     let all : c.loop-symbol_records.yielded ++ c.in-Some.symbol_records ∷ c.next.new.self.rest.items ≡ c.args.ended.kept.items =
-    ap (λ (xs : List SymbolRecords). c.loop-symbol_records.yielded ++ xs) (sym c.in-Some.ensures.steps.0) ∙ c.loop-symbol_records.invariant.0 in
+    ap (λ (xs : List KeptRecords). c.loop-symbol_records.yielded ++ xs) (sym c.in-Some.ensures.steps.0) ∙ c.loop-symbol_records.invariant.0 in
     let got : slice_get (symbols_in c.args.question.now.share c.args.ended.symbols) c.loop-symbol_records.share_index ≡ Some c.in-Some-symbol_at.symbol.now =
     sym c.symbol_at.ensures ∙ ap (option_map (λ name. name.now)) c.in-Some-symbol_at.is in
     let next = next-at c.args.question.now.share c.args.ended c.loop-symbol_records.share_index c.in-Some.symbol_records c.in-Some-symbol_at.symbol.now c.loop-symbol_records.yielded c.next.new.self.rest.items all c.loop-symbol_records.invariant.1 got in (

@@ -2,7 +2,7 @@ use Rattle.std.proofs.Common.{◌∙◌, Ok}
 use Rattle.std.proofs.lemmas.Result.{on_ok_weaker}
 use Rattle.day_sessions.specs.SymbolSessions.{told_by_session}
 use Rattle.day_sessions.proofs.SessionSteps.{session-rejects}
-use Rattle.day_records.specs.SymbolTrades.{scope_by}
+use Rattle.day_records.specs.SymbolDuringTrades.{scope_by}
 use Rattle.day_verdicts.proofs.CheckLemmas.{has-times, told-after}
 use Rattle.record_verdict.specs.declared.scopes.Admission.TheVariants as admission
 use Rattle.day_sessions.proofs.symbol_sessions.judge_symbol.Goals as goal

@@ -3,14 +3,14 @@ use Rattle.std.specs.Prelude.{option_map, slice_get}
 use Rattle.std.proofs.lemmas.List.{append_assoc}
 use Rattle.std.proofs.lemmas.Option.{slice_get_within}
 use Rattle.day_symbols.specs.Shares.{symbols_in}
-use Rattle.day_records.specs.declared.symbol_records.SymbolRecords.{SymbolRecords}
+use Rattle.day_records.specs.declared.kept_records.KeptRecords.{KeptRecords}
 use Rattle.day_verdicts.proofs.VerdictSteps.{judged-all, judged-next, next-at, next-few-records, next-timed, room-for}
 use Rattle.day_verdicts.proofs.judging.judge_day.Goals as goal
 
 pub resolve-requires : goal.resolve-requires
 resolve-requires c =
     let all : c.loop-symbol_records.yielded ++ c.in-Some.symbol_records ∷ c.next.new.self.rest.items ≡ c.args.ended.kept.items =
-    ap (λ (xs : List SymbolRecords). c.loop-symbol_records.yielded ++ xs) (sym c.in-Some.ensures.steps.0) ∙ c.loop-symbol_records.invariant.0 in
+    ap (λ (xs : List KeptRecords). c.loop-symbol_records.yielded ++ xs) (sym c.in-Some.ensures.steps.0) ∙ c.loop-symbol_records.invariant.0 in
     let got : slice_get (symbols_in c.args.share c.args.ended.symbols) c.loop-symbol_records.share_index ≡ Some c.in-Some-symbol_at.symbol.now =
     sym c.symbol_at.ensures ∙ ap (option_map (λ name. name.now)) c.in-Some-symbol_at.is in
     let next = next-at c.args.share c.args.ended c.loop-symbol_records.share_index c.in-Some.symbol_records c.in-Some-symbol_at.symbol.now c.loop-symbol_records.yielded c.next.new.self.rest.items all c.loop-symbol_records.invariant.1 got in
@@ -19,7 +19,7 @@ resolve-requires c =
 pub judge-requires-clause-few : goal.judge-requires-clause-few
 judge-requires-clause-few c =
     let all : c.loop-symbol_records.yielded ++ c.in-Some.symbol_records ∷ c.next.new.self.rest.items ≡ c.args.ended.kept.items =
-    ap (λ (xs : List SymbolRecords). c.loop-symbol_records.yielded ++ xs) (sym c.in-Some.ensures.steps.0) ∙ c.loop-symbol_records.invariant.0 in
+    ap (λ (xs : List KeptRecords). c.loop-symbol_records.yielded ++ xs) (sym c.in-Some.ensures.steps.0) ∙ c.loop-symbol_records.invariant.0 in
     let got : slice_get (symbols_in c.args.share c.args.ended.symbols) c.loop-symbol_records.share_index ≡ Some c.in-Some-symbol_at.symbol.now =
     sym c.symbol_at.ensures ∙ ap (option_map (λ name. name.now)) c.in-Some-symbol_at.is in
     let next = next-at c.args.share c.args.ended c.loop-symbol_records.share_index c.in-Some.symbol_records c.in-Some-symbol_at.symbol.now c.loop-symbol_records.yielded c.next.new.self.rest.items all c.loop-symbol_records.invariant.1 got in
@@ -29,7 +29,7 @@ judge-requires-clause-few c =
 pub judge-requires-clause-room : goal.judge-requires-clause-room
 judge-requires-clause-room c =
     let all : c.loop-symbol_records.yielded ++ c.in-Some.symbol_records ∷ c.next.new.self.rest.items ≡ c.args.ended.kept.items =
-    ap (λ (xs : List SymbolRecords). c.loop-symbol_records.yielded ++ xs) (sym c.in-Some.ensures.steps.0) ∙ c.loop-symbol_records.invariant.0 in
+    ap (λ (xs : List KeptRecords). c.loop-symbol_records.yielded ++ xs) (sym c.in-Some.ensures.steps.0) ∙ c.loop-symbol_records.invariant.0 in
     let got : slice_get (symbols_in c.args.share c.args.ended.symbols) c.loop-symbol_records.share_index ≡ Some c.in-Some-symbol_at.symbol.now =
     sym c.symbol_at.ensures ∙ ap (option_map (λ name. name.now)) c.in-Some-symbol_at.is in
     let next = next-at c.args.share c.args.ended c.loop-symbol_records.share_index c.in-Some.symbol_records c.in-Some-symbol_at.symbol.now c.loop-symbol_records.yielded c.next.new.self.rest.items all c.loop-symbol_records.invariant.1 got in
@@ -39,7 +39,7 @@ judge-requires-clause-room c =
 pub loop-symbol_records-preserved : goal.loop-symbol_records-preserved
 loop-symbol_records-preserved c =
     let all : c.loop-symbol_records.yielded ++ c.in-Some.symbol_records ∷ c.next.new.self.rest.items ≡ c.args.ended.kept.items =
-    ap (λ (xs : List SymbolRecords). c.loop-symbol_records.yielded ++ xs) (sym c.in-Some.ensures.steps.0) ∙ c.loop-symbol_records.invariant.0 in
+    ap (λ (xs : List KeptRecords). c.loop-symbol_records.yielded ++ xs) (sym c.in-Some.ensures.steps.0) ∙ c.loop-symbol_records.invariant.0 in
     let got : slice_get (symbols_in c.args.share c.args.ended.symbols) c.loop-symbol_records.share_index ≡ Some c.in-Some-symbol_at.symbol.now =
     sym c.symbol_at.ensures ∙ ap (option_map (λ name. name.now)) c.in-Some-symbol_at.is in
     let next = next-at c.args.share c.args.ended c.loop-symbol_records.share_index c.in-Some.symbol_records c.in-Some-symbol_at.symbol.now c.loop-symbol_records.yielded c.next.new.self.rest.items all c.loop-symbol_records.invariant.1 got in (

@@ -1,8 +1,8 @@
 use Rattle.std.proofs.Common.{◌≡◌, ◌++◌, ◌∷◌, List, Some, length, sym, ap, ◌∙◌, arith}
 use Rattle.std.specs.Prelude.{option_map, slice_get}
 use Rattle.day_symbols.specs.Shares.{symbols_in}
-use Rattle.day_records.specs.declared.symbol_records.SymbolRecords.{SymbolRecords}
-use Rattle.record_verdict.specs.Judged.{as_verdict}
+use Rattle.day_records.specs.declared.kept_records.KeptRecords.{KeptRecords}
+use Rattle.record_verdict.specs.RecordVerdict.{as_verdict}
 use Rattle.day_verdicts.proofs.ListSteps.{taken-all, taken-on}
 use Rattle.day_verdicts.proofs.VerdictSteps.{next-at, next-few, next-few-records}
 use Rattle.day_verdicts.proofs.verdict_lists.hand_verdicts.Goals as goal
@@ -10,7 +10,7 @@ use Rattle.day_verdicts.proofs.verdict_lists.hand_verdicts.Goals as goal
 pub resolve-requires : goal.resolve-requires
 resolve-requires g c =
     let all : c.loop-symbol_records.yielded ++ c.in-Some.symbol_records ∷ c.next.new.self.rest.items ≡ c.args.ended.kept.items =
-    ap (λ (xs : List SymbolRecords). c.loop-symbol_records.yielded ++ xs) (sym c.in-Some.ensures.steps.0) ∙ c.loop-symbol_records.invariant.0 in
+    ap (λ (xs : List KeptRecords). c.loop-symbol_records.yielded ++ xs) (sym c.in-Some.ensures.steps.0) ∙ c.loop-symbol_records.invariant.0 in
     let got : slice_get (symbols_in c.args.share c.args.ended.symbols) c.loop-symbol_records.share_index ≡ Some c.in-Some-symbol_at.symbol.now =
     sym c.symbol_at.ensures ∙ ap (option_map (λ name. name.now)) c.in-Some-symbol_at.is in
     let next = next-at c.args.share c.args.ended c.loop-symbol_records.share_index c.in-Some.symbol_records c.in-Some-symbol_at.symbol.now c.loop-symbol_records.yielded c.next.new.self.rest.items all c.loop-symbol_records.invariant.1 got in
@@ -19,7 +19,7 @@ resolve-requires g c =
 pub verdict_of-requires : goal.verdict_of-requires
 verdict_of-requires g c =
     let all : c.loop-symbol_records.yielded ++ c.in-Some.symbol_records ∷ c.next.new.self.rest.items ≡ c.args.ended.kept.items =
-    ap (λ (xs : List SymbolRecords). c.loop-symbol_records.yielded ++ xs) (sym c.in-Some.ensures.steps.0) ∙ c.loop-symbol_records.invariant.0 in
+    ap (λ (xs : List KeptRecords). c.loop-symbol_records.yielded ++ xs) (sym c.in-Some.ensures.steps.0) ∙ c.loop-symbol_records.invariant.0 in
     let got : slice_get (symbols_in c.args.share c.args.ended.symbols) c.loop-symbol_records.share_index ≡ Some c.in-Some-symbol_at.symbol.now =
     sym c.symbol_at.ensures ∙ ap (option_map (λ name. name.now)) c.in-Some-symbol_at.is in
     let next = next-at c.args.share c.args.ended c.loop-symbol_records.share_index c.in-Some.symbol_records c.in-Some-symbol_at.symbol.now c.loop-symbol_records.yielded c.next.new.self.rest.items all c.loop-symbol_records.invariant.1 got in
@@ -28,7 +28,7 @@ verdict_of-requires g c =
 pub loop-symbol_records-preserved : goal.loop-symbol_records-preserved
 loop-symbol_records-preserved g c =
     let all : c.loop-symbol_records.yielded ++ c.in-Some.symbol_records ∷ c.next.new.self.rest.items ≡ c.args.ended.kept.items =
-    ap (λ (xs : List SymbolRecords). c.loop-symbol_records.yielded ++ xs) (sym c.in-Some.ensures.steps.0) ∙ c.loop-symbol_records.invariant.0 in
+    ap (λ (xs : List KeptRecords). c.loop-symbol_records.yielded ++ xs) (sym c.in-Some.ensures.steps.0) ∙ c.loop-symbol_records.invariant.0 in
     let got : slice_get (symbols_in c.args.share c.args.ended.symbols) c.loop-symbol_records.share_index ≡ Some c.in-Some-symbol_at.symbol.now =
     sym c.symbol_at.ensures ∙ ap (option_map (λ name. name.now)) c.in-Some-symbol_at.is in
     let next = next-at c.args.share c.args.ended c.loop-symbol_records.share_index c.in-Some.symbol_records c.in-Some-symbol_at.symbol.now c.loop-symbol_records.yielded c.next.new.self.rest.items all c.loop-symbol_records.invariant.1 got in
@@ -38,7 +38,7 @@ loop-symbol_records-preserved g c =
 pub loop-symbol_records-preserved-in_ok-take : goal.loop-symbol_records-preserved-in_ok-take
 loop-symbol_records-preserved-in_ok-take g c =
     let all : c.loop-symbol_records.yielded ++ c.in-Some.symbol_records ∷ c.next.new.self.rest.items ≡ c.args.ended.kept.items =
-    ap (λ (xs : List SymbolRecords). c.loop-symbol_records.yielded ++ xs) (sym c.in-Some.ensures.steps.0) ∙ c.loop-symbol_records.invariant.0 in
+    ap (λ (xs : List KeptRecords). c.loop-symbol_records.yielded ++ xs) (sym c.in-Some.ensures.steps.0) ∙ c.loop-symbol_records.invariant.0 in
     let got : slice_get (symbols_in c.args.share c.args.ended.symbols) c.loop-symbol_records.share_index ≡ Some c.in-Some-symbol_at.symbol.now =
     sym c.symbol_at.ensures ∙ ap (option_map (λ name. name.now)) c.in-Some-symbol_at.is in
     let next = next-at c.args.share c.args.ended c.loop-symbol_records.share_index c.in-Some.symbol_records c.in-Some-symbol_at.symbol.now c.loop-symbol_records.yielded c.next.new.self.rest.items all c.loop-symbol_records.invariant.1 got in

@@ -1,7 +1,7 @@
 use Rattle.std.proofs.Common.{◌∙◌, Ok}
 use Rattle.std.proofs.lemmas.Result.{on_ok_weaker}
-use Rattle.day_records.specs.SymbolTrades.{scope_by}
-use Rattle.record_verdict.specs.Judged.{as_verdict}
+use Rattle.day_records.specs.SymbolDuringTrades.{scope_by}
+use Rattle.record_verdict.specs.RecordVerdict.{as_verdict}
 use Rattle.record_verdict.specs.Scopes.{admission_of}
 use Rattle.day_verdicts.specs.DayVerdicts.{told_by_verdict}
 use Rattle.day_verdicts.proofs.CheckLemmas.{has-times, told-after, verdict-rejects}
