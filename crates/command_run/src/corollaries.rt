@@ -42,7 +42,8 @@ pub fn a_sink_with_room_is_written<P: Program>()
 /// written, or memory ran out.
 pub fn a_held_answer_with_room_is_written<P: Program>()
     ensures { (asked : Option P.Request) (limit : ℕ) (old new : QuietShelfSpec)
-        (sink_old sink_new : MemorySinkSpec) (the_status : StatusSpec) → failing_writes sink_old ≡ []
+        (sink_old sink_new : MemorySinkSpec) (the_status : StatusSpec)
+        → failing_writes sink_old ≡ []
         → SinkStays (memory_sink_state sink_old) (memory_sink_state sink_new)
         → AnswersWithCause P.command P.usage asked
         (reading_within limit ⟦<QuietShelf as Shelf>⟧ old new)

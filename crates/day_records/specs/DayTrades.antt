@@ -15,7 +15,8 @@ use Rattle.day_records.specs.KeptRecords.{HasKeptRecords, IsBegun}
 -- each of these symbols is kept with its records among these
 abbrev pub HaveKeptRecords : List OrderRecord → List TradeRecord → List (List ℕ) → List KeptRecords
     → Type 0
-HaveKeptRecords entries trades symbols kept = AreForEach (HasKeptRecords entries trades) symbols kept
+HaveKeptRecords entries trades symbols kept =
+    AreForEach (HasKeptRecords entries trades) symbols kept
 
 -- after these order records the day has been handed exactly these records of the trade log: it has
 -- the symbols of both logs, and the records of each symbol of the share

@@ -29,8 +29,8 @@ pub record IsSoundSymbol (admission : Admission) (entries : List OrderRecord)
 
 -- this is what is known of the symbol after these order records and these trades: the finding about
 -- its orders that is the first one whatever the trade log is, or else its orders and deals
-abbrev pub IsSymbolDuringTrades : Admission → List OrderRecord → List TradeRecord → List ℕ → SymbolDuringTrades
-    → Type 0
+abbrev pub IsSymbolDuringTrades : Admission → List OrderRecord → List TradeRecord → List ℕ
+    → SymbolDuringTrades → Type 0
 IsSymbolDuringTrades admission entries trades symbol (kept.Found finding) =
     (paired : Result (List TradeRecord) Finding)
     → finding_before_rule_in_scope (scope_by admission symbol) entries paired ≡ Some finding

@@ -36,7 +36,8 @@ session_told checks entries trades symbol session =
 -- What functions pass on.
 
 -- the same session of whatever records this is known of
-abbrev pub IsSessionOfSymbol : List ℕ → List Phase → Bool → ℕ → SymbolDuringTrades → Session → Type 0
+abbrev pub IsSessionOfSymbol : List ℕ → List Phase → Bool → ℕ → SymbolDuringTrades → Session
+    → Type 0
 IsSessionOfSymbol symbol phases table count symbol_trades session =
     (entries : List OrderRecord) (trades : List TradeRecord)
     → IsSymbolDuringTrades admission.All entries trades symbol symbol_trades → count ≡ length trades

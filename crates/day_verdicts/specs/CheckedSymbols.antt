@@ -26,7 +26,8 @@ after_finding None told = told
 after_finding (Some finding) told = if told.accepted then told_by_finding finding else told
 
 -- the same of a symbol of these records: its first finding, as `offences` tells it
-abbrev pub after_checks : FurtherChecks → List OrderRecord → List TradeRecord → List ℕ → SymbolAnswer → SymbolAnswer
+abbrev pub after_checks : FurtherChecks → List OrderRecord → List TradeRecord → List ℕ
+    → SymbolAnswer → SymbolAnswer
 after_checks checks entries trades symbol told =
     after_finding (first_finding_of_symbol checks (order_list symbol entries) symbol trades) told
 

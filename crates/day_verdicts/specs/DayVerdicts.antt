@@ -87,8 +87,8 @@ pub record HasRoomForOne (counts : DayCounts) : Type 0 where
 
 -- of whatever records this is known of the symbol, this is told of it by the verdict, and then by
 -- the checks, with these times of its trades
-abbrev pub IsToldOfSymbol : Question → FurtherChecks → ℕ → SymbolDuringTrades → List Moment → Verdict
-    → SymbolAnswer → Type 0
+abbrev pub IsToldOfSymbol : Question → FurtherChecks → ℕ → SymbolDuringTrades → List Moment
+    → Verdict → SymbolAnswer → Type 0
 IsToldOfSymbol q checks count symbol_trades times the_verdict told =
     (entries : List OrderRecord) (trades : List TradeRecord)
     → IsSymbolDuringTrades (admission_of q.rule) entries trades q.symbol symbol_trades

@@ -15,7 +15,8 @@ abbrev pub told_by : SymbolReport → SymbolAnswer
 told_by report = record { accepted = report.accepted; text = report.text.items }
 
 -- what is told of each of these symbols, by what was said of it
-abbrev pub tell_each : {S : Type 0} → (List ℕ → S → SymbolAnswer) → List (List ℕ) → List S → List SymbolAnswer
+abbrev pub tell_each : {S : Type 0} → (List ℕ → S → SymbolAnswer) → List (List ℕ) → List S
+    → List SymbolAnswer
 tell_each tell [] said = []
 tell_each tell (symbol ∷ symbols) [] = []
 tell_each tell (symbol ∷ symbols) (one ∷ said) = tell symbol one ∷ tell_each tell symbols said
@@ -36,8 +37,8 @@ day_lines_of (symbol ∷ symbols) (one ∷ told) =
     symbol_lines symbol one.text ++ day_lines_of symbols told
 
 -- These are the counts and the lines of what is told of these symbols.
-pub record TellsSymbols (symbols : List (List ℕ)) (told : List SymbolAnswer) (judged : JudgedSymbols)
-    : Type 0 where
+pub record TellsSymbols (symbols : List (List ℕ)) (told : List SymbolAnswer)
+    (judged : JudgedSymbols) : Type 0 where
   pub counts_are : judged.counts ≡ counts_of told
   pub lines_are : judged.lines.items ≡ day_lines_of symbols told
 

@@ -40,7 +40,8 @@ pub record IsDatabaseOpened (opener : DigestOpenerState) (path : List ℕ) (miss
 
 -- an opening failed because the opener's faults rose or their count is at its greatest value, or
 -- because it is known that there is no database under the path, and none was to be made
-abbrev pub IsDatabaseRefused : DigestOpenerState → DigestOpenerState → List ℕ → MissingDatabase → Type 0
+abbrev pub IsDatabaseRefused : DigestOpenerState → DigestOpenerState → List ℕ → MissingDatabase
+    → Type 0
 IsDatabaseRefused old new path missing = RoseOrIsFull old.faults new.faults
     ⊎ ((old.tells ≡ true) × (kept_once_opened missing (old.kept path) ≡ None))
 

@@ -79,7 +79,8 @@ WroteSymbols counts question_text lines old new status =
     (day_line counts question_text ++ lines) old new status
 
 -- exactly what is told of these symbols was written
-abbrev pub WroteTold : List (List ℕ) → List SymbolAnswer → List ℕ → SinkState → SinkState → Status → Type 0
+abbrev pub WroteTold : List (List ℕ) → List SymbolAnswer → List ℕ → SinkState → SinkState
+    → Status → Type 0
 WroteTold symbols told question_text old new status =
     WroteSymbols (counts_of told) question_text (day_lines_of symbols told) old new status
 

@@ -139,7 +139,8 @@ fn push_order(
     number: KeyNumber,
 ) -> Result<(), NoMemory>
     requires { IfSome target (λ t. t < 4294967295) }
-    ensures items { (keys : KeysSpec) (before : List Order) → HasNumber keys (key_of entry.now) number
+    ensures items { (keys : KeysSpec) (before : List Order)
+        → HasNumber keys (key_of entry.now) number
         → own_end ≡ draft.own_end before target place →
         let order = draft.order_by_target before entry.now target place in
         OnOk result (orders_of keys orders.new.items

@@ -132,7 +132,8 @@ fn after_orders<S: OrderLogGhost, F: Shelf>(
     requires place { HasPlace (IsOrdersOfSymbol S.symbol S.keeps) orders }
     ensures logs { KeepsShelfLogs F.Shelf shelf.old shelf.new }
     ensures only { TouchesOnly (reading_by trades.now F.Shelf shelf.old shelf.new) Which.Trades }
-    ensures decides { (entries : List OrderRecordSpec) → IsOrdersOfSymbol S.symbol S.keeps orders entries
+    ensures decides { (entries : List OrderRecordSpec)
+        → IsOrdersOfSymbol S.symbol S.keeps orders entries
         → GivesOfTrades (IsSymbolBeforeRule scope.now keeping entries)
         (reading_by trades.now F.Shelf shelf.old shelf.new) trades.now result }
     ensures ready { IfOk result (IsReadyToTell keeping) }

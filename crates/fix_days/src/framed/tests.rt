@@ -94,7 +94,11 @@ const BAD: [(&[u8], &[u8], u32, u64, FrameFault); 11] = [
 ];
 
 /// The bodies of the day, read in pieces of this size.
-fn read_in_pieces(alloc: Global, day: &[u8], piece: usize) -> Result<ReadDay<JoinedBodies>, NoMemory>
+fn read_in_pieces(
+    alloc: Global,
+    day: &[u8],
+    piece: usize,
+) -> Result<ReadDay<JoinedBodies>, NoMemory>
     requires { 1 ≤ piece }
 {
     let mut shelf = MemoryShelf::new(alloc, piece, Vec::new(alloc));
@@ -118,7 +122,11 @@ fn read_cut(alloc: Global, day: &[u8], cut: usize) -> Result<ReadDay<JoinedBodie
 }
 
 /// Whether the day was read as these bodies and this first bad message.
-fn is_read(read: &Result<ReadDay<JoinedBodies>, NoMemory>, text: &[u8], bad: Option<BadMessage>) -> bool {
+fn is_read(
+    read: &Result<ReadDay<JoinedBodies>, NoMemory>,
+    text: &[u8],
+    bad: Option<BadMessage>,
+) -> bool {
     matches!(read, Ok(day) if day.bodies.text.as_slice() == text && day.bad == bad)
 }
 

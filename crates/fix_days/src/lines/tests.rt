@@ -159,7 +159,11 @@ fn read_in_pieces(
 }
 
 /// Whether the day was read as these bodies and this first bad message.
-fn is_read(read: &Result<ReadDay<JoinedBodies>, NoMemory>, text: &[u8], bad: Option<BadMessage>) -> bool {
+fn is_read(
+    read: &Result<ReadDay<JoinedBodies>, NoMemory>,
+    text: &[u8],
+    bad: Option<BadMessage>,
+) -> bool {
     matches!(read, Ok(day) if day.bodies.text.as_slice() == text && day.bad == bad)
 }
 
