@@ -38,7 +38,8 @@ quoted_records keeps symbol entries paired = record {
 
 -- What the records of two logs give of a symbol.
 pub record IsSymbolBeforeRule (scope : Scope) (keeping : KeepingOptions)
-    (entries : List OrderRecord) (paired : Result (List TradeRecord) Finding) (logs : SymbolBeforeRule) : Type 0 where
+    (entries : List OrderRecord) (paired : Result (List TradeRecord) Finding)
+    (logs : SymbolBeforeRule) : Type 0 where
   pub before : IsBeforeRule scope entries paired logs.given
   pub times : logs.times.items
       ≡ kept_if keeping.times (times_of_symbol scope.symbol (paired_trades paired))
