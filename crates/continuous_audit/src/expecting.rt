@@ -38,7 +38,7 @@ fn no_trades(alloc: Global, count: usize) -> Result<TradesSoFar, NoMemory>
 }
 
 /// Goes over the records of the orders.
-fn match_records(
+fn expect_records(
     orders: &OrderList<'_>,
     endings: &[OrderEnd],
     so_far: &mut TradesSoFar,
@@ -75,7 +75,7 @@ pub fn continuous_matching(alloc: Global, orders: &OrderList<'_>) -> Result<Vec<
 {
     let endings = sort_endings(alloc, orders)?;
     let mut so_far = no_trades(alloc, orders.len())?;
-    match_records(orders, &endings, &mut so_far)?;
+    expect_records(orders, &endings, &mut so_far)?;
     sort_pairs(&mut so_far.pairs)?;
     number_pairs(alloc, orders, &so_far.pairs)
 }

@@ -2,7 +2,7 @@ use Rattle.std.proofs.Common.{ℕ, sym, subst, add-one}
 use Rattle.continuous_audit.specs.Books.{next_order_place}
 use Rattle.continuous_audit.specs.Endings.{AreEndingsDropped}
 use Rattle.continuous_audit.specs.Matching.{AreTradesSoFar, MatchedBefore}
-use Rattle.continuous_audit.proofs.expecting.match_records.Goals as goal
+use Rattle.continuous_audit.proofs.expecting.expect_records.Goals as goal
 
 pub loop-order-preserved : goal.loop-order-preserved
 loop-order-preserved c =

@@ -1,7 +1,7 @@
 use Rattle.continuous_audit.specs.Books.{next_order_place}
 use Rattle.continuous_audit.specs.Endings.{AreEndingsDropped}
 use Rattle.continuous_audit.specs.Matching.{AreTradesSoFar, MatchedBefore}
-use Rattle.continuous_audit.proofs.expecting.match_records.Given as goal
+use Rattle.continuous_audit.proofs.expecting.expect_records.Given as goal
 
 abbrev pub invariant-loop-order : goal.invariant-loop-order
 invariant-loop-order l = record {
