@@ -2,7 +2,7 @@
 //! standard output, an opener over files and a random seed are handed to `run_and_close`, and
 //! the number of the status is what the process ends with. Where it is above 1, where a
 //! database was made, and where a list may not be the one that was meant, a line on standard
-//! error says so (`stderr_notes`).
+//! error says so (`program_ends`).
 //!
 //! All of it is `answer_command_line`, over any command line, files, output, opener and notes. The
 //! program is one call of it with the runtime's.
@@ -12,8 +12,8 @@ ghost use Rattle.std.specs.String.{string_bytes};
 ghost use Rattle.casebook_program.specs.ClosedRuns.{CasebookAnswers, CasebookBegins, RunsThenCloses};
 ghost use Rattle.case_run.specs.Statuses.{case_status_number};
 ghost use Rattle.case_run.specs.declared.statuses.CaseStatus.TheVariants as status;
-ghost use Rattle.stderr_notes.specs.CommandLines.{words_of_arguments};
-ghost use Rattle.stderr_notes.specs.ProgramAnswers.{AnswersCommandLine, EndsAsAnswer};
+ghost use Rattle.program_ends.specs.CommandLines.{words_of_arguments};
+ghost use Rattle.program_ends.specs.ProgramAnswers.{AnswersCommandLine, EndsAsAnswer};
 
 use crate::closing::{Closing, run_and_close};
 use crate::file_opener::FileOpener;
@@ -27,18 +27,18 @@ use log_source::shelf::Shelf;
 use log_source::sink::Sink;
 use log_source::std_sink::StdSink;
 use log_verdict::stops::NoRecords;
+use program_ends::command_line::{CommandLine, words_of};
+use program_ends::database_notes::{
+    is_database_missing, print_database_fault, print_listed_symbols, print_made_database,
+};
+use program_ends::ends::{ProgramEnd, UsedEnds, fresh_output, noted_files};
+use program_ends::log_notes::print_stop;
+use program_ends::noted_shelf::NotedShelf;
+use program_ends::notes::Notes;
+use program_ends::usage_notes::print_casebook_usage;
 use std::io;
 use std::process::ExitCode;
 use std::random::RandomSource;
-use stderr_notes::command_line::{CommandLine, words_of};
-use stderr_notes::database_notes::{
-    is_database_missing, print_database_fault, print_listed_symbols, print_made_database,
-};
-use stderr_notes::log_notes::print_stop;
-use stderr_notes::noted_shelf::NotedShelf;
-use stderr_notes::notes::Notes;
-use stderr_notes::program_ends::{ProgramEnd, UsedEnds, fresh_output, noted_files};
-use stderr_notes::usage_notes::print_casebook_usage;
 
 /// Says on standard error why a run ended above 1, or of which symbol a list is that may be
 /// meant otherwise.

@@ -10,7 +10,7 @@ use crate::pictures::RulePictures;
 use desk_page::running::run_page_seeded;
 use desk_run::running::run_desk_seeded;
 use desk_words::commands::{asks_filing, asks_page};
-use digest_files::closing::{ClosingDigests, file_and_close};
+use digest_database_files::closing::{ClosingDigests, file_and_close};
 use log_source::shelf::Shelf;
 use log_source::sink::Sink;
 use log_verdict::runs::RunEnd;

@@ -2,7 +2,7 @@
 //! output, an opener of databases over files and a random seed are handed to the call that the
 //! first word is for (`calls`), and the number of its status is what the process ends with
 //! (`ends`). Where it is above 1, and where a database was made, one line on standard error says so
-//! (`notes`, `stderr_notes`).
+//! (`notes`, `program_ends`).
 //!
 //! All of it is `answer_command_line`, over any command line, files, output, opener and notes. The
 //! program is one call of it with the runtime's.
@@ -14,8 +14,8 @@ ghost use Rattle.audit_base.specs.declared.terms.Which.{Which};
 ghost use Rattle.audit_report.specs.declared.statuses.Status.TheVariants as status;
 ghost use Rattle.desk_program.specs.Answers.{DeskAnswersWords, DeskBegins, desk_end_number};
 ghost use Rattle.desk_program.specs.declared.ends.DeskEnd.TheVariants as ended;
-ghost use Rattle.stderr_notes.specs.CommandLines.{words_of_arguments};
-ghost use Rattle.stderr_notes.specs.ProgramAnswers.{AnswersCommandLine, EndsAsAnswer};
+ghost use Rattle.program_ends.specs.CommandLines.{words_of_arguments};
+ghost use Rattle.program_ends.specs.ProgramAnswers.{AnswersCommandLine, EndsAsAnswer};
 
 mod calls;
 pub mod ends;
@@ -27,21 +27,21 @@ use crate::ends::{DeskEnd, exit_code};
 use crate::notes::{names_missing_database, tell, tell_made_database};
 use audit_report::statuses::Status;
 use command_words::arguments::seed_of;
-use digest_files::closing::ClosingDigests;
-use digest_files::file_opener::FileDigestOpener;
+use digest_database_files::closing::ClosingDigests;
+use digest_database_files::file_opener::FileDigestOpener;
 use log_source::file_shelf::FileShelf;
 use log_source::file_system::FileSystem;
 use log_source::output::Output;
 use log_source::shelf::Shelf;
 use log_source::sink::Sink;
 use log_source::std_sink::StdSink;
+use program_ends::command_line::{CommandLine, words_of};
+use program_ends::ends::{ProgramEnd, UsedEnds, fresh_output, noted_files};
+use program_ends::noted_shelf::NotedShelf;
+use program_ends::notes::Notes;
 use std::io;
 use std::process::ExitCode;
 use std::random::RandomSource;
-use stderr_notes::command_line::{CommandLine, words_of};
-use stderr_notes::noted_shelf::NotedShelf;
-use stderr_notes::notes::Notes;
-use stderr_notes::program_ends::{ProgramEnd, UsedEnds, fresh_output, noted_files};
 
 /// How a run ended, and the shelf that its logs were read from.
 #[derive(Drop)]

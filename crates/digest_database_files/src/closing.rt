@@ -2,7 +2,7 @@
 ghost use Rattle.std.specs.Prelude.{◌≡◌, false, map};
 ghost use Rattle.std.specs.String.{string_bytes};
 ghost use Rattle.audit_base.specs.declared.terms.Which.{Which};
-ghost use Rattle.digest_files.specs.ClosedFilings.{FilesThenCloses};
+ghost use Rattle.digest_database_files.specs.ClosedFilings.{FilesThenCloses};
 
 use case_run::statuses::CaseStatus;
 use desk_filing::opener::DigestOpener;

@@ -3,7 +3,7 @@ ghost use Rattle.std.specs.Prelude.{◌≡◌, ℕ, List, Option, None, IsSome, 
 ghost use Rattle.std.specs.IoError.{error_kind};
 ghost use Rattle.std.specs.String.{string_bytes};
 ghost use Rattle.std.specs.declared.io.ErrorKind.TheVariants.{OutOfMemory};
-ghost use Rattle.stderr_notes.specs.CommandLines.{AreKnownWords, words_of_arguments};
+ghost use Rattle.program_ends.specs.CommandLines.{AreKnownWords, words_of_arguments};
 
 use audit_base::faults::NoMemory;
 use std::env;

@@ -3,7 +3,7 @@
 ghost use Rattle.std.specs.Prelude.{◌≡◌};
 ghost use Rattle.std.specs.Process.{exit_status};
 ghost use Rattle.audit_report.specs.Statuses.{status_number};
-ghost use Rattle.stderr_notes.specs.FreshEnds.{IsFreshOver, fresh_sink};
+ghost use Rattle.program_ends.specs.FreshEnds.{IsFreshOver, fresh_sink};
 
 use crate::noted_shelf::NotedShelf;
 use audit_report::statuses::Status;

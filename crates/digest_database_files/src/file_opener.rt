@@ -2,7 +2,7 @@
 ghost use Rattle.std.specs.Prelude.{◌≡◌, false, is_ok, IfOk};
 ghost use Rattle.casebook_program.specs.Databases.{ClosesDatabase};
 ghost use Rattle.command_words.specs.WordForms.{is_path};
-ghost use Rattle.digest_files.specs.FileDigestOpeners.{AsksWhereItMay, OpensWhereItMay, MayOpen, digest_file_opener_state, fresh_digest_opener, RefusesDatabase};
+ghost use Rattle.digest_database_files.specs.FileDigestOpeners.{AsksWhereItMay, OpensWhereItMay, MayOpen, digest_file_opener_state, fresh_digest_opener, RefusesDatabase};
 ghost use Rattle.digest_sqlite.specs.SqlDigestKeepers.{sql_digest_state};
 ghost use Rattle.desk_filing.specs.DigestOpeners.{OpensDatabase};
 

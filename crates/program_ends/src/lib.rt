@@ -1,5 +1,5 @@
 //! What the programs are handed by their machine: the arguments of a command line
-//! (`command_line`), files and an output (`program_ends`). And one line on standard error where
+//! (`command_line`), files and an output (`ends`). And one line on standard error where
 //! a program ends above 1, for whoever runs it: which word is wrong and what may be there,
 //! which file could not be read and why, at which byte a log is malformed.
 //!
@@ -11,9 +11,9 @@
 
 pub mod command_line;
 pub mod database_notes;
+pub mod ends;
 pub mod log_notes;
 pub mod noted_shelf;
 pub mod notes;
-pub mod program_ends;
 pub mod usage_notes;
 mod word_parts;

@@ -10,7 +10,7 @@ use Rattle.desk_filing.specs.DigestOpeners.{DigestOpenerState}
 use Rattle.desk_filing.specs.declared.opener.MissingDatabase.{MissingDatabase}
 use Rattle.desk_filing.specs.declared.opener.MissingDatabase.TheVariants.{Make, Refuse}
 use Rattle.log_source.specs.Calls.{faults_after}
-use Rattle.digest_files.specs.declared.file_opener.FileDigestOpener.{FileDigestOpener}
+use Rattle.digest_database_files.specs.declared.file_opener.FileDigestOpener.{FileDigestOpener}
 
 -- its state: its faults alone are known
 abbrev pub digest_file_opener_state : {D : Type 0} → FileDigestOpener D → DigestOpenerState

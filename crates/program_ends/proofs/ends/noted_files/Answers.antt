@@ -1,6 +1,6 @@
 -- What is known of the wrapped shelf, what it has and has started, and so the files.
 use Rattle.std.proofs.Common.{◌∙◌}
-use Rattle.stderr_notes.proofs.program_ends.noted_files.Goals as goal
+use Rattle.program_ends.proofs.ends.noted_files.Goals as goal
 
 pub returns : goal.returns
 returns g c = record {

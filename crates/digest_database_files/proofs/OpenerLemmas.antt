@@ -7,7 +7,7 @@ use Rattle.desk_filing.specs.DigestOpeners.{DigestOpenerState, OpensDatabase}
 use Rattle.desk_filing.specs.declared.opener.MissingDatabase.{MissingDatabase}
 use Rattle.casebook_program.specs.SystemCalls.{KnownCalls}
 use Rattle.casebook_program.specs.declared.database_files.DatabaseFile.{DatabaseFile}
-use Rattle.digest_files.specs.FileDigestOpeners.{AsksWhereItMay, OpensWhereItMay}
+use Rattle.digest_database_files.specs.FileDigestOpeners.{AsksWhereItMay, OpensWhereItMay}
 
 pub opens_untold : {B : Type 0} (state : B → DigestKeeperState) (old : DigestOpenerState) (path : List ℕ) (missing : MissingDatabase) (book : B)
     → (state book).faults ≡ 0 → old.tells ≡ false → OpensDatabase state old old path missing (Ok book)

@@ -4,7 +4,7 @@
 use Rattle.std.specs.Prelude.{◌≡◌, ◌⊎◌, ℕ, List, Option, None}
 use Rattle.std.specs.Process.{exit_status}
 use Rattle.std.specs.declared.process.ExitCode.{ExitCode}
-use Rattle.stderr_notes.specs.CommandLines.{AreKnownWords}
+use Rattle.program_ends.specs.CommandLines.{AreKnownWords}
 
 module _ {W T : Type 0} (Answers : List (List ℕ) → W → W → T → Type 0) (memory : T) where
   -- the answer is the program's own to the words of the command line, which are the known ones
