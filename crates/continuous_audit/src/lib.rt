@@ -13,10 +13,11 @@
 //! `fills` let an order trade with the best of the other side, `pairs` puts the deals in order.
 //!
 //! Proved: the audit accepts exactly where the rule holds at every record, and else tells the first
-//! offence with what shows it; the Expected trades conform, and no others of their form do. The
-//! definitions are `Continuous`, `ContinuousRules`, `ContinuousOffences` and `Expected` of
-//! `audit_base`. Not proved: how many steps it takes. It is one pass over records and deals, with a
-//! step in a book for each order that comes, goes or trades.
+//! offence with what shows it; the Expected trades are those of the definition. The definitions are
+//! `Continuous`, `ContinuousRules`, `ContinuousOffences` and `Expected` of `audit_base`; that the
+//! Expected trades conform, and alone, are laws (`continuous_laws`). Not proved: how many steps it
+//! takes. It is one pass over records and deals, with a step in a book for each order that comes,
+//! goes or trades.
 #![tactic(auto)]
 
 mod arrival;
