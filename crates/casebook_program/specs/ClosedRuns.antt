@@ -1,13 +1,14 @@
 -- What a run answers that closes its casebook, and what a run of the program answers, whatever
 -- words its command line has.
-use Rattle.std.specs.Prelude.{◌≡◌, ℕ, Bool, List, Option, None, Some}
+use Rattle.std.specs.Prelude.{◌≡◌, ℕ, Bool, false, List, Option, None, Some}
 use Rattle.case_keeper.specs.Keepers.{KeeperState}
 use Rattle.case_run.specs.NamedCasebooks.{RunsWords}
 use Rattle.case_run.specs.Openers.{OpenerState}
 use Rattle.case_run.specs.declared.statuses.CaseStatus.{CaseStatus}
+use Rattle.casebook_program.specs.FileOpeners.{fresh_opener}
 use Rattle.log_source.specs.Sinks.{SinkState}
 use Rattle.log_source.specs.declared.shelf.Shelf.{Ghosts as Shelf}
-use Rattle.stderr_notes.specs.FreshEnds.{IsFreshOver, fresh_sink}
+use Rattle.program_ends.specs.FreshEnds.{IsFreshOver, fresh_sink}
 
 -- what the commands left open was closed; where they opened nothing, nothing was
 abbrev pub ClosesWhatIsOpen : {O : Type 0} → (O → O → Type 0) → Option KeeperState → O → O → Type 0
@@ -46,3 +47,11 @@ abbrev pub CasebookBegins : {S O : Type 0} → Shelf S → Bool → (List ℕ �
 CasebookBegins shelf known_files file_at held opener ends =
     IsFreshOver shelf known_files file_at ends.shelf × (ends.opener ≡ opener)
     × (ends.sink ≡ fresh_sink held)
+
+-- such a shelf and such a sink over files and an output of which nothing is known, as those of the
+-- runtime, and an opener that nothing was asked of
+abbrev pub CasebookBeginsOverUnknown : {S O : Type 0} → Shelf S → (O → OpenerState)
+    → CasebookEnds S O → Type 0
+CasebookBeginsOverUnknown shelf state ends =
+    IsFreshOver shelf false (λ path. None) ends.shelf
+    × (state ends.opener ≡ fresh_opener) × (ends.sink ≡ fresh_sink None)

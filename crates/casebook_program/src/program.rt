@@ -2,18 +2,19 @@
 //! standard output, an opener over files and a random seed are handed to `run_and_close`, and
 //! the number of the status is what the process ends with. Where it is above 1, where a
 //! database was made, and where a list may not be the one that was meant, a line on standard
-//! error says so (`stderr_notes`).
+//! error says so (`program_ends`).
 //!
 //! All of it is `answer_command_line`, over any command line, files, output, opener and notes. The
 //! program is one call of it with the runtime's.
 ghost use Rattle.std.specs.Prelude.{◌≡◌, map};
 ghost use Rattle.std.specs.Process.{exit_status};
 ghost use Rattle.std.specs.String.{string_bytes};
-ghost use Rattle.casebook_program.specs.ClosedRuns.{CasebookAnswers, CasebookBegins, RunsThenCloses};
+ghost use Rattle.casebook_program.specs.ClosedRuns.{CasebookAnswers, CasebookBegins, CasebookBeginsOverUnknown, RunsThenCloses};
+ghost use Rattle.casebook_program.specs.FileOpeners.{file_opener_state};
 ghost use Rattle.case_run.specs.Statuses.{case_status_number};
 ghost use Rattle.case_run.specs.declared.statuses.CaseStatus.TheVariants as status;
-ghost use Rattle.stderr_notes.specs.CommandLines.{words_of_arguments};
-ghost use Rattle.stderr_notes.specs.ProgramAnswers.{AnswersCommandLine, EndsAsAnswer};
+ghost use Rattle.program_ends.specs.CommandLines.{words_of_arguments};
+ghost use Rattle.program_ends.specs.ProgramAnswers.{AnswersCommandLine, EndsAsAnswer, EndsAsSomeAnswer};
 
 use crate::closing::{Closing, run_and_close};
 use crate::file_opener::FileOpener;
@@ -27,18 +28,18 @@ use log_source::shelf::Shelf;
 use log_source::sink::Sink;
 use log_source::std_sink::StdSink;
 use log_verdict::stops::NoRecords;
+use program_ends::command_line::{CommandLine, words_of};
+use program_ends::database_notes::{
+    is_database_missing, print_database_fault, print_listed_symbols, print_made_database,
+};
+use program_ends::ends::{ProgramEnd, UsedEnds, fresh_output, noted_files};
+use program_ends::log_notes::print_stop;
+use program_ends::noted_shelf::NotedShelf;
+use program_ends::notes::Notes;
+use program_ends::usage_notes::print_casebook_usage;
 use std::io;
 use std::process::ExitCode;
 use std::random::RandomSource;
-use stderr_notes::command_line::{CommandLine, words_of};
-use stderr_notes::database_notes::{
-    is_database_missing, print_database_fault, print_listed_symbols, print_made_database,
-};
-use stderr_notes::log_notes::print_stop;
-use stderr_notes::noted_shelf::NotedShelf;
-use stderr_notes::notes::Notes;
-use stderr_notes::program_ends::{ProgramEnd, UsedEnds, fresh_output, noted_files};
-use stderr_notes::usage_notes::print_casebook_usage;
 
 /// Says on standard error why a run ended above 1, or of which symbol a list is that may be
 /// meant otherwise.
@@ -137,9 +138,10 @@ fn exit_code(status: CaseStatus) -> ExitCode
 /// Answers the command line over these files, this output and this opener, whose casebook is then
 /// closed, and says on `notes` why, where the status is above 1.
 ///
-/// Nothing is known of the words, files, output and databases of the runtime, so that no clause
-/// could say of the program what this one does. What it is handed is seen in the code: the runtime
-/// itself as command line and files, its standard output, and an opener of its databases.
+/// Nothing is known of the words, files, output and databases of the runtime. So the call of the
+/// program says less than this one: that its process ends as some answer does. What it is handed is
+/// seen in the code: the runtime itself as command line and files, its standard output, and an
+/// opener of its databases.
 pub fn answer_command_line<
     R: CommandLine + AllocGlobal + RandomSource,
     S: FileSystem + Drop,
@@ -168,7 +170,12 @@ pub fn answer_command_line<
 }
 
 /// Runs the program, and gives the exit code of its process.
-pub fn run_casebook(rt: HostRuntime) -> ExitCode {
+pub fn run_casebook(rt: HostRuntime) -> ExitCode
+    ensures { let shelf = ⟦<NotedShelf<FileShelf<HostRuntime>> as Shelf>⟧ in
+        let closes = ⟦<FileOpener<HostRuntime> as Closing>⟧.closes in
+        EndsAsSomeAnswer (CasebookAnswers shelf file_opener_state closes) status.Memory
+        case_status_number (CasebookBeginsOverUnknown shelf file_opener_state) result }
+{
     let mut opener = FileOpener::new(rt);
     answer_command_line(&rt, rt, io::writer(&rt), &mut opener, &rt).code
 }

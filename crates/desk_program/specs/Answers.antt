@@ -1,5 +1,5 @@
 -- What a run of the program answers, whatever words its command line has.
-use Rattle.std.specs.Prelude.{◌≡◌, ℕ, Bool, true, false, List, Option}
+use Rattle.std.specs.Prelude.{◌≡◌, ℕ, Bool, true, false, List, Option, None}
 use Rattle.audit_report.specs.Statuses.{status_number}
 use Rattle.audit_report.specs.declared.statuses.Status.{Status}
 use Rattle.case_run.specs.Statuses.{case_status_number}
@@ -8,14 +8,15 @@ use Rattle.desk_program.specs.declared.ends.DeskEnd.{DeskEnd}
 use Rattle.desk_program.specs.declared.ends.DeskEnd.TheVariants.{Run, Filed}
 use Rattle.desk_run.specs.TopCall.{DeskAnswers}
 use Rattle.desk_words.specs.Words.{asks_filing, asks_page, desk_request_of}
-use Rattle.digest_files.specs.ClosedFilings.{FilesThenCloses}
+use Rattle.digest_database_files.specs.ClosedFilings.{FilesThenCloses}
+use Rattle.digest_database_files.specs.FileDigestOpeners.{fresh_digest_opener}
 use Rattle.desk_filing.specs.DigestOpeners.{DigestOpenerState}
 use Rattle.log_source.specs.Sinks.{SinkState}
 use Rattle.log_source.specs.declared.shelf.Shelf.{Ghosts as Shelf}
 use Rattle.desk_page.specs.TopCall.{AnswersPageWords}
 use Rattle.desk_page.specs.Words.{page_request_of}
 use Rattle.rule_drawing.specs.RulePictures.{IsRulePicture}
-use Rattle.stderr_notes.specs.FreshEnds.{IsFreshOver, fresh_sink}
+use Rattle.program_ends.specs.FreshEnds.{IsFreshOver, fresh_sink}
 
 -- the number of the status with which the call ended that was asked
 abbrev pub desk_end_number : DeskEnd → ℕ
@@ -80,3 +81,11 @@ abbrev pub DeskBegins : {S O : Type 0} → Shelf S → Bool → (List ℕ → Op
 DeskBegins shelves known_files file_at held opener ends =
     IsFreshOver shelves known_files file_at ends.shelf × (ends.opener ≡ opener)
     × (ends.sink ≡ fresh_sink held)
+
+-- such a shelf and such a sink over files and an output of which nothing is known, as those of the
+-- runtime, and an opener that nothing was asked of
+abbrev pub DeskBeginsOverUnknown : {S O : Type 0} → Shelf S → (O → DigestOpenerState)
+    → DeskEnds S O → Type 0
+DeskBeginsOverUnknown shelves state ends =
+    IsFreshOver shelves false (λ path. None) ends.shelf
+    × (state ends.opener ≡ fresh_digest_opener) × (ends.sink ≡ fresh_sink None)

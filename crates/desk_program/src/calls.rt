@@ -1,8 +1,7 @@
 //! Which of three calls is asked: that of filing, whose database is then closed, that of a page, or
 //! `run_desk`.
-ghost use Rattle.std.specs.Prelude.{◌≡◌, false, map};
+ghost use Rattle.std.specs.Prelude.{map};
 ghost use Rattle.std.specs.String.{string_bytes};
-ghost use Rattle.audit_base.specs.declared.terms.Which.{Which};
 ghost use Rattle.desk_program.specs.Answers.{DeskAnswersWords};
 
 use crate::ends::DeskEnd;
@@ -10,7 +9,7 @@ use crate::pictures::RulePictures;
 use desk_page::running::run_page_seeded;
 use desk_run::running::run_desk_seeded;
 use desk_words::commands::{asks_filing, asks_page};
-use digest_files::closing::{ClosingDigests, file_and_close};
+use digest_database_files::closing::{ClosingDigests, file_and_close};
 use log_source::shelf::Shelf;
 use log_source::sink::Sink;
 use log_verdict::runs::RunEnd;
@@ -26,7 +25,6 @@ pub(crate) fn ask_call<F: Shelf, K: Sink, O: ClosingDigests>(
     out: &mut K,
     opener: &mut O,
 ) -> RunEnd<DeskEnd, F>
-    requires fresh { (which : Which) → (F.slot shelf which).started ≡ false }
     ensures { DeskAnswersWords F.Shelf O.state O.closes (map string_bytes words.now)
         (record { shelf = shelf; opener = opener.old; sink = K.state out.old })
         (record { shelf = result.back; opener = opener.new; sink = K.state out.new })

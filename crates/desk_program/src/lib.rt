@@ -2,20 +2,20 @@
 //! output, an opener of databases over files and a random seed are handed to the call that the
 //! first word is for (`calls`), and the number of its status is what the process ends with
 //! (`ends`). Where it is above 1, and where a database was made, one line on standard error says so
-//! (`notes`, `stderr_notes`).
+//! (`notes`, `program_ends`).
 //!
 //! All of it is `answer_command_line`, over any command line, files, output, opener and notes. The
 //! program is one call of it with the runtime's.
 #![tactic(auto)]
 
-ghost use Rattle.std.specs.Prelude.{◌≡◌, false, map};
+ghost use Rattle.std.specs.Prelude.{map};
 ghost use Rattle.std.specs.String.{string_bytes};
-ghost use Rattle.audit_base.specs.declared.terms.Which.{Which};
 ghost use Rattle.audit_report.specs.declared.statuses.Status.TheVariants as status;
-ghost use Rattle.desk_program.specs.Answers.{DeskAnswersWords, DeskBegins, desk_end_number};
+ghost use Rattle.desk_program.specs.Answers.{DeskAnswersWords, DeskBegins, DeskBeginsOverUnknown, desk_end_number};
 ghost use Rattle.desk_program.specs.declared.ends.DeskEnd.TheVariants as ended;
-ghost use Rattle.stderr_notes.specs.CommandLines.{words_of_arguments};
-ghost use Rattle.stderr_notes.specs.ProgramAnswers.{AnswersCommandLine, EndsAsAnswer};
+ghost use Rattle.digest_database_files.specs.FileDigestOpeners.{digest_file_opener_state};
+ghost use Rattle.program_ends.specs.CommandLines.{words_of_arguments};
+ghost use Rattle.program_ends.specs.ProgramAnswers.{AnswersCommandLine, EndsAsAnswer, EndsAsSomeAnswer};
 
 mod calls;
 pub mod ends;
@@ -27,21 +27,21 @@ use crate::ends::{DeskEnd, exit_code};
 use crate::notes::{names_missing_database, tell, tell_made_database};
 use audit_report::statuses::Status;
 use command_words::arguments::seed_of;
-use digest_files::closing::ClosingDigests;
-use digest_files::file_opener::FileDigestOpener;
+use digest_database_files::closing::ClosingDigests;
+use digest_database_files::file_opener::FileDigestOpener;
 use log_source::file_shelf::FileShelf;
 use log_source::file_system::FileSystem;
 use log_source::output::Output;
 use log_source::shelf::Shelf;
 use log_source::sink::Sink;
 use log_source::std_sink::StdSink;
+use program_ends::command_line::{CommandLine, words_of};
+use program_ends::ends::{ProgramEnd, UsedEnds, fresh_output, noted_files};
+use program_ends::noted_shelf::NotedShelf;
+use program_ends::notes::Notes;
 use std::io;
 use std::process::ExitCode;
 use std::random::RandomSource;
-use stderr_notes::command_line::{CommandLine, words_of};
-use stderr_notes::noted_shelf::NotedShelf;
-use stderr_notes::notes::Notes;
-use stderr_notes::program_ends::{ProgramEnd, UsedEnds, fresh_output, noted_files};
 
 /// How a run ended, and the shelf that its logs were read from.
 #[derive(Drop)]
@@ -59,8 +59,6 @@ fn run_words<R: AllocGlobal + RandomSource, F: Shelf, K: Sink, O: ClosingDigests
     opener: &mut O,
     notes: &N,
 ) -> DeskRunEnd<F>
-    requires fresh { (which : Which) →
-        (⟦<NotedShelf<F> as Shelf>⟧.slot shelf which).started ≡ false }
     ensures { let shelves = ⟦<NotedShelf<F> as Shelf>⟧ in
         DeskAnswersWords shelves O.state O.closes (map string_bytes words.now)
         (record { shelf = shelf; opener = opener.old; sink = K.state out.old })
@@ -84,8 +82,6 @@ fn answer_words<
     O: ClosingDigests,
     N: Notes,
 >(machine: &R, shelf: NotedShelf<F>, out: &mut K, opener: &mut O, notes: &N) -> DeskRunEnd<F>
-    requires fresh { (which : Which) →
-        (⟦<NotedShelf<F> as Shelf>⟧.slot shelf which).started ≡ false }
     ensures { let shelves = ⟦<NotedShelf<F> as Shelf>⟧ in
         AnswersCommandLine (DeskAnswersWords shelves O.state O.closes) (ended.Run status.Memory)
         (words_of_arguments (R.known_arguments machine.now))
@@ -104,9 +100,10 @@ fn answer_words<
 /// Answers the command line over these files, this output and this opener, whose database is then
 /// closed, and says on `notes` why, where the status is above 1.
 ///
-/// Nothing is known of the words, files, output and databases of the runtime, so that no clause
-/// could say of the program what this one does. What it is handed is seen in the code: the runtime
-/// itself as command line and files, its standard output, and an opener of its databases.
+/// Nothing is known of the words, files, output and databases of the runtime. So the call of the
+/// program says less than this one: that its process ends as some answer does. What it is handed is
+/// seen in the code: the runtime itself as command line and files, its standard output, and an
+/// opener of its databases.
 pub fn answer_command_line<
     R: CommandLine + AllocGlobal + RandomSource,
     S: FileSystem + Drop,
@@ -138,7 +135,13 @@ pub fn answer_command_line<
 }
 
 /// Runs the program, and gives the exit code of its process.
-pub fn run_desk_program(rt: HostRuntime) -> ExitCode {
+pub fn run_desk_program(rt: HostRuntime) -> ExitCode
+    ensures { let shelf = ⟦<NotedShelf<FileShelf<HostRuntime>> as Shelf>⟧ in
+        let closes = ⟦<FileDigestOpener<HostRuntime> as ClosingDigests>⟧.closes in
+        EndsAsSomeAnswer (DeskAnswersWords shelf digest_file_opener_state closes)
+        (ended.Run status.Memory) desk_end_number
+        (DeskBeginsOverUnknown shelf digest_file_opener_state) result }
+{
     let mut opener = FileDigestOpener::new(rt);
     answer_command_line(&rt, rt, io::writer(&rt), &mut opener, &rt).code
 }

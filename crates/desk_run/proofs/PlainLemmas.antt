@@ -48,7 +48,7 @@ use Rattle.plain_logs.specs.PlainLogs.{ReadsFrontOf, StopsWriting, TakesUpTo, Wr
 use Rattle.plain_logs.specs.PlainTexts.{plain_text}
 use Rattle.desk_run.specs.Digesting.{stop_of_take}
 use Rattle.desk_run.specs.PlainAnswers.{bad_line, day_reading, IsPlainAnswer, plain_status, text_for_soh}
-use Rattle.desk_run.specs.PlainMessages.{WritesMessages, WritesMessagesOf, WritesOfFront}
+use Rattle.desk_run.specs.PlainMessages.{WritesMessages, WritesMessagesOf, WritesOfFront, WritesUnfailing}
 use Rattle.desk_run.specs.PlainWriting.{FailsAt, WritesDay, WritesToEnd, WritesToStop, WritesWithin}
 use Rattle.desk_run.specs.Requests.{desk_command_of}
 use Rattle.desk_run.specs.TopCall.{desk_reading}
@@ -73,12 +73,12 @@ module _ {F : Type 0} (shelves : Shelf F) (reads : List ℕ → List (List ℕ) 
     bodies = is.bodies;
     read = record { once = slot.once; started = slot.started; at_end = slot.at_end; within = is.within; taken = is.count; given = is.given; known = is.whole };
     begins = is.begins;
-    wrote = is.wrote;
+    wrote = record { wrote = is.wrote; quiet = is.quiet };
     ends = is.holding;
   }
   writes-day (Err (plain.Log why)) slot ends is = record {
     cause = stop-cause shelves old new Orders name why slot;
-    early = record { front = is.front; bodies = is.bodies; read = front-read is.front is.bodies is.of; begins = is.of.begins; wrote = is.wrote };
+    early = record { front = is.front; bodies = is.bodies; read = front-read is.front is.bodies is.of; begins = is.of.begins; wrote = record { wrote = is.wrote; quiet = is.quiet } };
   }
   writes-day (Err plain.Sink) slot ends is = record {
     front = is.front;
@@ -113,7 +113,7 @@ nothing-written r reads name sink = record {
     bodies = [];
     read = record { taken = omega arith; known = λ tells. nothing-first (r.log_of Orders name) };
     begins = λ more others bad is. (others, refl);
-    wrote = Appends-nil sink.wrote;
+    wrote = record { wrote = Appends-nil sink.wrote; quiet = refl };
   };
 }
 
@@ -190,11 +190,11 @@ module _ (r : Reading) (day : List ℕ) (dress : DayDress) (only : TouchesOnly r
       rest-at-end (Err why) says = subst (RestStops r command (plain_text is.bodies)) (sym says) (early-text is.bytes is.bodies (whole-front is.bytes is.read) is.begins)
 
       pub end-written : SinkStays sink_old sink_new → HasWritten sink_old sink_new (plain_text is.bodies)
-      end-written stays = record { stays = stays; wrote = is.wrote }
+      end-written stays = record { stays = stays; wrote = is.wrote.wrote }
 
     module _ (fault : TakeFault) (is : WritesToStop r (day_reading dress) day sink_old sink_new (IsLogStop r Orders day (stop_of_take Orders fault))) where
       pub stop-written : SinkStays sink_old sink_new → HasWritten sink_old sink_new (plain_text is.early.bodies)
-      stop-written stays = record { stays = stays; wrote = is.early.wrote }
+      stop-written stays = record { stays = stays; wrote = is.early.wrote.wrote }
 
     pub rest-at-stop : (fault : TakeFault) (is : WritesToStop r (day_reading dress) day sink_old sink_new (IsLogStop r Orders day (stop_of_take Orders fault))) → RestStops r command (plain_text is.early.bodies) (stop_of_take Orders fault)
     rest-at-stop take.Fault is = record {
@@ -255,18 +255,18 @@ module _ (r : Reading) (reads : List ℕ → List (List ℕ) → Option BadMessa
   abbrev Behind : List ℕ → Type 0
   Behind line = WritesOfFront r reads name (λ text. Appends old.wrote new.wrote (text ++ line))
 
-  behind : (line : List ℕ) → Appends mid.wrote new.wrote line → WritesOfFront r reads name (Appends old.wrote mid.wrote) → Behind line
+  behind : (line : List ℕ) → Appends mid.wrote new.wrote line → WritesOfFront r reads name (WritesUnfailing old mid) → Behind line
   behind line then early = record {
     front = early.front;
     bodies = early.bodies;
     read = early.read;
     begins = early.begins;
-    wrote = Appends-trans old.wrote mid.wrote new.wrote (plain_text early.bodies) line early.wrote then;
+    wrote = Appends-trans old.wrote mid.wrote new.wrote (plain_text early.bodies) line early.wrote.wrote then;
   }
 
   -- nothing behind them
-  same-sink : new ≡ mid → WritesOfFront r reads name (Appends old.wrote mid.wrote) → WritesOfFront r reads name (Appends old.wrote new.wrote)
-  same-sink same early = subst (λ (s : SinkState). WritesOfFront r reads name (Appends old.wrote s.wrote)) (sym same) early
+  same-sink : new ≡ mid → WritesOfFront r reads name (WritesUnfailing old mid) → WritesOfFront r reads name (WritesUnfailing old new)
+  same-sink same early = subst (λ (s : SinkState). WritesOfFront r reads name (WritesUnfailing old s)) (sym same) early
 
   fault-messages : (result : Status) → result ≡ status.WriteFault → WritesMessages r reads name old new result
   fault-messages result is = subst (WritesMessages r reads name old new) (sym is) tt
@@ -275,7 +275,7 @@ module _ (r : Reading) (reads : List ℕ → List (List ℕ) → Option BadMessa
   line-messages the_status line result gives (inl all) = subst (WritesMessages r reads name old new) (sym all.status_is) (gives all.wrote)
   line-messages the_status line result gives (inr fault) = fault-messages result fault.status_is
 
-  stop-messages : (early : WritesOfFront r reads name (Appends old.wrote mid.wrote)) (fault : TakeFault) (result : Status) → AnswersStop mid new (stop_of_take Orders fault) result → WritesMessages r reads name old new result
+  stop-messages : (early : WritesOfFront r reads name (WritesUnfailing old mid)) (fault : TakeFault) (result : Status) → AnswersStop mid new (stop_of_take Orders fault) result → WritesMessages r reads name old new result
   stop-messages early take.Fault result answers = line-messages status.ReadFault (read_fault_line Orders) result (λ wrote. behind (read_fault_line Orders) wrote early) answers
   stop-messages early take.TooLong result answers = line-messages status.TooLong (too_long_line Orders) result (λ wrote. behind (too_long_line Orders) wrote early) answers
   stop-messages early take.Memory result answers = subst (WritesMessages r reads name old new) (sym answers.status_is) (same-sink answers.nothing early)

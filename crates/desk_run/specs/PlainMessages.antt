@@ -1,5 +1,5 @@
 -- What `plain` has written where it did not come to the end of the day, or memory ran out.
-use Rattle.std.specs.Prelude.{ℕ, List, ◌++◌, Option, None, Some}
+use Rattle.std.specs.Prelude.{◌≡◌, ℕ, List, ◌++◌, Option, None, Some}
 use Rattle.std.specs.Io.KnownBytes.{Appends}
 use Rattle.audit_base.specs.declared.terms.Which.TheVariants.{Orders}
 use Rattle.audit_report.specs.declared.statuses.Status.{Status}
@@ -27,12 +27,16 @@ pub record WritesOfFront (r : Reading)
   pub begins : BeginsReadings reads front bodies
   pub wrote : writes (plain_text bodies)
 
+-- The text was written, and no fault of the sink was counted: no write failed.
+pub record WritesUnfailing (old new : SinkState) (text : List ℕ) : Type 0 where
+  pub wrote : Appends old.wrote new.wrote text
+  pub quiet : new.faults ≡ old.faults
+
 -- at 7, 4 and 6 whole messages were written, and behind them the line of 4 or of 6: so no write
--- failed within a message, since that leaves a part of it
+-- failed within a message, since that leaves a part of it; and at 7 none failed between two either
 abbrev pub WritesMessages : Reading → (List ℕ → List (List ℕ) → Option BadMessage → Type 0)
     → List ℕ → SinkState → SinkState → Status → Type 0
-WritesMessages r reads name old new Memory =
-    WritesOfFront r reads name (Appends old.wrote new.wrote)
+WritesMessages r reads name old new Memory = WritesOfFront r reads name (WritesUnfailing old new)
 WritesMessages r reads name old new ReadFault =
     WritesOfFront r reads name
     (λ text. Appends old.wrote new.wrote (text ++ read_fault_line Orders))

@@ -1,6 +1,5 @@
 -- What `plain` has written of a day by the end of its reading.
 use Rattle.std.specs.Prelude.{ℕ, List, Option, Result, Ok, Err}
-use Rattle.std.specs.Io.KnownBytes.{Appends}
 use Rattle.audit_base.specs.declared.terms.Which.TheVariants.{Orders}
 use Rattle.command_run.specs.declared.answers.Answer.{Answer}
 use Rattle.fix_days.specs.declared.faults.BadMessage.{BadMessage}
@@ -14,9 +13,10 @@ use Rattle.plain_logs.specs.declared.day_ends.PlainFault.TheVariants as plain
 use Rattle.plain_logs.specs.DayFeeds.{EndsReading}
 use Rattle.plain_logs.specs.PlainTexts.{plain_text}
 use Rattle.desk_run.specs.Digesting.{stop_of_take}
-use Rattle.desk_run.specs.PlainMessages.{WritesOfFront}
+use Rattle.desk_run.specs.PlainMessages.{WritesOfFront, WritesUnfailing}
 
--- The day was read to its end, the text of its first bodies was written, and this is its end.
+-- The day was read to its end, the text of its first bodies was written without a fault, and this is
+-- its end.
 pub record WritesToEnd (r : Reading)
     (reads : List ℕ → List (List ℕ) → Option BadMessage → Type 0) (name : List ℕ)
     (old new : SinkState) (end : DayEnd) : Type 0 where
@@ -24,7 +24,7 @@ pub record WritesToEnd (r : Reading)
   pub bodies : List (List ℕ)
   pub read : IsRead r (step_of r Orders name) bytes
   pub begins : BeginsReadings reads bytes bodies
-  pub wrote : Appends old.wrote new.wrote (plain_text bodies)
+  pub wrote : WritesUnfailing old new (plain_text bodies)
   pub ends : EndsReading reads bytes bodies end
 
 -- The sink failed at a text: a part of it was written.
@@ -32,12 +32,12 @@ pub record FailsAt (old new : SinkState) (text : List ℕ) : Type 0 where
   pub part : AppendsPart old.wrote new.wrote text
   pub cause : HasFailureCause old new
 
--- Reading stopped for this cause, and what was read until then was written.
+-- Reading stopped for this cause, and what was read until then was written without a fault.
 pub record WritesToStop (r : Reading)
     (reads : List ℕ → List (List ℕ) → Option BadMessage → Type 0) (name : List ℕ)
     (old new : SinkState) (stops : Type 0) : Type 0 where
   pub cause : stops
-  pub early : WritesOfFront r reads name (Appends old.wrote new.wrote)
+  pub early : WritesOfFront r reads name (WritesUnfailing old new)
 
 -- what was written of a day, by how its writing ended
 abbrev pub WritesDay : Reading → (List ℕ → List (List ℕ) → Option BadMessage → Type 0)

@@ -34,9 +34,11 @@ pub record Passing {F D : Type 0} (shelves : shelf.Ghosts F) (reads : List ℕ �
   pub bodies : List (List ℕ)
   pub has : has_read feed read bodies
   pub count : length read ≡ taken
+  pub given : (shelves.slot now which).gave read ≡ true
   pub known : shelves.tells first ≡ true → IsSome (shelves.log_of first which name) × Consumes (shelves.log_of first which name) (shelves.slot now which).left read
   pub begins : BeginsReadings reads read bodies
   pub wrote : Appends sink_first.wrote sink_now.wrote (plain_text bodies)
+  pub quiet : sink_now.faults ≡ sink_first.faults
   pub stays : SinkStays sink_first sink_now
 
 -- what was consumed is a front
@@ -81,11 +83,11 @@ cause-since a b c stays cause = record { rose = rose-since a.faults b.faults c.f
 
 module _ {D : Type 0} (reads : List ℕ → List (List ℕ) → Option BadMessage → Type 0) (has_read : D → List ℕ → List (List ℕ) → Type 0) (old new : D) (piece : List ℕ) (sink_old sink_new : SinkState) where
   -- the text of a piece was written
-  pub piece-written : {T : Type 0} (text : List ℕ) (unit : T) → ReadsPiece reads has_read old new piece text → Appends sink_old.wrote sink_new.wrote text
+  pub piece-written : {T : Type 0} (text : List ℕ) (unit : T) → ReadsPiece reads has_read old new piece text → Appends sink_old.wrote sink_new.wrote text → sink_new.faults ≡ sink_old.faults
       → (day : List ℕ) (bodies : List (List ℕ)) → has_read old day bodies → WritesMore reads has_read new (day ++ piece) bodies sink_old sink_new
-  piece-written text unit on wrote day bodies has =
+  piece-written text unit on wrote quiet day bodies has =
       let more = on day bodies has in
-      record { more = more.more; read = more.read; begins = more.begins; wrote = subst (Appends sink_old.wrote sink_new.wrote) more.text_is wrote }
+      record { more = more.more; read = more.read; begins = more.begins; wrote = subst (Appends sink_old.wrote sink_new.wrote) more.text_is wrote; quiet = quiet }
 
   -- a part of it was written
   pub piece-failed : (text : List ℕ) → ReadsPiece reads has_read old new piece text → AppendsPart sink_old.wrote sink_new.wrote text → HasFailureCause sink_old sink_new
@@ -112,6 +114,7 @@ module _ {F : Type 0} (shelves : shelf.Ghosts F) (reads : List ℕ → List (Lis
     bodies = [];
     of = record { taken = omega arith; known = λ tells. nothing-first (shelves.log_of first which name); begins = λ more others bad is. (others, refl) };
     wrote = Appends-nil a.wrote;
+    quiet = refl;
   }
     where
       nothing-first : (log : Option (List ℕ)) → IfSome log (λ xs. StartsWith xs [])
@@ -130,18 +133,18 @@ module _ {F : Type 0} (shelves : shelf.Ghosts F) (reads : List ℕ → List (Lis
   }
 
   -- reading stopped after a front
-  pub stops-after : (a b : SinkState) (left : Option (List ℕ)) (read : List ℕ) (bodies : List (List ℕ)) → Appends a.wrote b.wrote (plain_text bodies) → BeginsReadings reads read bodies → length read ≤ (shelves.slot new which).taken
+  pub stops-after : (a b : SinkState) (left : Option (List ℕ)) (read : List ℕ) (bodies : List (List ℕ)) → Appends a.wrote b.wrote (plain_text bodies) → b.faults ≡ a.faults → BeginsReadings reads read bodies → length read ≤ (shelves.slot new which).taken
       → (shelves.tells first ≡ true → IsSome (shelves.log_of first which name) × Consumes (shelves.log_of first which name) left read) → WritesFront shelves reads which name first new a b
-  stops-after a b left read bodies wrote begins few known = record { front = read; bodies = bodies; of = front-of-log left read bodies few known begins; wrote = wrote }
+  stops-after a b left read bodies wrote quiet begins few known = record { front = read; bodies = bodies; of = front-of-log left read bodies few known begins; wrote = wrote; quiet = quiet }
 
   -- a piece was not passed on
   pub stops-at-piece : {D : Type 0} (T : Type 0) (has_read : D → List ℕ → List (List ℕ) → Type 0) (feed fed : D) (count : ℕ) (buf : List ℕ) (a b c : SinkState) (left next : Option (List ℕ)) (read : List ℕ) (bodies : List (List ℕ)) (fault : PlainFault)
-      → PassesPiece {T = T} reads has_read feed fed (take count buf) b c (Err fault) → has_read feed read bodies → SinkStays a b → Appends a.wrote b.wrote (plain_text bodies) → BeginsReadings reads read bodies
+      → PassesPiece {T = T} reads has_read feed fed (take count buf) b c (Err fault) → has_read feed read bodies → SinkStays a b → Appends a.wrote b.wrote (plain_text bodies) → b.faults ≡ a.faults → BeginsReadings reads read bodies
       → length read + count ≤ (shelves.slot new which).taken → (shelves.tells first ≡ true → IsSome (shelves.log_of first which name) × Consumes (shelves.log_of first which name) left read) → Consumes left next (take count buf)
       → StopsWriting shelves reads which name first new a c fault
-  stops-at-piece T has_read feed fed count buf a b c left next read bodies (plain.Log why) is has stays wrote begins few known moved =
-      stops-after a c left read bodies (subst (λ (s : SinkState). Appends a.wrote s.wrote (plain_text bodies)) (sym is.1) wrote) begins (omega (arith, few)) known
-  stops-at-piece T has_read feed fed count buf a b c left next read bodies plain.Sink is has stays wrote begins few known moved =
+  stops-at-piece T has_read feed fed count buf a b c left next read bodies (plain.Log why) is has stays wrote quiet begins few known moved =
+      stops-after a c left read bodies (subst (λ (s : SinkState). Appends a.wrote s.wrote (plain_text bodies)) (sym is.1) wrote) (subst (λ (s : SinkState). s.faults ≡ a.faults) (sym is.1) quiet) begins (omega (arith, few)) known
+  stops-at-piece T has_read feed fed count buf a b c left next read bodies plain.Sink is has stays wrote quiet begins few known moved =
       let size = length-append read (take count buf) in
       let part = length-take count buf in
       fails-at a b c next (read ++ take count buf) bodies stays wrote (is read bodies has) (omega (arith, few, size, part))

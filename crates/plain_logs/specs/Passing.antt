@@ -9,7 +9,7 @@ use Rattle.plain_logs.specs.declared.day_ends.PlainFault.{PlainFault}
 use Rattle.plain_logs.specs.declared.day_ends.PlainFault.TheVariants as plain
 use Rattle.plain_logs.specs.PlainTexts.{plain_text}
 
--- More bodies were read of the day, and their text was written, whole.
+-- More bodies were read of the day, and their text was written, whole, with no fault of the sink.
 pub record WritesMore {D : Type 0} (reads : List ℕ → List (List ℕ) → Option BadMessage → Type 0)
     (has_read : D → List ℕ → List (List ℕ) → Type 0) (feed : D) (day : List ℕ)
     (bodies : List (List ℕ)) (sink_old sink_new : SinkState) : Type 0 where
@@ -17,6 +17,7 @@ pub record WritesMore {D : Type 0} (reads : List ℕ → List (List ℕ) → Opt
   pub read : has_read feed day (bodies ++ more)
   pub begins : BeginsReadings reads day (bodies ++ more)
   pub wrote : Appends sink_old.wrote sink_new.wrote (plain_text more)
+  pub quiet : sink_new.faults ≡ sink_old.faults
 
 -- More bodies were read of the day, and a part of their text was written.
 pub record FailsAtMore (reads : List ℕ → List (List ℕ) → Option BadMessage → Type 0)

@@ -1,5 +1,5 @@
 -- What is written of a log of a shelf while it is read.
-use Rattle.std.specs.Prelude.{◌≡◌, ◌≤◌, ℕ, List, Option, Result, Ok, Err, length}
+use Rattle.std.specs.Prelude.{true, ◌≡◌, ◌≤◌, ℕ, List, Option, Result, Ok, Err, length}
 use Rattle.std.specs.Io.KnownBytes.{Appends}
 use Rattle.audit_base.specs.declared.terms.Which.{Which}
 use Rattle.fix_days.specs.declared.faults.BadMessage.{BadMessage}
@@ -40,7 +40,8 @@ pub record ReadsFrontOf {F : Type 0} (shelves : shelf.Ghosts F)
   pub known : IsFront shelves which name old front
   pub begins : BeginsReadings reads front bodies
 
--- The plain text of bodies that were read of a front of the log was written, whole.
+-- The plain text of bodies that were read of a front of the log was written, whole, and no fault of
+-- the sink was counted.
 pub record WritesFront {F : Type 0} (shelves : shelf.Ghosts F)
     (reads : List ℕ → List (List ℕ) → Option BadMessage → Type 0) (which : Which)
     (name : List ℕ) (old new : F) (sink_old sink_new : SinkState) : Type 0 where
@@ -48,6 +49,7 @@ pub record WritesFront {F : Type 0} (shelves : shelf.Ghosts F)
   pub bodies : List (List ℕ)
   pub of : ReadsFrontOf shelves reads which name old new front bodies
   pub wrote : Appends sink_old.wrote sink_new.wrote (plain_text bodies)
+  pub quiet : sink_new.faults ≡ sink_old.faults
 
 -- The sink failed, and a part of the plain text of such bodies was written.
 pub record FailsAtFront {F : Type 0} (shelves : shelf.Ghosts F)
@@ -59,8 +61,8 @@ pub record FailsAtFront {F : Type 0} (shelves : shelf.Ghosts F)
   pub part : AppendsPart sink_old.wrote sink_new.wrote (plain_text bodies)
   pub cause : HasFailureCause sink_old sink_new
 
--- The whole log was taken, the plain text of the bodies that were read of it so far was written, and
--- this holds of its bytes and of them.
+-- The whole log was taken, the plain text of the bodies that were read of it so far was written, no
+-- fault of the sink was counted, and this holds of its bytes and of them.
 pub record WritesWholeLog {F : Type 0} (shelves : shelf.Ghosts F)
     (reads : List ℕ → List (List ℕ) → Option BadMessage → Type 0) (which : Which)
     (name : List ℕ) (limit : ℕ) (old new : F) (sink_old sink_new : SinkState)
@@ -70,8 +72,10 @@ pub record WritesWholeLog {F : Type 0} (shelves : shelf.Ghosts F)
   pub holding : holds bytes bodies
   pub begins : BeginsReadings reads bytes bodies
   pub wrote : Appends sink_old.wrote sink_new.wrote (plain_text bodies)
+  pub quiet : sink_new.faults ≡ sink_old.faults
   pub within : length bytes ≤ limit
   pub count : length bytes ≡ (shelves.slot new which).taken
+  pub given : (shelves.slot new which).gave bytes ≡ true
   pub whole : IsWholeLog shelves which name old bytes
 
 -- what was written where a log was not read to its end

@@ -20,8 +20,10 @@ returns-in-Ok-clause-ends g c =
       holding = c.in-Ok.ensures whole.bytes whole.bodies whole.holding;
       begins = whole.begins;
       wrote = whole.wrote;
+      quiet = whole.quiet;
       within = whole.within;
       count = whole.count;
+      given = whole.given;
       whole = whole.whole;
     }
 
@@ -40,6 +42,7 @@ returns-in-Err-clause-stops g c =
       bodies = whole.bodies;
       of = record { taken = omega (arith, count); known = λ tells. whole-front _ whole.bytes (whole.whole tells); begins = whole.begins };
       wrote = whole.wrote;
+      quiet = whole.quiet;
     }
 
 pub returns-in_err-pass_log-clause-slot : goal.returns-in_err-pass_log-clause-slot
