@@ -145,6 +145,10 @@ module _ (first second : Reading) (after : Follows first second) where
       (subst (λ (n : ℕ). (second.after Trades).taken ≤ n) after.limit trades)))
       (stays (subst (λ (n : ℕ). (second.before Trades).taken ≤ n) (sym after.limit) (subst (λ (s : Slot). s.taken ≤ first.limit) (sym after.trades) (begins Trades))))
 
+-- a trade log says one thing
+pub said-once : (a b : Result (List TradeRecord) Finding) (said : Result (Result (List TradeRecord) Finding) BadPlace) → said ≡ Ok a → said ≡ Ok b → a ≡ b
+said-once a b said x y = cc
+
 -- a log with a bad place has given a collector nothing
 none-collected : {K : Type 0} (has_taken : K → List TradeRecord → Type 0) (kept : CollectedTrades K) (bad : BadPlace) → HasCollected has_taken kept (Err bad) → ⊥
 none-collected has_taken (collected.Trades collector) bad has = let says : Err bad ≡ Ok (Ok has.trades) = has.says in cc

@@ -1,7 +1,6 @@
 -- The two logs of a symbol that were read, and what they give.
-use Rattle.std.proofs.Common.{◌≡◌, ◌∙◌, sym, ap, subst, ℕ, Bool, true, List, [], Result, Ok, Err, length}
+use Rattle.std.proofs.Common.{◌≡◌, ◌∙◌, refl, sym, ap, subst, ℕ, Bool, true, List, [], Result, Ok, Err, length}
 use Rattle.std.proofs.lemmas.List.{length-map}
-use Rattle.audit_base.specs.declared.faults.BadPlace.{BadPlace}
 use Rattle.audit_base.specs.declared.findings.Finding.{Finding}
 use Rattle.audit_base.specs.declared.orders.Order.{Order}
 use Rattle.audit_base.specs.declared.records.OrderRecord.{OrderRecord}
@@ -28,21 +27,19 @@ use Rattle.symbol_offences.specs.OrderLog.{IsOrdersOfSymbol}
 use Rattle.symbol_offences.specs.Questions.{kept_if}
 use Rattle.symbol_offences.specs.SymbolBeforeRule.{ArePlacesRising, IsReadyToTell, IsSymbolBeforeRule, kept_history, kept_trades, places_of_records}
 use Rattle.symbol_offences.specs.TradeLog.{IsTradesOfSymbol}
+use Rattle.log_verdict.proofs.JoinLemmas.{said-once}
 use Rattle.symbol_offences.proofs.KeptLemmas.{history-rises, trades-rise}
 
 -- what was kept of the trades that were read
 pub kept-paired : {K : Type 0} (has_taken : K → List TradeRecord → Type 0) (kept : K) (paired : Result (List TradeRecord) Finding) → HasCollected has_taken (collected.Trades kept) (Ok paired) → has_taken kept (paired_trades paired)
-kept-paired has_taken kept (Ok trades) has =
-    let says : Ok {E = BadPlace} (Ok {E = Finding} trades) ≡ Ok (Ok has.trades) = has.says in
-    let same : trades ≡ has.trades = cc in
-    subst (has_taken kept) (sym same) has.has
-kept-paired has_taken kept (Err finding) has =
-    let says : Ok {E = BadPlace} (Err {T = List TradeRecord} finding) ≡ Ok (Ok has.trades) = has.says in absurd cc
+kept-paired has_taken kept paired has =
+    subst (λ (p : Result (List TradeRecord) Finding). has_taken kept (paired_trades p)) (sym (said-once paired (Ok has.trades) (Ok paired) refl has.says)) has.has
 
 -- where a report has no partner there are none
-pub none-paired : (P : List TradeRecord → Type 0) (finding : Finding) (paired : Result (List TradeRecord) Finding) → Ok {E = BadPlace} paired ≡ Ok (Err finding) → P [] → P (paired_trades paired)
-none-paired P finding (Ok trades) says is = absurd cc
-none-paired P finding (Err other) says is = is
+pub none-paired : {K : Type 0} (has_taken : K → List TradeRecord → Type 0) (fresh : K) (finding : Finding) (paired : Result (List TradeRecord) Finding) → HasCollected has_taken (collected.Alone finding) (Ok paired) → has_taken fresh []
+    → has_taken fresh (paired_trades paired)
+none-paired has_taken fresh finding paired says is =
+    subst (λ (p : Result (List TradeRecord) Finding). has_taken fresh (paired_trades p)) (sym (said-once paired (Err finding) (Ok paired) refl says)) is
 
 -- what was kept of both logs is what they give of the symbol
 pub kept-logs : {Q : Type 0} (symbol : List ℕ) (keeping : KeepingOptions) (scope : Scope) (entries : List OrderRecord) (paired : Result (List TradeRecord) Finding) (read : LogsBeforeRule (OrdersOfSymbol Q) (TradesOfSymbol Q)) (kept : TradesOfSymbol Q)

@@ -8,4 +8,4 @@ returns-in-Trades g c = λ paired has.
 
 pub returns-in-Alone : goal.returns-in-Alone
 returns-in-Alone g c = λ paired has.
-    none-paired (IsTradesOfSymbol g.Q.QuestionGhost.symbol g.Q.QuestionGhost.keeping c.new.result) _ paired (rw c.in-Alone.is at has) c.new.ensures
+    none-paired (IsTradesOfSymbol g.Q.QuestionGhost.symbol g.Q.QuestionGhost.keeping) c.new.result _ paired (rw c.in-Alone.is at has) c.new.ensures
