@@ -2,6 +2,7 @@
 -- further checks behind it, and the text of the day.
 pub mod ToldSymbols
 pub mod CheckedSymbols
+pub mod SymbolWalks
 pub mod DayVerdicts
 pub mod VerdictLists
 pub mod ShareTelling

@@ -8,4 +8,5 @@
 pub mod judging;
 pub mod laws;
 pub mod symbol_reports;
+pub mod symbol_walk;
 pub mod verdict_lists;
