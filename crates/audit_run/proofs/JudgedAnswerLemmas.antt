@@ -19,9 +19,9 @@ use Rattle.matching_core.specs.declared.deals_draft.ResolvedTrades.{ResolvedTrad
 use Rattle.record_verdict.specs.declared.before_rule.BeforeRule.{BeforeRule}
 use Rattle.record_verdict.specs.declared.before_rule.BeforeRule.TheVariants as before_rule
 use Rattle.record_verdict.specs.declared.questions.Question.{Question}
-use Rattle.record_verdict.specs.declared.verdicts.Judged.{Judged}
-use Rattle.record_verdict.specs.declared.verdicts.Judged.TheVariants as judged
-use Rattle.record_verdict.specs.Judged.{as_verdict}
+use Rattle.record_verdict.specs.declared.verdicts.RecordVerdict.{RecordVerdict}
+use Rattle.record_verdict.specs.declared.verdicts.RecordVerdict.TheVariants as judged
+use Rattle.record_verdict.specs.RecordVerdict.{as_verdict}
 use Rattle.command_run.specs.declared.answers.Answer.{Answer}
 use Rattle.audit_report.specs.declared.statuses.Status.{Status}
 use Rattle.audit_run.specs.Certificates.{IsCertificateOf, IsCertifyAnswer, IsVerdictAnswerWith}
@@ -53,7 +53,7 @@ of_bad_logs P B log bad holds orders trades come =
     of_logs (λ entries paired. ⊥) P (λ which place. (which ≡ log) × (place ≡ bad)) B (λ entries paired never. absurd never) (λ which place same. rw (same.0, same.1) holds) orders trades come
 
 -- the verdict by what is known of two logs is that of the logs
-pub verdict_of_logs : (q : Question) (reached : BeforeRule) (v : Judged) (orders trades : Log) → IsVerdictAfterStages q reached v → LogsReach (scope_of q) orders trades reached → IsLogVerdict q orders trades (as_verdict v)
+pub verdict_of_logs : (q : Question) (reached : BeforeRule) (v : RecordVerdict) (orders trades : Log) → IsVerdictAfterStages q reached v → LogsReach (scope_of q) orders trades reached → IsLogVerdict q orders trades (as_verdict v)
 verdict_of_logs q reached v orders trades is come =
     of_logs (λ entries paired. IsBeforeRule (scope_of q) entries paired reached) (λ entries paired. IsRecordVerdict q entries paired (as_verdict v))
     (λ log bad. ⊥) (λ log bad. as_verdict v ≡ verdict.Malformed log bad) is.of_records (λ log bad never. absurd never) orders trades come
@@ -68,11 +68,11 @@ bad_certifies q orders trades log bad the_status text made come = record {
 }
 
 -- so is that of a finding
-pub found_certifies : (q : Question) (finding : Finding) (v : Judged) (answer : Answer) → IsVerdictAfterStages q (before_rule.Found finding) v → IsAnswerOfKind (IsVerdictAnswer (verdict.Rejected finding)) answer
+pub found_certifies : (q : Question) (finding : Finding) (v : RecordVerdict) (answer : Answer) → IsVerdictAfterStages q (before_rule.Found finding) v → IsAnswerOfKind (IsVerdictAnswer (verdict.Rejected finding)) answer
     → IsAnswerOfKind (IsCertifyAnswerOn q (before_rule.Found finding)) answer
 found_certifies q finding v answer is made orders trades come = record {
   verdict = verdict.Rejected finding;
-  is = subst (λ (j : Judged). IsLogVerdict q orders trades (as_verdict j)) (is.of_finding finding refl) (verdict_of_logs q (before_rule.Found finding) v orders trades is come);
+  is = subst (λ (j : RecordVerdict). IsLogVerdict q orders trades (as_verdict j)) (is.of_finding finding refl) (verdict_of_logs q (before_rule.Found finding) v orders trades is come);
   answer = made;
 }
 
@@ -109,14 +109,14 @@ certificate_of q orders trades resolved text have is =
     }
 
 -- the answer of sound trades is that of `certify`
-pub sound_certifies : (q : Question) (resolved : ResolvedTrades) (v : Judged) (answer : Answer) → IsVerdictAfterStages q (before_rule.Sound resolved) v → IsAnswerOfKind (IsVerdictAnswerWith (IsDealsCertificate q resolved) (as_verdict v)) answer → IsAnswerOfKind (IsCertifyAnswerOn q (before_rule.Sound resolved)) answer
+pub sound_certifies : (q : Question) (resolved : ResolvedTrades) (v : RecordVerdict) (answer : Answer) → IsVerdictAfterStages q (before_rule.Sound resolved) v → IsAnswerOfKind (IsVerdictAnswerWith (IsDealsCertificate q resolved) (as_verdict v)) answer → IsAnswerOfKind (IsCertifyAnswerOn q (before_rule.Sound resolved)) answer
 sound_certifies q resolved v answer is made orders trades come = record {
   verdict = as_verdict v;
   is = verdict_of_logs q (before_rule.Sound resolved) v orders trades is come;
   answer = of_judged v made;
 }
   where
-    of_judged : (v : Judged) → IsVerdictAnswerWith (IsDealsCertificate q resolved) (as_verdict v) answer.status answer.text.items → IsVerdictAnswerWith (IsCertificateOf q orders trades) (as_verdict v) answer.status answer.text.items
+    of_judged : (v : RecordVerdict) → IsVerdictAnswerWith (IsDealsCertificate q resolved) (as_verdict v) answer.status answer.text.items → IsVerdictAnswerWith (IsCertificateOf q orders trades) (as_verdict v) answer.status answer.text.items
     of_judged (judged.Accepted a) reports = record {
       done = reports.done;
       is = certificate_of q orders trades resolved answer.text.items (sound_records q orders trades resolved come) reports.is;

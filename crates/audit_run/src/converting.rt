@@ -13,7 +13,7 @@ use audit_base::terms::Which;
 use command_run::answers::{Answer, done_answer, finding_answer, unread_answer};
 use csv_logs::log_text::ConvertedLog;
 use log_source::shelf::Shelf;
-use log_verdict::reading::{Collected, collect_orders, collect_trades};
+use log_verdict::reading::{CollectedTrades, collect_orders, collect_trades};
 use log_verdict::sources::Source;
 use log_verdict::stops::Stop;
 use std::alloc::Global;
@@ -55,8 +55,8 @@ fn convert_trades<F: Shelf>(
 {
     let log = ConvertedLog::new(alloc)?;
     match collect_trades::<F, ConvertedLog<TradeRecord>>(alloc, shelf, source, log) {
-        Ok(Collected::Trades(log)) => Ok(done_answer(log.end()?)),
-        Ok(Collected::Alone(finding)) => Ok(finding_answer(alloc, finding)?),
+        Ok(CollectedTrades::Trades(log)) => Ok(done_answer(log.end()?)),
+        Ok(CollectedTrades::Alone(finding)) => Ok(finding_answer(alloc, finding)?),
         Err(unread) => unread_answer(alloc, Which::Trades, unread),
     }
 }

@@ -33,7 +33,7 @@ use command_run::answers::{Answer, done_answer, finding_answer, unread_answer};
 use continuous_audit::expecting::continuous_matching;
 use continuous_laws::laws::continuous_uniqueness;
 use csv_logs::writers::write_trades;
-use instruction_history::history_draft::{AuditedSymbol, HistoryDraft};
+use instruction_history::history_draft::{SymbolGhost, HistoryDraft};
 use log_source::shelf::Shelf;
 use log_verdict::reading::collect_orders;
 use log_verdict::sources::Source;
@@ -109,7 +109,7 @@ fn expected_log(
 }
 
 /// The answer to the records of an order log.
-fn answer_records<S: AuditedSymbol>(
+fn answer_records<S: SymbolGhost>(
     alloc: Global,
     rule: Rule,
     symbol: &Name,
@@ -134,7 +134,7 @@ fn answer_records<S: AuditedSymbol>(
 }
 
 /// The answer to `expect`, by the history of the symbol.
-fn answer_about<S: AuditedSymbol, F: Shelf>(
+fn answer_about<S: SymbolGhost, F: Shelf>(
     alloc: Global,
     shelf: &mut F,
     rule: Rule,

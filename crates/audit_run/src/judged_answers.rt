@@ -4,7 +4,7 @@ ghost use Rattle.audit_base.specs.RuleKinds.{asks_for_greatest};
 ghost use Rattle.audit_run.specs.Certificates.{IsVerdictAnswerWith};
 ghost use Rattle.command_run.specs.Deciding.{IsAnswerOfKind};
 ghost use Rattle.audit_run.specs.JudgedAnswers.{IsCertifyAnswerOn, IsDealsCertificate};
-ghost use Rattle.record_verdict.specs.Judged.{as_verdict};
+ghost use Rattle.record_verdict.specs.RecordVerdict.{as_verdict};
 ghost use Rattle.record_verdict.specs.Stages.{VerdictFollowsDeals};
 ghost use Rattle.record_verdict.specs.BeforeRule.{AreResolvedTradesInRange, IsJudgeable};
 
@@ -14,7 +14,7 @@ use command_run::answers::{Answer, done_answer, finding_answer};
 use matching_core::deals_draft::ResolvedTrades;
 use record_verdict::before_rule::BeforeRule;
 use record_verdict::questions::Question;
-use record_verdict::verdicts::{Judged, verdict_after};
+use record_verdict::verdicts::{RecordVerdict, verdict_after};
 use std::alloc::Global;
 
 /// The certificate of sound trades that conform, or what `audit` answers where they do not.
@@ -22,7 +22,7 @@ fn certified_answer(
     alloc: Global,
     question: &Question,
     resolved: &ResolvedTrades,
-    judged: &Judged,
+    judged: &RecordVerdict,
 ) -> Result<Answer, NoMemory>
     requires rule { IsTrue (asks_for_greatest question.now.rule) }
     requires judgeable { AreResolvedTradesInRange resolved.now }
@@ -34,14 +34,14 @@ fn certified_answer(
         (as_verdict judged.now))) }
 {
     match judged {
-        Judged::Accepted(_) => Ok(done_answer(certify(
+        RecordVerdict::Accepted(_) => Ok(done_answer(certify(
             alloc,
             question.rule,
             &question.symbol,
             &resolved.history.orders(),
             &resolved.deals,
         )?)),
-        Judged::Rejected(finding) => finding_answer(alloc, *finding),
+        RecordVerdict::Rejected(finding) => finding_answer(alloc, *finding),
     }
 }
 

@@ -18,7 +18,7 @@ use command_words::requests::{Request, WordsFault, read_words};
 use log_source::shelf::Shelf;
 use log_source::sink::Sink;
 use log_verdict::laws::one_verdict;
-use log_verdict::runs::Ran;
+use log_verdict::runs::RunEnd;
 use seeded_hash::seed::HashSeed;
 use std::alloc::Global;
 
@@ -29,7 +29,7 @@ fn run_request<F: Shelf, K: Sink>(
     shelf: &mut F,
     out: &mut K,
     request: &Request,
-) -> Ran<Status, ()>
+) -> RunEnd<Status, ()>
     requires { MayBeAsked request.now }
     ensures logs { KeepsShelfLogs F.Shelf shelf.old shelf.new }
     ensures later { FaultsNeverFall (reading F.Shelf shelf.old shelf.new) }
@@ -70,7 +70,7 @@ pub fn run_seeded<F: Shelf, K: Sink>(
     words: &[String],
     shelf: &mut F,
     out: &mut K,
-) -> Ran<Status, ()>
+) -> RunEnd<Status, ()>
     ensures { AuditorAnswers F.Shelf (request_of (map string_bytes words.now)) shelf.old shelf.new
         (K.state out.old) (K.state out.new) result.status }
 {
@@ -80,12 +80,12 @@ pub fn run_seeded<F: Shelf, K: Sink>(
     memory_is_answered::<Auditor>();
     match read_words(alloc, words) {
         Ok(request) => run_request(alloc, seed, shelf, out, &request),
-        Err(WordsFault::Usage) => Ran {
+        Err(WordsFault::Usage) => RunEnd {
             status: write_usage::<Auditor, K>(out),
             stop: None,
             back: (),
         },
-        Err(WordsFault::Memory) => Ran {
+        Err(WordsFault::Memory) => RunEnd {
             status: Status::Memory,
             stop: None,
             back: (),

@@ -29,7 +29,7 @@ use command_run::laws::{both_logs_decide, read_logs_decide};
 use log_source::shelf::Shelf;
 use log_source::take::take_log;
 use log_verdict::both_logs::read_both;
-use log_verdict::reading::Unread;
+use log_verdict::reading::ReadingFault;
 use log_verdict::sources::Source;
 use log_verdict::stops::Stop;
 use matching_core::deals_draft::ResolvedTrades;
@@ -125,7 +125,7 @@ fn answer_certificate<F: Shelf>(
 {
     match take_log(alloc, shelf, Which::Trades, name, limit) {
         Ok(certificate) => Ok(verify_answer(alloc, symbol, given, &certificate)?),
-        Err(fault) => unread_answer(alloc, Which::Trades, Unread::from(fault)),
+        Err(fault) => unread_answer(alloc, Which::Trades, ReadingFault::from(fault)),
     }
 }
 

@@ -4,7 +4,7 @@ use Rattle.audit_report.specs.declared.statuses.Status.{Status}
 use Rattle.audit_run.specs.TopCall.{AuditorAnswers}
 use Rattle.command_words.specs.Words.{request_of}
 use Rattle.log_source.specs.declared.shelf.Shelf.{Ghosts as Shelf}
-use Rattle.stderr_notes.specs.FreshEnds.{RunEnds}
+use Rattle.program_ends.specs.FreshEnds.{RunEnds}
 
 -- the answer is that of the top call to what words ask for
 abbrev pub AuditorAnswersWords : {S : Type 0} → Shelf S → List (List ℕ)

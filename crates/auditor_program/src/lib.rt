@@ -1,7 +1,7 @@
 //! What the program `auditor` does with what its machine gives it: the arguments, files,
 //! standard output and a random seed are handed to `run_seeded`, and the number of the status
 //! is what the process ends with. Where it is above 1, one line on standard error says why
-//! (`stderr_notes`).
+//! (`program_ends`).
 //!
 //! All of it is `answer_command_line`, over any command line, files, output and notes. The program
 //! is one call of it with the runtime's.
@@ -10,9 +10,9 @@
 ghost use Rattle.auditor_program.specs.Answers.{AuditorAnswersWords};
 ghost use Rattle.audit_report.specs.Statuses.{status_number};
 ghost use Rattle.audit_report.specs.declared.statuses.Status.TheVariants as status;
-ghost use Rattle.stderr_notes.specs.CommandLines.{words_of_arguments};
-ghost use Rattle.stderr_notes.specs.FreshEnds.{BeginsOver, BeginsOverUnknown};
-ghost use Rattle.stderr_notes.specs.ProgramAnswers.{AnswersCommandLine, EndsAsAnswer, EndsAsSomeAnswer};
+ghost use Rattle.program_ends.specs.CommandLines.{words_of_arguments};
+ghost use Rattle.program_ends.specs.FreshEnds.{BeginsOver, BeginsOverUnknown};
+ghost use Rattle.program_ends.specs.ProgramAnswers.{AnswersCommandLine, EndsAsAnswer, EndsAsSomeAnswer};
 ghost use Rattle.std.specs.Prelude.{map};
 ghost use Rattle.std.specs.String.{string_bytes};
 
@@ -30,12 +30,12 @@ use log_verdict::stops::NoRecords;
 use std::io;
 use std::process::ExitCode;
 use std::random::RandomSource;
-use stderr_notes::command_line::{CommandLine, words_of};
-use stderr_notes::log_notes::print_end;
-use stderr_notes::noted_shelf::NotedShelf;
-use stderr_notes::notes::Notes;
-use stderr_notes::program_ends::{Ended, UsedEnds, exit_code, fresh_output, noted_files};
-use stderr_notes::usage_notes::print_auditor_usage;
+use program_ends::command_line::{CommandLine, words_of};
+use program_ends::log_notes::print_end;
+use program_ends::noted_shelf::NotedShelf;
+use program_ends::notes::Notes;
+use program_ends::ends::{ProgramEnd, UsedEnds, exit_code, fresh_output, noted_files};
+use program_ends::usage_notes::print_auditor_usage;
 
 /// Says on standard error why a run of these words ended above 1.
 fn tell<N: Notes, F: Shelf>(
@@ -110,7 +110,7 @@ pub fn answer_command_line<
     S: FileSystem + Drop,
     W: Output + Drop,
     N: Notes,
->(machine: &R, files: S, output: W, notes: &N) -> Ended<S, W>
+>(machine: &R, files: S, output: W, notes: &N) -> ProgramEnd<S, W>
     ensures { let shelf = ⟦<NotedShelf<FileShelf<S>> as Shelf>⟧ in
         let state = ⟦<StdSink<W> as Sink>⟧.state in
         EndsAsAnswer (AuditorAnswersWords shelf) status.Memory status_number
@@ -121,7 +121,7 @@ pub fn answer_command_line<
     let mut shelf = noted_files(machine.alloc(), files);
     let mut out = fresh_output(output);
     let status = answer_words(machine, &mut shelf, &mut out, notes);
-    Ended {
+    ProgramEnd {
         code: exit_code(status),
         ends: UsedEnds { shelf, out },
     }

@@ -7,7 +7,7 @@ use Rattle.std.proofs.lemmas.List.FromFn.{get_or-enumerate_from, length-enumerat
 use Rattle.std.proofs.lemmas.List.Sums.{sum_by_more, sum_by_more_le}
 use Rattle.audit_base.specs.declared.terms.Side.{Side}
 use Rattle.call_picture.specs.declared.steps.SideStep.{SideStep}
-use Rattle.call_picture.specs.declared.windows.Drawn.{Drawn}
+use Rattle.call_picture.specs.declared.windows.DrawnSteps.{DrawnSteps}
 use Rattle.page_plots.proofs.SeriesLemmas.{mapped-more}
 use Rattle.page_plots.specs.declared.plots.Plot.{Plot}
 use Rattle.call_drawing.specs.declared.bars.Bar.{Bar}
@@ -15,12 +15,12 @@ use Rattle.call_drawing.specs.declared.bars.PlacedStep.{PlacedStep}
 use Rattle.call_drawing.specs.Bars.{bar_of, end_of_steps, placed_steps, start_of, step_at_place}
 
 -- the first steps have their bars, and the next one begins here
-pub record ArePlacedSoFar (plot : Plot) (side : Side) (drawn : Drawn) (count start : ℕ) (steps : List PlacedStep) : Type 0 where
+pub record ArePlacedSoFar (plot : Plot) (side : Side) (drawn : DrawnSteps) (count start : ℕ) (steps : List PlacedStep) : Type 0 where
   pub begins : start ≡ start_of drawn count
   pub placed : steps ≡ map (step_at_place plot side drawn) (take count (enumerate_from 0 drawn.steps.items))
 
 -- a step ends where the next one begins
-pub begins-more : (drawn : Drawn) (index : ℕ) (step : SideStep) → index < length drawn.steps.items → step ≡ get_or drawn.steps.items index step
+pub begins-more : (drawn : DrawnSteps) (index : ℕ) (step : SideStep) → index < length drawn.steps.items → step ≡ get_or drawn.steps.items index step
     → start_of drawn index + step.quantity ≡ start_of drawn (index + 1)
 begins-more drawn index step lt is =
     let more = sum_by_more (λ (s : SideStep). s.quantity) drawn.steps.items index step lt in
@@ -28,14 +28,14 @@ begins-more drawn index step lt is =
     omega (arith, more, same)
 
 -- and no further than the last one
-pub ends-within : (drawn : Drawn) (index : ℕ) (step : SideStep) → index < length drawn.steps.items → step ≡ get_or drawn.steps.items index step
+pub ends-within : (drawn : DrawnSteps) (index : ℕ) (step : SideStep) → index < length drawn.steps.items → step ≡ get_or drawn.steps.items index step
     → start_of drawn index + step.quantity ≤ end_of_steps drawn
 ends-within drawn index step lt is =
     let most = sum_by_more_le (λ (s : SideStep). s.quantity) drawn.steps.items index step lt in
     let same : step.quantity ≡ (get_or drawn.steps.items index step).quantity = ap (λ (s : SideStep). s.quantity) is in
     omega (arith, most, same)
 
-module _ (plot : Plot) (side : Side) (drawn : Drawn) where
+module _ (plot : Plot) (side : Side) (drawn : DrawnSteps) where
   -- none so far
   pub placed-start : ArePlacedSoFar plot side drawn 0 drawn.before []
   placed-start = record { begins = omega arith; placed = refl }

@@ -5,7 +5,7 @@ use Rattle.audit_base.specs.declared.terms.Side.{Side}
 use Rattle.audit_base.specs.declared.terms.Side.TheVariants.{Buy, Sell}
 use Rattle.call_picture.specs.declared.pictures.SidePicture.{SidePicture}
 use Rattle.call_picture.specs.declared.steps.SideStep.{SideStep}
-use Rattle.call_picture.specs.declared.windows.Drawn.{Drawn}
+use Rattle.call_picture.specs.declared.windows.DrawnSteps.{DrawnSteps}
 use Rattle.call_picture.specs.Windows.{quantity_of_steps}
 use Rattle.call_drawing.specs.declared.bars.Bar.{Bar}
 use Rattle.call_drawing.specs.declared.bars.PlacedSide.{PlacedSide}
@@ -16,11 +16,11 @@ use Rattle.page_plots.specs.Plots.{x_of, y_of}
 
 -- the quantity at which the step of a side at a place begins: what the better ones ask for or offer
 -- together, drawn or not
-abbrev pub start_of : Drawn → ℕ → ℕ
+abbrev pub start_of : DrawnSteps → ℕ → ℕ
 start_of drawn place = drawn.before + quantity_of_steps (take place drawn.steps.items)
 
 -- the quantity at which the last step ends
-abbrev pub end_of_steps : Drawn → ℕ
+abbrev pub end_of_steps : DrawnSteps → ℕ
 end_of_steps drawn = drawn.before + quantity_of_steps drawn.steps.items
 
 -- the top of a bar: bids lie above their limit, asks below
@@ -51,12 +51,12 @@ bar_of plot side start step = record {
 }
 
 -- the step at a place of a side, with its bar
-abbrev pub step_at_place : Plot → Side → Drawn → ℕ × SideStep → PlacedStep
+abbrev pub step_at_place : Plot → Side → DrawnSteps → ℕ × SideStep → PlacedStep
 step_at_place plot side drawn at =
     record { step = at.1; bar = bar_of plot side (start_of drawn at.0) at.1 }
 
 -- the steps of a side that are drawn, in order, each with its bar
-abbrev pub placed_steps : Plot → Side → Drawn → List PlacedStep
+abbrev pub placed_steps : Plot → Side → DrawnSteps → List PlacedStep
 placed_steps plot side drawn =
     map (step_at_place plot side drawn) (enumerate_from 0 drawn.steps.items)
 

@@ -2,7 +2,7 @@
 use Rattle.std.specs.Prelude.{ℕ, Bool, true, false, not, ◌||◌, ◌&&◌, nat_lt, List, [], ◌++◌, codes, decimal, if◌then◌else◌}
 use Rattle.call_picture.specs.declared.pictures.CallPicture.{CallPicture}
 use Rattle.call_picture.specs.declared.pictures.SidePicture.{SidePicture}
-use Rattle.call_picture.specs.declared.windows.Drawn.{Drawn}
+use Rattle.call_picture.specs.declared.windows.DrawnSteps.{DrawnSteps}
 use Rattle.page_markup.specs.declared.words.Tag.TheVariants as tag
 use Rattle.page_parts.specs.Elements.{text_element}
 use Rattle.page_plots.specs.Sides.{sides_legend}
@@ -21,11 +21,11 @@ bar_words false = codes " Each bar is an order."
 bar_words true = codes " Each bar is all orders of one limit."
 
 -- steps of a side are left out
-abbrev pub leaves_out : Drawn → Bool
+abbrev pub leaves_out : DrawnSteps → Bool
 leaves_out drawn = nat_lt 0 drawn.better || nat_lt 0 drawn.worse
 
 -- how many limits of a side are not drawn, where some are not
-abbrev pub left_out_words : Drawn → List ℕ
+abbrev pub left_out_words : DrawnSteps → List ℕ
 left_out_words drawn = if leaves_out drawn
     then codes " Not drawn: " ++ decimal drawn.better ++ codes " better limits, "
     ++ decimal drawn.worse ++ codes " worse limits."

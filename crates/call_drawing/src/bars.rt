@@ -9,7 +9,7 @@ use audit_base::faults::NoMemory;
 use audit_base::terms::Side;
 use call_picture::pictures::SidePicture;
 use call_picture::steps::SideStep;
-use call_picture::windows::Drawn;
+use call_picture::windows::DrawnSteps;
 use page_plots::measures::BAR_HEIGHT;
 use page_plots::plots::Plot;
 use std::alloc::Global;
@@ -104,7 +104,7 @@ fn placed_steps(
     alloc: Global,
     plot: Plot,
     side: Side,
-    drawn: &Drawn,
+    drawn: &DrawnSteps,
 ) -> Result<Vec<PlacedStep>, NoMemory>
     requires plot { IsPlot plot }
     requires fits { spec.end_of_steps drawn.now < 2 ^ 80 }

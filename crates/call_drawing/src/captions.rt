@@ -5,7 +5,7 @@ ghost use Rattle.call_drawing.specs.Captions as spec;
 use audit_base::faults::NoMemory;
 use audit_base::texts::write_number;
 use call_picture::pictures::{CallPicture, SidePicture};
-use call_picture::windows::Drawn;
+use call_picture::windows::DrawnSteps;
 use page_markup::markup::Markup;
 use page_markup::words::Tag;
 use page_parts::elements::with_text_element;
@@ -35,14 +35,14 @@ fn bar_words(by_limit: bool) -> &'static [u8]
 }
 
 /// Whether steps of a side are left out.
-fn leaves_out(drawn: &Drawn) -> bool
+fn leaves_out(drawn: &DrawnSteps) -> bool
     ensures { result ≡ spec.leaves_out drawn.now }
 {
     0 < drawn.better || 0 < drawn.worse
 }
 
 /// Appends how many limits of a side are not drawn, where some are not.
-fn append_left_out(alloc: Global, drawn: &Drawn, out: &mut Vec<u8>) -> Result<(), NoMemory>
+fn append_left_out(alloc: Global, drawn: &DrawnSteps, out: &mut Vec<u8>) -> Result<(), NoMemory>
     ensures { OnOk result (out.new.items ≡ out.old.items ++ spec.left_out_words drawn.now) }
 {
     if leaves_out(drawn) {

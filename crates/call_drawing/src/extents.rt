@@ -7,11 +7,11 @@ ghost use Rattle.page_plots.specs.Plots.{IsPlot};
 
 use call_picture::pictures::CallPicture;
 use call_picture::steps::SideStep;
-use call_picture::windows::Drawn;
+use call_picture::windows::DrawnSteps;
 use page_plots::plots::Plot;
 
 /// The quantity at which the last step of a side ends.
-fn end_of_steps(drawn: &Drawn) -> u128
+fn end_of_steps(drawn: &DrawnSteps) -> u128
     requires { bar.end_of_steps drawn.now < 2 ^ 80 }
     ensures { result ≡ bar.end_of_steps drawn.now }
 {

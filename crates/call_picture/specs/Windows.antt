@@ -1,7 +1,7 @@
 -- Which steps of a side are drawn: all, or the 400 nearest to the end of the volume.
 use Rattle.std.specs.Prelude.{◌≡◌, ◌<◌, ◌≤◌, ◌+◌, ◌-◌, ℕ, min, List, length, sum_by, take, drop}
 use Rattle.call_picture.specs.declared.steps.SideStep.{SideStep}
-use Rattle.call_picture.specs.declared.windows.Drawn.{Drawn}
+use Rattle.call_picture.specs.declared.windows.DrawnSteps.{DrawnSteps}
 
 -- what steps ask for or offer together
 abbrev pub quantity_of_steps : List SideStep → ℕ
@@ -19,7 +19,7 @@ abbrev pub first_drawn : ℕ → ℕ → ℕ
 first_drawn reach count = min (reach - 200) (count - 400)
 
 -- these of all steps are drawn: the 400 around the end of the volume
-pub record IsDrawn (volume : ℕ) (steps : List SideStep) (drawn : Drawn) : Type 0 where
+pub record IsDrawn (volume : ℕ) (steps : List SideStep) (drawn : DrawnSteps) : Type 0 where
   pub reach : ℕ
   pub is_reach : IsReach volume steps reach
   pub better : drawn.better ≡ first_drawn reach (length steps)

@@ -1,7 +1,7 @@
 //! The picture of a call: both sides, the volume and the price.
 ghost use Rattle.std.specs.Prelude.{◌≡◌, ◌<◌, ◌^◌, All, IfOk, List, length};
-ghost use Rattle.audit_base.specs.declared.orders.Deal.{Deal as ADeal};
-ghost use Rattle.audit_base.specs.declared.terms.Side.{Side as ASide};
+ghost use Rattle.audit_base.specs.declared.orders.Deal.{Deal as DealSpec};
+ghost use Rattle.audit_base.specs.declared.terms.Side.{Side as SideSpec};
 ghost use Rattle.audit_base.specs.Deals.{AreTotals, IsDealList};
 ghost use Rattle.audit_base.specs.Orders.{IsOrderList, OrdersInRange};
 ghost use Rattle.audit_base.specs.Priority.{IsRanked};
@@ -9,7 +9,7 @@ ghost use Rattle.call_picture.specs.Merging.{AreTotalsSmall};
 ghost use Rattle.call_picture.specs.Pictures.{IsCallPicture, IsPictureInRange, IsSidePicture};
 
 use super::steps::steps_of;
-use super::windows::{Drawn, MOST_STEPS, drawn_of};
+use super::windows::{DrawnSteps, MOST_STEPS, drawn_of};
 use audit_base::faults::NoMemory;
 use audit_base::orders::Deal;
 use audit_base::ranges::deals_in_range;
@@ -24,7 +24,7 @@ use std::alloc::Global;
 pub struct SidePicture {
     /// Whether a step is all orders of one limit; else it is one order.
     pub by_limit: bool,
-    pub drawn: Drawn,
+    pub drawn: DrawnSteps,
 }
 
 /// The picture of a call.
@@ -49,7 +49,7 @@ fn side_picture(
     requires small { AreTotalsSmall traded.now }
     requires inside { All (λ order. order < length orders.now) ranks.now }
     requires fits { length ranks.now < 2 ^ 32 }
-    ensures { (deals : List ADeal) → (side : ASide) → AreTotals orders.now deals traded.now
+    ensures { (deals : List DealSpec) → (side : SideSpec) → AreTotals orders.now deals traded.now
         → IsRanked orders.now side ranks.now
         → IfOk result (IsSidePicture orders.now deals side volume) }
 {

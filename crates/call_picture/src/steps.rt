@@ -1,7 +1,7 @@
 //! The orders of a side as steps: each order alone, or the orders of one limit together.
 ghost use Rattle.std.specs.Prelude.{◌≡◌, ◌<◌, ◌≤◌, ◌+◌, ◌++◌, ◌^◌, [], ◌∷◌, All, IfOk, List, OnOk, length};
-ghost use Rattle.audit_base.specs.declared.orders.Deal.{Deal as ADeal};
-ghost use Rattle.audit_base.specs.declared.terms.Side.{Side as ASide};
+ghost use Rattle.audit_base.specs.declared.orders.Deal.{Deal as DealSpec};
+ghost use Rattle.audit_base.specs.declared.terms.Side.{Side as SideSpec};
 ghost use Rattle.audit_base.specs.Deals.{AreTotals};
 ghost use Rattle.audit_base.specs.Orders.{OrdersInRange};
 ghost use Rattle.audit_base.specs.Priority.{IsRanked};
@@ -93,7 +93,7 @@ pub fn steps_of(
     requires small { AreTotalsSmall traded.now }
     requires inside { All (λ order. order < length orders.now) ranks.now }
     requires fits { length ranks.now < 2 ^ 32 }
-    ensures { (deals : List ADeal) → (side : ASide) → AreTotals orders.now deals traded.now
+    ensures { (deals : List DealSpec) → (side : SideSpec) → AreTotals orders.now deals traded.now
         → IsRanked orders.now side ranks.now
         → IfOk result (λ steps. AreSteps orders.now deals side by_limit ranks.now steps.items) }
 {

@@ -62,7 +62,7 @@ fn front_of(steps: &[SideStep]) -> &[SideStep]
 
 /// The steps of a side that are drawn.
 #[derive(Debug, Drop)]
-pub struct Drawn {
+pub struct DrawnSteps {
     /// In rank order, at most 400.
     pub steps: Vec<SideStep>,
     /// What the better steps that are not drawn ask for or offer together.
@@ -75,14 +75,14 @@ pub struct Drawn {
 
 /// Of all steps of a side those that are drawn: all, or the 400 nearest to the end of the volume.
 /// Err only out of memory.
-pub fn drawn_of(alloc: Global, steps: &[SideStep], volume: u128) -> Result<Drawn, NoMemory>
+pub fn drawn_of(alloc: Global, steps: &[SideStep], volume: u128) -> Result<DrawnSteps, NoMemory>
     ensures { IfOk result (spec.IsDrawn volume steps.now) }
 {
     let first = first_drawn(reach_of(steps, volume), steps.len());
     let before = quantity_of_steps(&steps[..first]);
     let behind = &steps[first..];
     let shown = front_of(behind);
-    Ok(Drawn {
+    Ok(DrawnSteps {
         steps: Vec::from_slice(alloc, shown)?,
         before,
         better: first,

@@ -25,7 +25,7 @@ use case_keeper::casebook::{Casebook, Filed};
 use case_keeper::keeper::Keeper;
 use log_source::shelf::Shelf;
 use log_source::sink::Sink;
-use log_verdict::runs::Ran;
+use log_verdict::runs::RunEnd;
 use log_verdict::stops::NoRecords;
 use seeded_hash::seed::HashSeed;
 use std::alloc::Global;
@@ -258,7 +258,7 @@ pub(crate) fn take_turn<F: Shelf, K: Sink, B: Keeper>(
     shelf: &mut F,
     out: &mut K,
     book: &mut Casebook<B>,
-) -> Ran<CaseStatus, ()>
+) -> RunEnd<CaseStatus, ()>
     ensures keeps { KeepsAll F.Shelf shelf.old shelf.new (K.state out.old) (K.state out.new)
         (B.state book.old) (B.state book.new) }
     ensures turn { TakesTurn (known_logs F.Shelf shelf.old)
@@ -268,12 +268,12 @@ pub(crate) fn take_turn<F: Shelf, K: Sink, B: Keeper>(
     ensures length { EndsWithinOrTooLong (reading F.Shelf shelf.old shelf.new) result.status }
 {
     match answer_to(alloc, seed, command, shelf, book) {
-        Ok(answer) => Ran {
+        Ok(answer) => RunEnd {
             status: write_text(out, &answer.text, answer.status),
             stop: answer.stop,
             back: (),
         },
-        Err(halt) => Ran {
+        Err(halt) => RunEnd {
             status: write_halt(out, halt),
             stop: halt.stop(),
             back: (),

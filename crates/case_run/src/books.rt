@@ -16,13 +16,13 @@ use super::writing::{write_halt, write_text};
 use case_keeper::casebook::Casebook;
 use log_source::shelf::Shelf;
 use log_source::sink::Sink;
-use log_verdict::runs::Ran;
+use log_verdict::runs::RunEnd;
 use seeded_hash::seed::HashSeed;
 use std::alloc::Global;
 
 /// How a run ended: its status, and the casebook, where it was opened.
 #[derive(Drop)]
-pub struct Ended<B> {
+pub struct CaseRunEnd<B> {
     pub status: CaseStatus,
     pub book: Option<Casebook<B>>,
 }
@@ -40,7 +40,7 @@ pub fn run_book<F: Shelf, K: Sink, O: Opener>(
     shelf: &mut F,
     out: &mut K,
     opener: &mut O,
-) -> Ended<O::Book>
+) -> CaseRunEnd<O::Book>
     ensures logs { KeepsShelfLogs F.Shelf shelf.old shelf.new }
     ensures sink { SinkStays (K.state out.old) (K.state out.new) }
     ensures books { KeepsCasebooks (O.state opener.old) (O.state opener.new) }
@@ -49,7 +49,7 @@ pub fn run_book<F: Shelf, K: Sink, O: Opener>(
         (option_map O.Book.state result.book) result.status }
 {
     let ran = run_book_seeded(alloc, HashSeed::fixed(), words, shelf, out, opener);
-    Ended {
+    CaseRunEnd {
         status: ran.status,
         book: ran.back,
     }
@@ -64,7 +64,7 @@ pub fn run_book_seeded<F: Shelf, K: Sink, O: Opener>(
     shelf: &mut F,
     out: &mut K,
     opener: &mut O,
-) -> Ran<CaseStatus, Option<Casebook<O::Book>>>
+) -> RunEnd<CaseStatus, Option<Casebook<O::Book>>>
     ensures logs { KeepsShelfLogs F.Shelf shelf.old shelf.new }
     ensures sink { SinkStays (K.state out.old) (K.state out.new) }
     ensures books { KeepsCasebooks (O.state opener.old) (O.state opener.new) }
@@ -73,7 +73,7 @@ pub fn run_book_seeded<F: Shelf, K: Sink, O: Opener>(
         (option_map O.Book.state result.back) result.status }
 {
     let Some((path, rest)) = words.split_first() else {
-        return Ran {
+        return RunEnd {
             status: write_text(out, usage_text(), CaseStatus::Usage),
             stop: None,
             back: None,
@@ -83,13 +83,13 @@ pub fn run_book_seeded<F: Shelf, K: Sink, O: Opener>(
         Ok(keeper) => {
             let mut book = Casebook::new(keeper);
             let ran = run_case_seeded(alloc, seed, rest, shelf, out, &mut book);
-            Ran {
+            RunEnd {
                 status: ran.status,
                 stop: ran.stop,
                 back: Some(book),
             }
         }
-        Err(fault) => Ran {
+        Err(fault) => RunEnd {
             status: write_halt(out, Halt::from(fault)),
             stop: None,
             back: None,

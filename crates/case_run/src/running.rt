@@ -24,7 +24,7 @@ use case_keeper::keeper::Keeper;
 use command_words::requests::WordsFault;
 use log_source::shelf::Shelf;
 use log_source::sink::Sink;
-use log_verdict::runs::Ran;
+use log_verdict::runs::RunEnd;
 use seeded_hash::seed::HashSeed;
 use std::alloc::Global;
 
@@ -36,7 +36,7 @@ fn run_commands<F: Shelf, K: Sink, B: Keeper>(
     shelf: &mut F,
     out: &mut K,
     book: &mut Casebook<B>,
-) -> Ran<CaseStatus, ()>
+) -> RunEnd<CaseStatus, ()>
     ensures keeps { KeepsAll F.Shelf shelf.old shelf.new (K.state out.old) (K.state out.new)
         (B.state book.old) (B.state book.new) }
     ensures runs { RunsCommands (known_logs F.Shelf shelf.old)
@@ -45,7 +45,7 @@ fn run_commands<F: Shelf, K: Sink, B: Keeper>(
         result.status }
     ensures length { EndsWithinOrTooLong (reading F.Shelf shelf.old shelf.new) result.status }
 {
-    let mut ran = Ran {
+    let mut ran = RunEnd {
         status: CaseStatus::Done,
         stop: None,
         back: (),
@@ -100,7 +100,7 @@ pub fn run_case_seeded<F: Shelf, K: Sink, B: Keeper>(
     shelf: &mut F,
     out: &mut K,
     book: &mut Casebook<B>,
-) -> Ran<CaseStatus, ()>
+) -> RunEnd<CaseStatus, ()>
     ensures run { IsCaseRun F.Shelf (commands_of (map string_bytes words.now)) shelf.old shelf.new
         (K.state out.old) (K.state out.new) (B.state book.old) (B.state book.new)
         result.status }
@@ -109,12 +109,12 @@ pub fn run_case_seeded<F: Shelf, K: Sink, B: Keeper>(
     one_play();
     match read_commands(alloc, words) {
         Ok(commands) => run_commands(alloc, seed, &commands, shelf, out, book),
-        Err(WordsFault::Usage) => Ran {
+        Err(WordsFault::Usage) => RunEnd {
             status: write_text(out, usage_text(), CaseStatus::Usage),
             stop: None,
             back: (),
         },
-        Err(WordsFault::Memory) => Ran {
+        Err(WordsFault::Memory) => RunEnd {
             status: CaseStatus::Memory,
             stop: None,
             back: (),

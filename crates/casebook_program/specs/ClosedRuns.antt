@@ -8,7 +8,7 @@ use Rattle.case_run.specs.declared.statuses.CaseStatus.{CaseStatus}
 use Rattle.casebook_program.specs.FileOpeners.{fresh_opener}
 use Rattle.log_source.specs.Sinks.{SinkState}
 use Rattle.log_source.specs.declared.shelf.Shelf.{Ghosts as Shelf}
-use Rattle.stderr_notes.specs.FreshEnds.{IsFreshOver, fresh_sink}
+use Rattle.program_ends.specs.FreshEnds.{IsFreshOver, fresh_sink}
 
 -- what the commands left open was closed; where they opened nothing, nothing was
 abbrev pub ClosesWhatIsOpen : {O : Type 0} → (O → O → Type 0) → Option KeeperState → O → O → Type 0

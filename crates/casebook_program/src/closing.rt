@@ -11,7 +11,7 @@ use case_run::opener::Opener;
 use case_run::statuses::CaseStatus;
 use log_source::shelf::Shelf;
 use log_source::sink::Sink;
-use log_verdict::runs::Ran;
+use log_verdict::runs::RunEnd;
 use seeded_hash::seed::HashSeed;
 use std::alloc::Global;
 
@@ -40,16 +40,16 @@ pub fn run_and_close<F: Shelf, K: Sink, O: Closing>(
     shelf: &mut F,
     out: &mut K,
     opener: &mut O,
-) -> Ran<CaseStatus, ()>
+) -> RunEnd<CaseStatus, ()>
     ensures { RunsThenCloses F.Shelf O.state O.closes shelf.old shelf.new
         opener.old opener.new (map string_bytes words.now)
         (K.state out.old) (K.state out.new) result.status }
 {
-    let Ran { status, stop, back } = run_book_seeded(alloc, seed, words, shelf, out, opener);
+    let RunEnd { status, stop, back } = run_book_seeded(alloc, seed, words, shelf, out, opener);
     if let Some(book) = back {
         opener.close(book.into_keeper());
     }
-    Ran {
+    RunEnd {
         status,
         stop,
         back: (),

@@ -2,7 +2,7 @@
 //! standard output, an opener over files and a random seed are handed to `run_and_close`, and
 //! the number of the status is what the process ends with. Where it is above 1, where a
 //! database was made, and where a list may not be the one that was meant, a line on standard
-//! error says so (`stderr_notes`).
+//! error says so (`program_ends`).
 //!
 //! All of it is `answer_command_line`, over any command line, files, output, opener and notes. The
 //! program is one call of it with the runtime's.
@@ -13,8 +13,8 @@ ghost use Rattle.casebook_program.specs.ClosedRuns.{CasebookAnswers, CasebookBeg
 ghost use Rattle.casebook_program.specs.FileOpeners.{file_opener_state};
 ghost use Rattle.case_run.specs.Statuses.{case_status_number};
 ghost use Rattle.case_run.specs.declared.statuses.CaseStatus.TheVariants as status;
-ghost use Rattle.stderr_notes.specs.CommandLines.{words_of_arguments};
-ghost use Rattle.stderr_notes.specs.ProgramAnswers.{AnswersCommandLine, EndsAsAnswer, EndsAsSomeAnswer};
+ghost use Rattle.program_ends.specs.CommandLines.{words_of_arguments};
+ghost use Rattle.program_ends.specs.ProgramAnswers.{AnswersCommandLine, EndsAsAnswer, EndsAsSomeAnswer};
 
 use crate::closing::{Closing, run_and_close};
 use crate::file_opener::FileOpener;
@@ -31,15 +31,15 @@ use log_verdict::stops::NoRecords;
 use std::io;
 use std::process::ExitCode;
 use std::random::RandomSource;
-use stderr_notes::command_line::{CommandLine, words_of};
-use stderr_notes::database_notes::{
+use program_ends::command_line::{CommandLine, words_of};
+use program_ends::database_notes::{
     is_database_missing, print_database_fault, print_listed_symbols, print_made_database,
 };
-use stderr_notes::log_notes::print_stop;
-use stderr_notes::noted_shelf::NotedShelf;
-use stderr_notes::notes::Notes;
-use stderr_notes::program_ends::{Ended, UsedEnds, fresh_output, noted_files};
-use stderr_notes::usage_notes::print_casebook_usage;
+use program_ends::log_notes::print_stop;
+use program_ends::noted_shelf::NotedShelf;
+use program_ends::notes::Notes;
+use program_ends::ends::{ProgramEnd, UsedEnds, fresh_output, noted_files};
+use program_ends::usage_notes::print_casebook_usage;
 
 /// Says on standard error why a run ended above 1, or of which symbol a list is that may be
 /// meant otherwise.
@@ -148,7 +148,7 @@ pub fn answer_command_line<
     W: Output + Drop,
     O: Closing,
     N: Notes,
->(machine: &R, files: S, output: W, opener: &mut O, notes: &N) -> Ended<S, W>
+>(machine: &R, files: S, output: W, opener: &mut O, notes: &N) -> ProgramEnd<S, W>
     ensures { let shelf = ⟦<NotedShelf<FileShelf<S>> as Shelf>⟧ in
         let state = ⟦<StdSink<W> as Sink>⟧.state in
         EndsAsAnswer (CasebookAnswers shelf O.state O.closes) status.Memory case_status_number
@@ -163,7 +163,7 @@ pub fn answer_command_line<
     let mut shelf = noted_files(machine.alloc(), files);
     let mut out = fresh_output(output);
     let status = answer_words(machine, &mut shelf, &mut out, opener, notes);
-    Ended {
+    ProgramEnd {
         code: exit_code(status),
         ends: UsedEnds { shelf, out },
     }

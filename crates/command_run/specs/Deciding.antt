@@ -5,7 +5,7 @@ use Rattle.audit_report.specs.declared.statuses.Status.{Status}
 use Rattle.audit_report.specs.declared.statuses.Status.TheVariants as status
 use Rattle.audit_report.specs.declared.verdicts.Verdict.TheVariants.{Malformed}
 use Rattle.audit_report.specs.Lines.{read_fault_line, too_long_line}
-use Rattle.log_verdict.specs.declared.reading.Unread.{Unread}
+use Rattle.log_verdict.specs.declared.reading.ReadingFault.{ReadingFault}
 use Rattle.log_verdict.specs.declared.sources.Source.{Source}
 use Rattle.log_verdict.specs.declared.stops.Stop.{Stop}
 use Rattle.log_verdict.specs.declared.stops.Stop.TheVariants as stop
@@ -78,7 +78,7 @@ DecidesWithout (norecords.Malformed log bad) result =
 DecidesWithout (norecords.Stopped why) result = result ≡ Err why
 
 -- the same where this one log was not
-abbrev pub DecidesUnread : Which → Unread → Result Answer Stop → Type 0
+abbrev pub DecidesUnread : Which → ReadingFault → Result Answer Stop → Type 0
 DecidesUnread log why result = DecidesWithout (no_records log why) result
 
 -- the statuses of an answer to logs that were read

@@ -11,7 +11,7 @@ use audit_base::terms::Which;
 use audit_report::reports::report_text;
 use audit_report::statuses::Status;
 use audit_report::verdicts::{Verdict, status_of};
-use log_verdict::reading::Unread;
+use log_verdict::reading::ReadingFault;
 use log_verdict::stops::{NoRecords, Stop};
 use std::alloc::Global;
 
@@ -85,7 +85,7 @@ pub fn answer_without(alloc: Global, why: NoRecords) -> Result<Answer, Stop>
 }
 
 /// The same, where this one log was not.
-pub fn unread_answer(alloc: Global, log: Which, unread: Unread) -> Result<Answer, Stop>
+pub fn unread_answer(alloc: Global, log: Which, unread: ReadingFault) -> Result<Answer, Stop>
     ensures { DecidesUnread log unread result }
 {
     answer_without(alloc, NoRecords::at(log, unread))

@@ -13,7 +13,7 @@ use audit_report::reports::{read_fault_text, too_long_text};
 use audit_report::statuses::Status;
 use log_source::put::put_all;
 use log_source::sink::Sink;
-use log_verdict::runs::Ran;
+use log_verdict::runs::RunEnd;
 use log_verdict::stops::{NoRecords, Stop};
 
 /// Writes the text and answers the status, or `WriteFault` where the sink fails.
@@ -49,7 +49,7 @@ fn write_stop<K: Sink>(out: &mut K, stop: Stop) -> Status
 pub fn write_answer<P: Program, K: Sink>(
     out: &mut K,
     decided: Result<Answer, Stop>,
-) -> Ran<Status, ()>
+) -> RunEnd<Status, ()>
     ensures writes { let before = K.state out.old in
         let after = K.state out.new in
         MatchResult decided
@@ -67,12 +67,12 @@ pub fn write_answer<P: Program, K: Sink>(
     ensures stays { SinkStays (K.state out.old) (K.state out.new) }
 {
     match decided {
-        Ok(answer) => Ran {
+        Ok(answer) => RunEnd {
             status: write_text(out, &answer.text, answer.status),
             stop: answer.stop,
             back: (),
         },
-        Err(stop) => Ran {
+        Err(stop) => RunEnd {
             status: write_stop(out, stop),
             stop: Some(NoRecords::Stopped(stop)),
             back: (),

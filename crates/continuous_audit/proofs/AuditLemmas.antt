@@ -18,9 +18,9 @@ use Rattle.order_book.specs.declared.books.Resting.{Resting}
 use Rattle.continuous_audit.specs.declared.books.BooksSoFar.{BooksSoFar}
 use Rattle.continuous_audit.specs.declared.incoming_deals.IncomingDeal.{IncomingDeal}
 use Rattle.continuous_audit.specs.declared.endings.OrderEnd.{OrderEnd}
-use Rattle.continuous_audit.specs.declared.market.Market.{Market}
+use Rattle.continuous_audit.specs.declared.indexed_deals.IndexedDeals.{IndexedDeals}
 use Rattle.continuous_audit.specs.declared.state.TradingState.{TradingState}
-use Rattle.continuous_audit.specs.Markets.{IsMarket}
+use Rattle.continuous_audit.specs.IndexedDeals.{IsIndexedDeals}
 use Rattle.continuous_audit.specs.Books.{AreEmptyBooks, AreBooksBefore, next_order_place}
 use Rattle.continuous_audit.specs.IncomingDeals.{AreIncomingDeals}
 use Rattle.continuous_audit.specs.Chains.{HaveChainsEnded}
@@ -58,8 +58,8 @@ module _ (orders : List Order) (list : IsOrderList orders) (deals : List Deal) w
   empty-hold books_so_far bare = record { bid_side = bare.bid_side; ask_side = bare.ask_side; bids = nothing-held Buy books_so_far.books.bids.resting bare.bids; asks = nothing-held Sell books_so_far.books.asks.resting bare.asks }
 
 -- a market, of the lists that the code has made
-pub market-read : (m : Market) (incoming_deals : List IncomingDeal) (endings : List OrderEnd) → IsOrderList m.orders.now → IsDealList m.orders.now m.deals.now → m.incoming_deals.now ≡ incoming_deals → m.endings.now ≡ endings
-    → AreIncomingDeals m.orders.now m.deals.now incoming_deals → AreEndings m.orders.now endings → IsMarket m
+pub market-read : (m : IndexedDeals) (incoming_deals : List IncomingDeal) (endings : List OrderEnd) → IsOrderList m.orders.now → IsDealList m.orders.now m.deals.now → m.incoming_deals.now ≡ incoming_deals → m.endings.now ≡ endings
+    → AreIncomingDeals m.orders.now m.deals.now incoming_deals → AreEndings m.orders.now endings → IsIndexedDeals m
 market-read m incoming_deals endings list deal_list incoming_deals_are endings_are made ends = record {
   order_list = list;
   deal_list = deal_list;
@@ -67,7 +67,7 @@ market-read m incoming_deals endings list deal_list incoming_deals_are endings_a
   endings = subst (AreEndings m.orders.now) (sym endings_are) ends;
 }
 
-module _ (m : Market) (is : IsMarket m) where
+module _ (m : IndexedDeals) (is : IsIndexedDeals m) where
   abbrev orders : List Order
   orders = m.orders.now
 

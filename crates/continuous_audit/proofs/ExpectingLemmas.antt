@@ -15,7 +15,7 @@ use Rattle.audit_base.specs.Expected.{IsExpectedContinuous, pair_share, resting_
 use Rattle.audit_base.proofs.PairDealLemmas as listed
 use Rattle.audit_base.proofs.SortedPairLemmas.{sorted-in_order}
 use Rattle.continuous_audit.specs.declared.pairs.FillPair.{FillPair}
-use Rattle.continuous_audit.specs.declared.matching.TradesSoFar.{TradesSoFar}
+use Rattle.continuous_audit.specs.declared.expected_trades.TradesSoFar.{TradesSoFar}
 use Rattle.continuous_audit.specs.Holding.{resting_left_before}
 use Rattle.continuous_audit.specs.Matching.{AreTradesAtStart, AreExpectedDeals, IsMatchedUnder}
 use Rattle.continuous_audit.specs.Pairs.{AreFillPairDeals, AreSharedPairs, IsFillPairInRange, IsSharedPair, FillPairBefore, fill_pair_deal, fill_pair_orders, fill_pair_past_end, fill_pair_at, fill_pair_cmp}

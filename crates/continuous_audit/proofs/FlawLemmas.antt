@@ -14,10 +14,10 @@ use Rattle.audit_base.specs.Continuous.{cause, resting_order}
 use Rattle.audit_base.specs.ContinuousOffences.{traded_shown_after}
 use Rattle.audit_base.specs.Flaws.{IsEvidenceInside}
 use Rattle.audit_base.proofs.OrderLemmas.{place-rises}
-use Rattle.continuous_audit.specs.declared.market.Market.{Market}
-use Rattle.continuous_audit.specs.declared.numbers.DealingState.{DealingState}
+use Rattle.continuous_audit.specs.declared.indexed_deals.IndexedDeals.{IndexedDeals}
+use Rattle.continuous_audit.specs.declared.dealing_state.DealingState.{DealingState}
 use Rattle.continuous_audit.specs.Flaws.{HasShownNumber, IsFindingOfFlaw, IsFlawAt, priority_flaw, shown_number, spread_evidence, spread_flaw}
-use Rattle.continuous_audit.specs.Markets.{IsConserved}
+use Rattle.continuous_audit.specs.IndexedDeals.{IsConserved}
 use Rattle.continuous_audit.specs.Progress.{HasDealt}
 use Rattle.continuous_audit.specs.Records.{conservation_at, priority_at}
 use Rattle.continuous_audit.proofs.RecordLemmas.{conservation-shown, priority-shown}
@@ -42,7 +42,7 @@ deal-upto orders list deals deal_list n n_inside k inside here =
     }
 
 -- what is shown with the orders up to that of a record, once its deals are added
-module _ (m : Market) (n : ℕ) (n_inside : n < length m.orders.now) (numbers : DealingState) (dealt : HasDealt m n numbers) where
+module _ (m : IndexedDeals) (n : ℕ) (n_inside : n < length m.orders.now) (numbers : DealingState) (dealt : HasDealt m n numbers) where
   abbrev after : ℕ → ℕ
   after = traded_shown_after m.orders.now m.deals.now (place_at m.orders.now n)
 
@@ -78,7 +78,7 @@ spread-inside orders Buy own other own_inside other_inside = (own_inside, other_
 spread-inside orders Sell own other own_inside other_inside = (other_inside, own_inside)
 
 -- the first part of the finding at a place, and the second where the first is none
-module _ (m : Market) (n : ℕ) where
+module _ (m : IndexedDeals) (n : ℕ) where
   pub conservation-flaw : (flaw : Flaw) → IsFindingOfFlaw m.orders.now (Some flaw) (conservation_at m.orders.now m.deals.now n) → IsFlawAt m n flaw
   conservation-flaw flaw is = record { inside = is.inside; same = conservation-shown m.orders.now m.deals.now (place_at m.orders.now n) _ is.same }
 

@@ -12,8 +12,8 @@ use Rattle.audit_base.specs.Continuous.{traded_before, chain_traded_quantity, si
 use Rattle.audit_base.proofs.OrderLemmas.{place-rises}
 use Rattle.audit_base.proofs.OffenceLemmas.{get_or-default}
 use Rattle.continuous_audit.specs.declared.incoming_deals.IncomingDeal.{IncomingDeal}
-use Rattle.continuous_audit.specs.declared.market.Market.{Market}
-use Rattle.continuous_audit.specs.declared.numbers.DealingState.{DealingState}
+use Rattle.continuous_audit.specs.declared.indexed_deals.IndexedDeals.{IndexedDeals}
+use Rattle.continuous_audit.specs.declared.dealing_state.DealingState.{DealingState}
 use Rattle.continuous_audit.specs.declared.order_numbers.OrderNumbers.{OrderNumbers}
 use Rattle.continuous_audit.specs.Progress.{AreNumbers}
 use Rattle.continuous_audit.specs.IncomingDeals.{AreIncomingDeals, incoming_deal_of, incoming_deals_below, running_total}
@@ -141,7 +141,7 @@ module _ (orders : List Order) (list : IsOrderList orders) (deals : List Deal) (
         })
 
 -- whatever the deals are, of these numbers
-pub numbers-bounded : (m : Market) (n q : ℕ) (numbers : DealingState) → AreNumbers m n q numbers → AreNumbersInBounds m.orders.now n numbers.order_numbers
+pub numbers-bounded : (m : IndexedDeals) (n q : ℕ) (numbers : DealingState) → AreNumbers m n q numbers → AreNumbersInBounds m.orders.now n numbers.order_numbers
 numbers-bounded m n q numbers known = record {
   chain_traded_count = known.chain_traded.count;
   sizes_count = known.sizes.count;

@@ -17,7 +17,7 @@ use Rattle.order_book.specs.declared.books.Resting.{Resting}
 use Rattle.continuous_audit.specs.declared.books.Books.{Books}
 use Rattle.continuous_audit.specs.declared.fills.Fill.{Fill}
 use Rattle.continuous_audit.specs.declared.pairs.FillPair.{FillPair}
-use Rattle.continuous_audit.specs.declared.matching.TradesSoFar.{TradesSoFar}
+use Rattle.continuous_audit.specs.declared.expected_trades.TradesSoFar.{TradesSoFar}
 use Rattle.continuous_audit.specs.Books.{AreBooksOfAmounts, book_list, resting_count, books_with_list}
 use Rattle.continuous_audit.specs.Chains.{HasChainEnded, IsKnownBeforeArrival}
 use Rattle.continuous_audit.specs.Fills.{quantity_filled, fills_of, resting_after_fills, total_filled}

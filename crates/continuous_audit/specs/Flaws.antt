@@ -14,8 +14,8 @@ use Rattle.audit_base.specs.Continuous.{resting_order}
 use Rattle.audit_base.specs.ContinuousOffences.{finding_at_place, traded_shown_after}
 use Rattle.audit_base.specs.Flaws.{IsEvidenceInside, finding_of}
 use Rattle.audit_base.specs.Deals.{number_at}
-use Rattle.continuous_audit.specs.declared.market.Market.{Market}
-use Rattle.continuous_audit.specs.declared.numbers.DealingState.{DealingState}
+use Rattle.continuous_audit.specs.declared.indexed_deals.IndexedDeals.{IndexedDeals}
+use Rattle.continuous_audit.specs.declared.dealing_state.DealingState.{DealingState}
 
 -- the number that is shown with an order: what it has traded, and its Before added
 abbrev pub shown_number : DealingState → ℕ → ℕ
@@ -66,6 +66,6 @@ pub record IsFindingOfFlaw (orders : List Order) (flaw : Option Flaw) (finding :
   pub same : finding ≡ option_map (finding_of orders) flaw
 
 -- the finding at the record of an order is that of this flaw
-abbrev pub IsFlawAt : Market → ℕ → Flaw → Type 0
+abbrev pub IsFlawAt : IndexedDeals → ℕ → Flaw → Type 0
 IsFlawAt m order flaw = IsFindingOfFlaw m.orders.now (Some flaw)
     (finding_at_place m.orders.now m.deals.now (place_at m.orders.now order))

@@ -9,7 +9,7 @@ pub mod Fills
 pub mod Flaws
 pub mod Holding
 pub mod IncomingDeals
-pub mod Markets
+pub mod IndexedDeals
 pub mod Matching
 pub mod OrderNumbers
 pub mod Pairs

@@ -8,7 +8,7 @@ use Rattle.audit_base.specs.Continuous.{traded_before, chain_traded_quantity, le
 use Rattle.audit_base.specs.ContinuousRules.{ConformsContinuous}
 use Rattle.audit_base.specs.Expected.{IsExpectedContinuous}
 use Rattle.audit_base.specs.Deals.{number_at}
-use Rattle.continuous_audit.specs.declared.matching.TradesSoFar.{TradesSoFar}
+use Rattle.continuous_audit.specs.declared.expected_trades.TradesSoFar.{TradesSoFar}
 use Rattle.continuous_audit.specs.Holding.{resting_left_before, resting_left_after_deals}
 use Rattle.continuous_audit.specs.Books.{AreEmptyBooks, AreBooksOfAmounts, resting_count}
 use Rattle.continuous_audit.specs.Chains.{AreNumbersInBounds}

@@ -2,7 +2,7 @@
 ghost use Rattle.std.specs.Prelude.{◌≡◌, ◌<◌, ◌≤◌, ℕ, List, None, Some, true, length};
 ghost use Rattle.audit_base.specs.Numbers.{greatest_quantity};
 ghost use Rattle.audit_base.specs.Orders.{IsOrderList};
-ghost use Rattle.audit_base.specs.declared.orders.Deal.{Deal as ADeal};
+ghost use Rattle.audit_base.specs.declared.orders.Deal.{Deal as DealSpec};
 ghost use Rattle.continuous_audit.specs.Chains.{IsKnownBeforeArrival, AreNumbersInBounds};
 ghost use Rattle.continuous_audit.specs.DealFindings.{enters, size_left, waits_in};
 ghost use Rattle.continuous_audit.specs.OrderNumbers.{IsArrivalBounded, IsArrivalOfOrder};
@@ -77,7 +77,7 @@ pub fn arrive_order(
     requires order { order < length orders.now }
     requires traded { AreTotalsSmall orders.now traded.now }
     requires order_numbers { AreNumbersInBounds orders.now order order_numbers.now }
-    ensures arrived { (deals : List ADeal)
+    ensures arrived { (deals : List DealSpec)
         → IsKnownBeforeArrival orders.now deals order traded.now order_numbers.now
         → IsArrivalOfOrder orders.now deals order result }
     ensures fits { IsArrivalBounded orders.now order result }

@@ -6,7 +6,7 @@ ghost use Rattle.continuous_audit.specs.Audits.{IsContinuousOutcome};
 
 use super::endings::sort_endings;
 use super::incoming_deals::sort_incoming_deals;
-use super::market::Market;
+use super::indexed_deals::IndexedDeals;
 use super::state::TradingState;
 use audit_base::faults::NoMemory;
 use audit_base::orders::Deal;
@@ -46,7 +46,7 @@ pub fn audit_continuous(
     let volume = volume_of(deals);
     let incoming_deals = sort_incoming_deals(alloc, orders, deals)?;
     let endings = sort_endings(alloc, orders)?;
-    let market = Market {
+    let market = IndexedDeals {
         orders,
         deals,
         incoming_deals: &incoming_deals,

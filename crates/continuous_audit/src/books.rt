@@ -1,6 +1,6 @@
 //! The orders of both sides that rest, and those that records have ended.
 ghost use Rattle.std.specs.Prelude.{◌≡◌, ◌<◌, ◌≤◌, ◌+◌, ℕ, suc, List, OnOk, OnErr, All, length};
-ghost use Rattle.audit_base.specs.declared.orders.Deal.{Deal as ADeal};
+ghost use Rattle.audit_base.specs.declared.orders.Deal.{Deal as DealSpec};
 ghost use Rattle.audit_base.specs.Orders.{IsOrderList, place_at};
 ghost use Rattle.audit_base.specs.Deals.{NamesOrders};
 ghost use Rattle.order_book.specs.Books.{best_resting};
@@ -11,7 +11,7 @@ ghost use Rattle.continuous_audit.specs.Books.{resting_count, books_with_fills};
 ghost use Rattle.continuous_audit.specs.Holding.{IsWithinBook};
 
 use super::endings::OrderEnd;
-use super::filling::fill_best;
+use super::book_fills::fill_best;
 use audit_base::faults::NoMemory;
 use audit_base::numbers::Price;
 use audit_base::terms::Side;
@@ -153,7 +153,7 @@ impl BooksSoFar {
             (place_at orders.now order) }
         ensures dropped { AreEndingsDropped endings.now self.new.start
             (suc (place_at orders.now order)) }
-        ensures holds { (deals : List ADeal) → All (NamesOrders orders.now) deals
+        ensures holds { (deals : List DealSpec) → All (NamesOrders orders.now) deals
             → AreBooksAfterDeals orders.now deals order self.old.books
             → AreBooksWithoutOwn orders.now deals order self.new.books }
         ensures fewer { resting_count self.new.books ≤ resting_count self.old.books }
@@ -171,7 +171,7 @@ impl BooksSoFar {
             (suc (place_at orders.now order)) }
         ensures dropped { AreEndingsDropped endings.now self.new.start
             (next_order_place orders.now (suc order)) }
-        ensures holds { (deals : List ADeal) → All (NamesOrders orders.now) deals
+        ensures holds { (deals : List DealSpec) → All (NamesOrders orders.now) deals
             → AreBooksAfter orders.now deals order self.old.books
             → AreBooksForNext orders.now deals (suc order) self.new.books }
         ensures fewer { resting_count self.new.books ≤ resting_count self.old.books }

@@ -3,7 +3,7 @@
 //! What a chain traded is kept, not summed anew. Order lists that no history gives are still
 //! judged, by going along the chain.
 ghost use Rattle.std.specs.Prelude.{◌≡◌, ◌<◌, ◌≤◌, ◌*◌, ◌^◌, ℕ, List, true, length, sum_by};
-ghost use Rattle.audit_base.specs.declared.orders.Deal.{Deal as ADeal};
+ghost use Rattle.audit_base.specs.declared.orders.Deal.{Deal as DealSpec};
 ghost use Rattle.audit_base.specs.Orders.{IsOrderList};
 ghost use Rattle.audit_base.specs.Continuous.{chain_traded_quantity, chain};
 ghost use Rattle.audit_base.specs.Deals.{number_at};
@@ -43,7 +43,7 @@ pub fn traded_by_chain(
     requires order { order < length orders.now }
     requires traded { AreTotalsSmall orders.now traded.now }
     requires order_numbers { AreNumbersInBounds orders.now order order_numbers.now }
-    ensures chain_traded { (deals : List ADeal)
+    ensures chain_traded { (deals : List DealSpec)
         → IsKnownBeforeArrival orders.now deals order traded.now order_numbers.now
         → result ≡ chain_traded_quantity orders.now deals order }
     ensures bounded { result ≤ order * 2 ^ 72 }

@@ -14,7 +14,7 @@ ghost use Rattle.continuous_audit.specs.Matching.{AreTradesAtStart, AreTradesSoF
 
 use super::books::BooksSoFar;
 use super::endings::{OrderEnd, sort_endings};
-use super::matching::{TradesSoFar, match_record};
+use super::expected_trades::{TradesSoFar, expect_record};
 use super::order_numbers::OrderNumbers;
 use super::pairs::{number_pairs, sort_pairs};
 use audit_base::faults::NoMemory;
@@ -38,7 +38,7 @@ fn no_trades(alloc: Global, count: usize) -> Result<TradesSoFar, NoMemory>
 }
 
 /// Goes over the records of the orders.
-fn match_records(
+fn expect_records(
     orders: &OrderList<'_>,
     endings: &[OrderEnd],
     so_far: &mut TradesSoFar,
@@ -55,7 +55,7 @@ fn match_records(
         (next_order_place orders.now (length orders.now)) so_far.new) }
 {
     for order in 0..orders.len() {
-        match_record(orders, endings, order, so_far)?;
+        expect_record(orders, endings, order, so_far)?;
     }
     Ok(())
 }
@@ -75,7 +75,7 @@ pub fn continuous_matching(alloc: Global, orders: &OrderList<'_>) -> Result<Vec<
 {
     let endings = sort_endings(alloc, orders)?;
     let mut so_far = no_trades(alloc, orders.len())?;
-    match_records(orders, &endings, &mut so_far)?;
+    expect_records(orders, &endings, &mut so_far)?;
     sort_pairs(&mut so_far.pairs)?;
     number_pairs(alloc, orders, &so_far.pairs)
 }

@@ -1,10 +1,10 @@
 //! What is left of the orders after the deals of a record.
 ghost use Rattle.std.specs.Prelude.{◌≡◌, ◌<◌, ◌≤◌, ◌-◌, length, slice_set, vec_len};
 ghost use Rattle.audit_base.specs.Deals.{number_at};
-ghost use Rattle.continuous_audit.specs.Markets.{IsLeftRefreshedIn};
+ghost use Rattle.continuous_audit.specs.IndexedDeals.{IsLeftRefreshedIn};
 ghost use Rattle.continuous_audit.specs.Scans.{HasDeals};
 
-use super::market::Market;
+use super::indexed_deals::IndexedDeals;
 use super::scanning::RunningTotals;
 
 /// What is left of an order.
@@ -37,7 +37,7 @@ fn set_left(left: &mut Vec<u64>, bid: usize, ask: usize, bid_left: u64, ask_left
 /// Sets what is left of the orders of the incoming deals from the one at `start` on, as far as
 /// these are added.
 pub fn refresh_left(
-    market: &Market<'_>,
+    market: &IndexedDeals<'_>,
     start: usize,
     running: &RunningTotals,
     sizes: &[u64],

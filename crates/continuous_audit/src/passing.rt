@@ -3,25 +3,25 @@
 ghost use Rattle.std.specs.Prelude.{◌≡◌, ◌<◌, List, None, Some, length};
 ghost use Rattle.audit_base.specs.Orders.{order_at, place_at, side_at};
 ghost use Rattle.audit_base.specs.Priority.{better};
-ghost use Rattle.order_book.specs.declared.books.Resting.{Resting as RestingOrder};
+ghost use Rattle.order_book.specs.declared.books.Resting.{Resting as RestingSpec};
 ghost use Rattle.order_book.specs.Books.{best_resting};
 ghost use Rattle.continuous_audit.specs.Books.{AreBooksAfterDeals, AreBooksBefore};
 ghost use Rattle.continuous_audit.specs.Flaws.{HasShownNumber, IsFindingOfFlaw, priority_flaw, shown_number};
-ghost use Rattle.continuous_audit.specs.Markets.{IsFilledAgainst, IsMarket, IsOpposite, incoming_deal_at, resting_order_at};
+ghost use Rattle.continuous_audit.specs.IndexedDeals.{IsFilledAgainst, IsIndexedDeals, IsOpposite, incoming_deal_at, resting_order_at};
 ghost use Rattle.continuous_audit.specs.Progress.{HasDealt};
 ghost use Rattle.continuous_audit.specs.Records.{priority_at};
 
 use super::books::Books;
 use super::incoming_deals::resting_of;
-use super::market::Market;
-use super::numbers::DealingState;
+use super::indexed_deals::IndexedDeals;
+use super::dealing_state::DealingState;
 use audit_base::flaws::{Evidence, Flaw};
 use order_book::books::Resting;
 use rank_order::comparing::better;
 
 /// Whether an order outranks the resting order of the deal at `at` of the incoming deals.
-fn outranks(market: &Market<'_>, over: usize, at: usize) -> bool
-    requires market { IsMarket market.now }
+fn outranks(market: &IndexedDeals<'_>, over: usize, at: usize) -> bool
+    requires market { IsIndexedDeals market.now }
     requires over { over < length market.now.orders.now }
     requires at { at < length market.now.incoming_deals.now }
     requires side { side_at market.now.orders.now over
@@ -36,8 +36,8 @@ fn outranks(market: &Market<'_>, over: usize, at: usize) -> bool
 }
 
 /// The flaw of the deal at `at` of the incoming deals, which passes over the order at `over`.
-fn priority_flaw(market: &Market<'_>, numbers: &DealingState, over: usize, at: usize) -> Flaw
-    requires market { IsMarket market.now }
+fn priority_flaw(market: &IndexedDeals<'_>, numbers: &DealingState, over: usize, at: usize) -> Flaw
+    requires market { IsIndexedDeals market.now }
     requires at { at < length market.now.incoming_deals.now }
     requires over { HasShownNumber numbers.now over }
     requires resting { HasShownNumber numbers.now (resting_order_at market.now at) }
@@ -60,16 +60,16 @@ fn priority_flaw(market: &Market<'_>, numbers: &DealingState, over: usize, at: u
 
 /// The first deal of the order at `order` whose resting order the best order outranks.
 fn check_priority(
-    market: &Market<'_>,
+    market: &IndexedDeals<'_>,
     order: usize,
     numbers: &DealingState,
     best: Resting,
 ) -> Option<Flaw>
-    requires market { IsMarket market.now }
+    requires market { IsIndexedDeals market.now }
     requires order { order < length market.now.orders.now }
     requires dealt { HasDealt market.now order numbers.now }
     requires best { IsOpposite market.now order best }
-    ensures { (ys : List RestingOrder) → best_resting ys ≡ Some best
+    ensures { (ys : List RestingSpec) → best_resting ys ≡ Some best
         → IsFilledAgainst market.now order ys → IsFindingOfFlaw market.now.orders.now result
         (priority_at market.now.orders.now market.now.deals.now order) }
 {
@@ -85,12 +85,12 @@ fn check_priority(
 /// Takes what the deals of the order at `order` took from the book of the other side, and gives the
 /// first of them that passes over a better order.
 pub fn pass_deals(
-    market: &Market<'_>,
+    market: &IndexedDeals<'_>,
     order: usize,
     numbers: &DealingState,
     books: &mut Books,
 ) -> Option<Flaw>
-    requires market { IsMarket market.now }
+    requires market { IsIndexedDeals market.now }
     requires order { order < length market.now.orders.now }
     requires dealt { HasDealt market.now order numbers.now }
     requires books { AreBooksBefore market.now.orders.now market.now.deals.now

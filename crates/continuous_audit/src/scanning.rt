@@ -2,11 +2,11 @@
 ghost use Rattle.std.specs.Prelude.{◌≡◌, ◌≢◌, ◌≤◌, ◌<◌, ◌+◌, ◌^◌, suc, None, length, slice_index, vec_len};
 ghost use Rattle.matching_core.specs.DealFlaws.{traded_with_deal};
 ghost use Rattle.continuous_audit.specs.Flaws.{IsFindingOfFlaw};
-ghost use Rattle.continuous_audit.specs.Markets.{HaveTraded, IsMarket};
+ghost use Rattle.continuous_audit.specs.IndexedDeals.{HaveTraded, IsIndexedDeals};
 ghost use Rattle.continuous_audit.specs.Records.{IsKnownBeforeDeals, conservation_at};
 
 use super::checking::{Accounts, RecordOfDeal, deal_evidence};
-use super::market::Market;
+use super::indexed_deals::IndexedDeals;
 use super::order_numbers::OrderNumbers;
 use audit_base::flaws::Flaw;
 
@@ -39,13 +39,13 @@ fn add_quantity(traded: &mut Vec<u64>, bid: usize, ask: usize, quantity: u64) ->
 
 /// Adds what the deals of the order at `order` trade, up to the first that has a flaw.
 pub fn check_deals(
-    market: &Market<'_>,
+    market: &IndexedDeals<'_>,
     order_numbers: &OrderNumbers,
     order: usize,
     entered: bool,
     running: &mut RunningTotals,
 ) -> Option<Flaw>
-    requires market { IsMarket market.now }
+    requires market { IsIndexedDeals market.now }
     requires order { order < length market.now.orders.now }
     requires known { IsKnownBeforeDeals market.now.orders.now market.now.deals.now
         order entered order_numbers.now }

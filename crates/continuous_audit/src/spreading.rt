@@ -1,6 +1,6 @@
 //! Whether the order of a record meets one that rests, and its way into the book.
 ghost use Rattle.std.specs.Prelude.{◌≡◌, ◌<◌, ◌≤◌, ◌+◌, min, ◌&&◌, ℕ, List, Some, OnOk, length, option_map};
-ghost use Rattle.audit_base.specs.declared.orders.Deal.{Deal as ADeal};
+ghost use Rattle.audit_base.specs.declared.orders.Deal.{Deal as DealSpec};
 ghost use Rattle.audit_base.specs.Orders.{IsOrderList, place_at};
 ghost use Rattle.audit_base.specs.Continuous.{traded_before};
 ghost use Rattle.audit_base.specs.Expected.{limits_meet};
@@ -12,7 +12,7 @@ ghost use Rattle.continuous_audit.specs.Holding.{IsUncrossedBefore};
 ghost use Rattle.continuous_audit.specs.Spreads.{IsAfterOwn, is_active_after_with, rests_after_with};
 
 use super::books::Books;
-use super::numbers::DealingState;
+use super::dealing_state::DealingState;
 use audit_base::faults::NoMemory;
 use audit_base::flaws::{Evidence, Flaw, TradedOrder};
 use audit_base::numbers::Price;
@@ -63,7 +63,7 @@ pub fn spread_of(orders: &OrderList<'_>, order: usize, left: u64, books: &Books)
     requires order_list { IsOrderList orders.now }
     requires order { order < length orders.now }
     requires earlier { AreBooksBelow order books.now }
-    ensures finding { (deals : List ADeal) → IsAfterOwn orders.now deals order left books.now
+    ensures finding { (deals : List DealSpec) → IsAfterOwn orders.now deals order left books.now
         → IsUncrossedBefore orders.now (traded_before orders.now deals) (place_at orders.now order)
         → spread_finding orders.now deals (place_at orders.now order)
         ≡ option_map (λ other. finding_of orders.now
@@ -121,7 +121,7 @@ pub fn enter_own(
     requires order_list { IsOrderList orders.now }
     requires order { order < length orders.now }
     requires earlier { AreBooksBelow order books.old }
-    ensures entered { OnOk result ((deals : List ADeal)
+    ensures entered { OnOk result ((deals : List DealSpec)
         → IsAfterOwn orders.now deals order left books.old
         → AreBooksAfter orders.now deals order books.new) }
     ensures more { OnOk result (resting_count books.new ≤ resting_count books.old + min 1 left) }

@@ -2,12 +2,12 @@
 ghost use Rattle.std.specs.Prelude.{◌≡◌, ◌<◌, suc, None, Ok, IfOk, IfSome, length};
 ghost use Rattle.audit_base.specs.ContinuousOffences.{IsContinuousOffence};
 ghost use Rattle.continuous_audit.specs.Flaws.{IsFlawAt};
-ghost use Rattle.continuous_audit.specs.Markets.{IsMarket};
+ghost use Rattle.continuous_audit.specs.IndexedDeals.{IsIndexedDeals};
 ghost use Rattle.continuous_audit.specs.Progress.{IsAfterDeals, IsFirstState, IsReadyFor, IsReadyNext};
 
 use super::books::BooksSoFar;
-use super::market::Market;
-use super::numbers::DealingState;
+use super::indexed_deals::IndexedDeals;
+use super::dealing_state::DealingState;
 use super::passing::pass_deals;
 use super::spreading::{enter_own, spread_flaw, spread_of};
 use audit_base::faults::NoMemory;
@@ -42,8 +42,8 @@ impl TradingState {
     }
 
     /// What the deals of the order at `order` do to the numbers and the books, or their first flaw.
-    fn trade(&mut self, market: &Market<'_>, order: usize) -> Option<Flaw>
-        requires market { IsMarket market.now }
+    fn trade(&mut self, market: &IndexedDeals<'_>, order: usize) -> Option<Flaw>
+        requires market { IsIndexedDeals market.now }
         requires order { order < length market.now.orders.now }
         requires ready { IsReadyFor market.now order self.old }
         ensures found { IfSome result (IsFlawAt market.now order) }
@@ -57,8 +57,8 @@ impl TradingState {
 
     /// The record of the order at `order`: its first flaw, if it has one, and else what is known
     /// before the next order.
-    fn audit_record(&mut self, market: &Market<'_>, order: usize) -> Result<Option<Flaw>, NoMemory>
-        requires market { IsMarket market.now }
+    fn audit_record(&mut self, market: &IndexedDeals<'_>, order: usize) -> Result<Option<Flaw>, NoMemory>
+        requires market { IsIndexedDeals market.now }
         requires order { order < length market.now.orders.now }
         requires ready { IsReadyFor market.now order self.old }
         ensures found { IfOk result (λ flaw. IfSome flaw (IsFlawAt market.now order)) }
@@ -81,8 +81,8 @@ impl TradingState {
 
     /// Looks at the records of the orders, up to the first that has a flaw: the one flaw that
     /// is made a finding.
-    pub fn first_offence(&mut self, market: &Market<'_>) -> Result<Option<Finding>, NoMemory>
-        requires market { IsMarket market.now }
+    pub fn first_offence(&mut self, market: &IndexedDeals<'_>) -> Result<Option<Finding>, NoMemory>
+        requires market { IsIndexedDeals market.now }
         requires ready { IsReadyNext market.now 0 self.old }
         ensures found { IfOk result (λ finding. IfSome finding
             (IsContinuousOffence market.now.orders.now market.now.deals.now)) }

@@ -21,10 +21,10 @@ use Rattle.continuous_audit.proofs.RecordLemmas.{ends}
 use Rattle.offence_list.specs.declared.offences.ListedOffence.{ListedOffence}
 use Rattle.offence_list.specs.declared.offences.ListedOffence.TheVariants.{Priority}
 use Rattle.offence_list.specs.ListedOffences.{finding_of_offence}
-use Rattle.continuous_offences.specs.declared.dealt.Dealt.{Dealt}
+use Rattle.continuous_offences.specs.declared.state_after_deals.StateAfterDeals.{StateAfterDeals}
 use Rattle.continuous_offences.specs.Books.{waits_on}
 use Rattle.continuous_offences.specs.DealFacts.{IsOffenceOf}
-use Rattle.continuous_offences.specs.Dealt.{IsDealt, deals_of, orders_of, place_of, shown_after}
+use Rattle.continuous_offences.specs.StateAfterDeals.{IsDealt, deals_of, orders_of, place_of, shown_after}
 use Rattle.continuous_offences.specs.Passing.{AreDealsOf, best_waiting, passed_over, side_against}
 use Rattle.continuous_offences.specs.Scanning.{AreClean}
 use Rattle.continuous_offences.proofs.FoundLemmas.{found-least}
@@ -38,7 +38,7 @@ only-inside : (orders : List Order) (b : Bool) (x o : ListedOffence) → IsOffen
 only-inside orders true x o h e = let same : x ≡ o = cc in subst (IsOffenceInside orders) same h
 only-inside orders false x o h e = absurd (cc)
 
-module _ (d : Dealt) (is : IsDealt d) (start end : ℕ) (span : AreDealsOf d start end) where
+module _ (d : StateAfterDeals) (is : IsDealt d) (start end : ℕ) (span : AreDealsOf d start end) where
   abbrev orders : List Order
   orders = orders_of d
 

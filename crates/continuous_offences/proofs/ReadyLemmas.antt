@@ -10,12 +10,12 @@ use Rattle.continuous_audit.specs.Records.{AreTradedBefore}
 use Rattle.continuous_audit.specs.Scans.{IsSplitAt}
 use Rattle.continuous_audit.proofs.NumberLemmas.{traded-now}
 use Rattle.continuous_offences.specs.declared.books.RestingBooks.{RestingBooks}
-use Rattle.continuous_offences.specs.declared.dealt.Dealt.{Dealt}
+use Rattle.continuous_offences.specs.declared.state_after_deals.StateAfterDeals.{StateAfterDeals}
 use Rattle.order_arrivals.specs.declared.dealt_orders.DealtOrders.{DealtOrders}
 use Rattle.continuous_offences.specs.declared.state.ListingState.{ListingState}
 use Rattle.order_arrivals.specs.Arrivals.{AreArrivals}
 use Rattle.continuous_offences.specs.Books.{AreBooksOf}
-use Rattle.continuous_offences.specs.Dealt.{IsDealt, deals_of, orders_of, place_of}
+use Rattle.continuous_offences.specs.StateAfterDeals.{IsDealt, deals_of, orders_of, place_of}
 use Rattle.order_arrivals.specs.DealtOrders.{HaveTraded, IsMarket}
 use Rattle.continuous_offences.specs.States.{IsReady}
 use Rattle.continuous_offences.proofs.EnterLemmas.{books-later}
@@ -47,7 +47,7 @@ pub ready-further : (m : DealtOrders) (s : ListingState) (n : ℕ) → IsReady m
 ready-further m s n is = subst (λ (k : ℕ). IsReady m k s) (sym (add-one n)) is
 
 -- what is known after the deals of an order
-pub dealt-now : (d : Dealt) (added : ℕ) (traded : List ℕ) → IsMarket d.market.now → d.order < length (orders_of d) → AreArrivals (orders_of d) (deals_of d) (length (orders_of d)) d.arrivals.now → d.traded.now ≡ traded
+pub dealt-now : (d : StateAfterDeals) (added : ℕ) (traded : List ℕ) → IsMarket d.market.now → d.order < length (orders_of d) → AreArrivals (orders_of d) (deals_of d) (length (orders_of d)) d.arrivals.now → d.traded.now ≡ traded
     → HaveTraded d.market.now (suc d.order) added traded → IsDealt d
 dealt-now d added traded is order arrivals same after = record {
   market = is;

@@ -24,17 +24,17 @@ use Rattle.offence_list.specs.declared.offences.ListedOffence.{ListedOffence}
 use Rattle.offence_list.specs.ListedOffences.{finding_of_offence}
 use Rattle.order_book.specs.Books.{BookSide, IsAheadInBook, best_resting}
 use Rattle.order_book.specs.declared.books.Resting.{Resting}
-use Rattle.continuous_offences.specs.declared.dealt.Dealt.{Dealt}
+use Rattle.continuous_offences.specs.declared.state_after_deals.StateAfterDeals.{StateAfterDeals}
 use Rattle.continuous_offences.specs.Books.{IsBookOf, from_first, waits_in_book, waits_on}
 use Rattle.continuous_offences.specs.Crossing.{best_of_side, crossing_of, spread_of}
 use Rattle.continuous_offences.specs.DealFacts.{IsOffenceOf}
-use Rattle.continuous_offences.specs.Dealt.{IsDealt, deals_of, orders_of, place_of, shown_after}
+use Rattle.continuous_offences.specs.StateAfterDeals.{IsDealt, deals_of, orders_of, place_of, shown_after}
 use Rattle.continuous_offences.specs.Passing.{best_waiting, own_side, side_against}
 use Rattle.continuous_offences.proofs.BookLemmas.{best-waiting, book-first, test-side}
 use Rattle.continuous_offences.proofs.ScanningLemmas.{map-or, or-inside}
 use Rattle.continuous_offences.proofs.CrossingLemmas.{ask-alone, ask-apart, ask-meets, bid-alone, bid-apart, bid-meets, stands}
 
-module _ (d : Dealt) (is : IsDealt d) where
+module _ (d : StateAfterDeals) (is : IsDealt d) where
   abbrev orders : List Order
   orders = orders_of d
 

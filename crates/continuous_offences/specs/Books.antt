@@ -8,8 +8,8 @@ use Rattle.audit_base.specs.Continuous.{size_of_order, traded_before}
 use Rattle.audit_base.specs.Orders.{limit_at, order_at, same_side, side_at}
 use Rattle.order_book.specs.declared.books.Resting.{Resting}
 use Rattle.continuous_offences.specs.declared.books.RestingBooks.{RestingBooks}
-use Rattle.continuous_offences.specs.declared.dealt.Dealt.{Dealt}
-use Rattle.continuous_offences.specs.Dealt.{deals_of, orders_of, place_of}
+use Rattle.continuous_offences.specs.declared.state_after_deals.StateAfterDeals.{StateAfterDeals}
+use Rattle.continuous_offences.specs.StateAfterDeals.{deals_of, orders_of, place_of}
 use Rattle.order_arrivals.specs.Resting.{rests_with}
 
 -- an order rests, where no record before `place` ends it and it has traded what it trades before
@@ -24,7 +24,7 @@ from_first test [] = []
 from_first test (x ∷ xs) = if test x then x ∷ xs else from_first test xs
 
 -- the same of an order in a book, after the deals of an order
-abbrev pub waits_in_book : Dealt → ℕ → Resting → Bool
+abbrev pub waits_in_book : StateAfterDeals → ℕ → Resting → Bool
 waits_in_book d place r =
     waits (orders_of d) (deals_of d) place (suc (place_of d)) r.index
 

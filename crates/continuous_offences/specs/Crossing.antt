@@ -10,8 +10,8 @@ use Rattle.audit_base.specs.Orders.{limit_at, order_at}
 use Rattle.audit_base.specs.Priority.{better}
 use Rattle.offence_list.specs.declared.offences.ListedOffence.{ListedOffence}
 use Rattle.offence_list.specs.declared.offences.ListedOffence.TheVariants.{Spread}
-use Rattle.continuous_offences.specs.declared.dealt.Dealt.{Dealt}
-use Rattle.continuous_offences.specs.Dealt.{orders_of, place_of, shown_after}
+use Rattle.continuous_offences.specs.declared.state_after_deals.StateAfterDeals.{StateAfterDeals}
+use Rattle.continuous_offences.specs.StateAfterDeals.{orders_of, place_of, shown_after}
 use Rattle.continuous_offences.specs.Passing.{own_side}
 
 -- the better one of an order and the best of its side that rests
@@ -26,7 +26,7 @@ spread_of Buy place own other = Spread place own other
 spread_of Sell place own other = Spread place other own
 
 -- the offence of an active order, by the best orders that rest
-abbrev pub crossing_of : Dealt → Option ℕ → Option ℕ → Option ListedOffence
+abbrev pub crossing_of : StateAfterDeals → Option ℕ → Option ℕ → Option ListedOffence
 crossing_of d own None = None
 crossing_of d own (Some other) = only_if
     (limits_meet (own_side d) (limit_at (orders_of d) d.order) (limit_at (orders_of d) other))

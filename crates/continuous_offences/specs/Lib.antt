@@ -2,7 +2,7 @@
 pub mod Books
 pub mod Crossing
 pub mod DealFacts
-pub mod Dealt
+pub mod StateAfterDeals
 pub mod Passing
 pub mod Scanning
 pub mod States

@@ -7,9 +7,9 @@ ghost use Rattle.audit_base.specs.declared.terms.Side.TheVariants.{Buy, Sell};
 ghost use Rattle.audit_base.specs.Priority.{best_order};
 ghost use Rattle.order_book.specs.Books.{IsAheadInBook, best_resting};
 ghost use Rattle.continuous_offences.specs.Books.{AreBooksOf, from_first, waits_in_book, waits_on};
-ghost use Rattle.continuous_offences.specs.Dealt.{IsDealt, deals_of, orders_of, place_of};
+ghost use Rattle.continuous_offences.specs.StateAfterDeals.{IsDealt, deals_of, orders_of, place_of};
 
-use super::dealt::Dealt;
+use super::state_after_deals::StateAfterDeals;
 use audit_base::faults::NoMemory;
 use audit_base::terms::Side;
 use order_book::books::Book;
@@ -24,7 +24,7 @@ pub(crate) struct RestingBooks {
 
 /// Takes the orders out of the front of a book that do not rest before a place, and gives the best
 /// that does.
-fn first_resting(dealt: &Dealt<'_, '_, '_>, place: u64, book: &mut Book) -> Option<usize>
+fn first_resting(dealt: &StateAfterDeals<'_, '_, '_>, place: u64, book: &mut Book) -> Option<usize>
     requires dealt { IsDealt dealt.now }
     requires inside { All (λ r. r.index < length (orders_of dealt.now)) book.old.resting }
     ensures list { book.new ≡ record book.old {
@@ -58,7 +58,7 @@ impl RestingBooks {
     pub(crate) fn best(
         &mut self,
         side: Side,
-        dealt: &Dealt<'_, '_, '_>,
+        dealt: &StateAfterDeals<'_, '_, '_>,
         place: u64,
     ) -> Option<usize>
         requires dealt { IsDealt dealt.now }
@@ -77,7 +77,7 @@ impl RestingBooks {
     }
 
     /// Adds the order to the book of its side, with what is left of it.
-    pub(crate) fn enter(&mut self, dealt: &Dealt<'_, '_, '_>, left: u64) -> Result<(), NoMemory>
+    pub(crate) fn enter(&mut self, dealt: &StateAfterDeals<'_, '_, '_>, left: u64) -> Result<(), NoMemory>
         requires dealt { IsDealt dealt.now }
         requires some { 0 < left }
         requires books { AreBooksOf (orders_of dealt.now) (deals_of dealt.now) dealt.now.order

@@ -4,10 +4,10 @@ ghost use Rattle.audit_base.specs.Expected.{limits_meet};
 ghost use Rattle.audit_base.specs.Orders.{side_at};
 ghost use Rattle.call_offences.specs.DealOffences.{IsOrderOnSide};
 ghost use Rattle.continuous_offences.specs.Crossing.{best_of_side, crossing_of, spread_of};
-ghost use Rattle.continuous_offences.specs.Dealt.{IsDealt, orders_of};
+ghost use Rattle.continuous_offences.specs.StateAfterDeals.{IsDealt, orders_of};
 ghost use Rattle.continuous_offences.specs.Passing.{own_side, side_against};
 
-use super::dealt::Dealt;
+use super::state_after_deals::StateAfterDeals;
 use audit_base::flaws::TradedOrder;
 use audit_base::numbers::Price;
 use audit_base::terms::Side;
@@ -63,7 +63,7 @@ fn spread_of(side: Side, place: u32, own: TradedOrder, other: TradedOrder) -> Li
 }
 
 /// The offence where the order at hand meets the best of the other side.
-fn met(dealt: &Dealt<'_, '_, '_>, same: Option<usize>, other: usize) -> Option<ListedOffence>
+fn met(dealt: &StateAfterDeals<'_, '_, '_>, same: Option<usize>, other: usize) -> Option<ListedOffence>
     requires dealt { IsDealt dealt.now }
     requires own { IfSome same (IsOrderOnSide (orders_of dealt.now) (own_side dealt.now)) }
     requires other { other < length (orders_of dealt.now) }
@@ -87,7 +87,7 @@ fn met(dealt: &Dealt<'_, '_, '_>, same: Option<usize>, other: usize) -> Option<L
 /// that rests meets it. The best of its own side that rests may be better than itself, and is
 /// shown then.
 pub(crate) fn crossing_offence(
-    dealt: &Dealt<'_, '_, '_>,
+    dealt: &StateAfterDeals<'_, '_, '_>,
     same: Option<usize>,
     other: Option<usize>,
 ) -> Option<ListedOffence>

@@ -13,7 +13,7 @@
 mod books;
 mod crossing;
 mod deal_offence;
-mod dealt;
+mod state_after_deals;
 pub mod listing;
 mod passing;
 mod scanning;

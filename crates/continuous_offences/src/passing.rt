@@ -5,17 +5,17 @@ ghost use Rattle.audit_base.specs.Deals.{NamesOrders};
 ghost use Rattle.audit_base.specs.Orders.{side_at};
 ghost use Rattle.continuous_audit.specs.Records.{priority_at};
 ghost use Rattle.continuous_offences.specs.DealFacts.{IsOffenceOf};
-ghost use Rattle.continuous_offences.specs.Dealt.{IsDealt, deals_of, orders_of, place_of};
+ghost use Rattle.continuous_offences.specs.StateAfterDeals.{IsDealt, deals_of, orders_of, place_of};
 ghost use Rattle.continuous_offences.specs.Passing.{AreDealsOf, best_waiting, passed_over, side_against};
 
-use super::dealt::Dealt;
+use super::state_after_deals::StateAfterDeals;
 use audit_base::orders::Deal;
 use continuous_audit::incoming_deals::resting_of;
 use offence_list::offences::ListedOffence;
 use rank_order::comparing::better;
 
 /// The offence of a deal whose resting order the order at `best` outranks.
-fn passed_over(dealt: &Dealt<'_, '_, '_>, best: usize, deal: &Deal) -> Option<ListedOffence>
+fn passed_over(dealt: &StateAfterDeals<'_, '_, '_>, best: usize, deal: &Deal) -> Option<ListedOffence>
     requires dealt { IsDealt dealt.now }
     requires best { best < length (orders_of dealt.now) }
     requires named { NamesOrders (orders_of dealt.now) deal.now }
@@ -45,7 +45,7 @@ fn passed_over(dealt: &Dealt<'_, '_, '_>, best: usize, deal: &Deal) -> Option<Li
 /// The offence of the first deal of the order that passes over the order at `best`, which is the
 /// best one that waits; the deals are the incoming ones from `start` to `end`.
 pub(crate) fn first_passed_over(
-    dealt: &Dealt<'_, '_, '_>,
+    dealt: &StateAfterDeals<'_, '_, '_>,
     best: usize,
     start: usize,
     end: usize,

@@ -6,14 +6,14 @@ ghost use Rattle.audit_base.specs.Orders.{place_at};
 ghost use Rattle.order_arrivals.specs.Arrivals.{AreArrivals};
 ghost use Rattle.continuous_offences.specs.DealFacts.{IsOffenceOf};
 ghost use Rattle.continuous_offences.specs.Books.{AreBooksOf};
-ghost use Rattle.continuous_offences.specs.Dealt.{IsDealt, deals_of, orders_of, place_of};
+ghost use Rattle.continuous_offences.specs.StateAfterDeals.{IsDealt, deals_of, orders_of, place_of};
 ghost use Rattle.order_arrivals.specs.DealtOrders.{IsMarket};
 ghost use Rattle.continuous_offences.specs.Passing.{AreDealsOf};
 ghost use Rattle.continuous_offences.specs.States.{IsReady};
 
 use super::books::RestingBooks;
 use super::crossing::crossing_offence;
-use super::dealt::Dealt;
+use super::state_after_deals::StateAfterDeals;
 use super::passing::first_passed_over;
 use super::scanning::{first_deal_offence, first_of};
 use audit_base::faults::NoMemory;
@@ -34,7 +34,7 @@ pub(crate) struct ListingState {
 
 /// The offence of the first deal of the order that passes over the best order that waits.
 fn passed_over(
-    dealt: &Dealt<'_, '_, '_>,
+    dealt: &StateAfterDeals<'_, '_, '_>,
     start: usize,
     end: usize,
     books: &mut RestingBooks,
@@ -57,7 +57,7 @@ fn passed_over(
 }
 
 /// The offence of the order's record, if the order meets one that rests.
-fn crossed(dealt: &Dealt<'_, '_, '_>, books: &mut RestingBooks) -> Option<ListedOffence>
+fn crossed(dealt: &StateAfterDeals<'_, '_, '_>, books: &mut RestingBooks) -> Option<ListedOffence>
     requires dealt { IsDealt dealt.now }
     requires books { AreBooksOf (orders_of dealt.now) (deals_of dealt.now) dealt.now.order
         (suc (place_of dealt.now)) (suc (place_of dealt.now)) books.old }
@@ -78,7 +78,7 @@ fn crossed(dealt: &Dealt<'_, '_, '_>, books: &mut RestingBooks) -> Option<Listed
 }
 
 /// Adds the order to the book of its side, if it rests after its own record.
-fn enter(dealt: &Dealt<'_, '_, '_>, books: &mut RestingBooks) -> Result<(), NoMemory>
+fn enter(dealt: &StateAfterDeals<'_, '_, '_>, books: &mut RestingBooks) -> Result<(), NoMemory>
     requires dealt { IsDealt dealt.now }
     requires books { AreBooksOf (orders_of dealt.now) (deals_of dealt.now) dealt.now.order
         (suc (place_of dealt.now)) (suc (place_of dealt.now)) books.old }
@@ -127,7 +127,7 @@ impl ListingState {
     {
         let (start, before) = (self.before.added, &self.before.traded);
         let by_itself = first_deal_offence(market, arrivals, before, order, &mut self.after);
-        let dealt = Dealt {
+        let dealt = StateAfterDeals {
             market,
             arrivals,
             traded: &self.after.traded,

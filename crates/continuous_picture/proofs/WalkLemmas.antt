@@ -17,7 +17,7 @@ use Rattle.order_arrivals.specs.declared.dealt_orders.DealtOrders.{DealtOrders}
 use Rattle.order_arrivals.specs.DealtOrders.{HaveTraded, IsMarket}
 use Rattle.order_book.specs.Books.{BookSide, IsAheadInBook, best_resting, with_order}
 use Rattle.order_book.specs.declared.books.Resting.{Resting}
-use Rattle.continuous_picture.specs.declared.active.Known.{Known}
+use Rattle.continuous_picture.specs.declared.active.StateAfterRecord.{StateAfterRecord}
 use Rattle.continuous_picture.specs.declared.walks.Walk.{Walk}
 use Rattle.continuous_picture.specs.Active.{IsKnownAt, known_deals, is_active_in_book, known_orders}
 use Rattle.continuous_picture.specs.Quotes.{best_limit}
@@ -210,7 +210,7 @@ module _ (m : DealtOrders) (market : IsMarket m) (place : ℕ) where
         )
 
 -- what is known tells of the orders that have come whether they are active
-pub known-tells : (k : Known) (next : ℕ) → AreCome (known_orders k) next (suc k.place) → Tells (known_orders k) (known_deals k) next k.place (is_active_in_book k)
+pub known-tells : (k : StateAfterRecord) (next : ℕ) → AreCome (known_orders k) next (suc k.place) → Tells (known_orders k) (known_deals k) next k.place (is_active_in_book k)
 known-tells k next are r lt = active-is (known_orders k) (known_deals k) k.place r.index _ _ (let up = are.come r.index lt in omega arith) refl refl
 
 -- the next order is that of the record
@@ -221,7 +221,7 @@ next-at orders next place t = elim (cases_Bool (nat_lt next (length orders))) [
 ]
 
 -- what is known after the record at a place, in the words of the code
-pub known-now : (k : Known) → IsMarket k.market.now → k.place < 2 ^ 33 → AreSizesOf (known_orders k) (known_deals k) k.sizes.now → (w : Walk) → IsWalk k.market.now (suc k.place) k.place w → k.traded.now ≡ w.totals.traded.items → IsKnownAt k
+pub known-now : (k : StateAfterRecord) → IsMarket k.market.now → k.place < 2 ^ 33 → AreSizesOf (known_orders k) (known_deals k) k.sizes.now → (w : Walk) → IsWalk k.market.now (suc k.place) k.place w → k.traded.now ≡ w.totals.traded.items → IsKnownAt k
 known-now k market fits sizes w is same = record {
   market = market;
   fits = fits;

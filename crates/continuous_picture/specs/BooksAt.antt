@@ -8,7 +8,7 @@ use Rattle.audit_base.specs.Orders.{limit_at, side_at}
 use Rattle.audit_base.specs.Priority.{Better}
 use Rattle.continuous_audit.specs.Records.{AreTradedBefore}
 use Rattle.continuous_picture.specs.Sizes.{AreSizesOf}
-use Rattle.continuous_picture.specs.declared.books_at.Before.{Before}
+use Rattle.continuous_picture.specs.declared.books_at.StateBeforeRecord.{StateBeforeRecord}
 use Rattle.order_arrivals.specs.DealtOrders.{IsMarket}
 use Rattle.order_book.specs.declared.books.Resting.{Resting}
 use Rattle.continuous_picture.specs.Walks.{HasLineOf}
@@ -44,14 +44,14 @@ pub record IsBookAt (orders : List Order) (deals : List Deal) (side : Side) (pla
   pub first : lines ≡ take 10 whole
 
 -- the orders and the deals
-abbrev pub orders_before : Before → List Order
+abbrev pub orders_before : StateBeforeRecord → List Order
 orders_before b = b.market.now.orders.now
 
-abbrev pub deals_before : Before → List Deal
+abbrev pub deals_before : StateBeforeRecord → List Deal
 deals_before b = b.market.now.deals.now
 
 -- what each order has traded before a place, and its Size
-pub record IsBefore (b : Before) : Type 0 where
+pub record IsBefore (b : StateBeforeRecord) : Type 0 where
   pub market : IsMarket b.market.now
   pub sizes : AreSizesOf (orders_before b) (deals_before b) b.sizes.now
   pub traded : AreTradedBefore (orders_before b) (deals_before b) b.place b.traded.now

@@ -8,7 +8,7 @@ use order_list::listed::ListedOrder;
 
 /// What is known after the record at a place.
 #[derive(Clone, Copy)]
-pub(crate) struct Known<'m, 's, 't> {
+pub(crate) struct StateAfterRecord<'m, 's, 't> {
     pub(crate) market: &'m DealtOrders<'m>,
     pub(crate) sizes: &'s [u64],
     /// What each order has traded up to the place.
@@ -31,7 +31,7 @@ fn is_active_with(order: &ListedOrder<'_>, place: u64, size: u64, traded: u128) 
     may_be_active(order, place) && has_left_before(order, place + 1, size, traded)
 }
 
-impl Known<'_, '_, '_> {
+impl StateAfterRecord<'_, '_, '_> {
     /// Whether an order is active, if it has come.
     pub(crate) fn is_active(&self, order: usize) -> bool
         requires known { spec.IsKnownAt self.now }

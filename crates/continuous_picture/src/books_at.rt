@@ -23,7 +23,7 @@ const MOST_LINES: usize = 10;
 
 /// What is known right before the record at a place.
 #[derive(Clone, Copy)]
-struct Before<'m, 's, 't> {
+struct StateBeforeRecord<'m, 's, 't> {
     market: &'m DealtOrders<'m>,
     sizes: &'s [u64],
     /// What each order has traded before the place.
@@ -60,7 +60,7 @@ fn totals_before(
     Ok(totals)
 }
 
-impl Before<'_, '_, '_> {
+impl StateBeforeRecord<'_, '_, '_> {
     /// Whether an order rests.
     fn rests(&self, order: usize) -> bool
         requires before { IsBefore self.now }
@@ -169,7 +169,7 @@ pub fn book_at(
         IsBookAt market.now.orders.now market.now.deals.now side place lines.items) }
 {
     let totals = totals_before(alloc, market, place)?;
-    let before = Before {
+    let before = StateBeforeRecord {
         market,
         sizes,
         traded: &totals.traded,

@@ -8,7 +8,7 @@ ghost use Rattle.continuous_picture.specs.Walks.{HasNext, IsWalk, from_passing, 
 ghost use Rattle.order_arrivals.specs.DealtOrders.{IsMarket};
 ghost use Rattle.order_book.specs.Books.{IsAheadInBook, best_resting};
 
-use crate::active::Known;
+use crate::active::StateAfterRecord;
 use crate::quotes::Quote;
 use audit_base::faults::NoMemory;
 use audit_base::numbers::Price;
@@ -31,7 +31,7 @@ pub(crate) struct Walk {
 
 /// Takes the orders out of the front of a book that are not active, and gives the limit of the best
 /// that is.
-fn first_active(known: &Known<'_, '_, '_>, book: &mut Book) -> Option<Price>
+fn first_active(known: &StateAfterRecord<'_, '_, '_>, book: &mut Book) -> Option<Price>
     requires known { IsKnownAt known.now }
     requires inside { All (λ r. r.index < length (known_orders known.now)) book.old.resting }
     ensures list { book.new ≡ record book.old {
@@ -121,7 +121,7 @@ impl Walk {
         ensures quote { IsQuoteAt market.now.orders.now market.now.deals.now place result }
         ensures walk { IsWalk market.now (suc place) place self.new }
     {
-        let known = Known {
+        let known = StateAfterRecord {
             market,
             sizes,
             traded: &self.totals.traded,

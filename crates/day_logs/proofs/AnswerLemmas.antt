@@ -5,7 +5,7 @@ use Rattle.audit_base.specs.declared.records.OrderRecord.{OrderRecord}
 use Rattle.audit_base.specs.declared.records.TradeRecord.{TradeRecord}
 use Rattle.day_symbols.specs.Shares.{DayShare}
 use Rattle.record_verdict.specs.declared.scopes.Admission.{Admission}
-use Rattle.day_records.specs.declared.day_trades.EndedTrades.{EndedTrades}
+use Rattle.day_records.specs.declared.day_trades.DayRecords.{DayRecords}
 use Rattle.day_verdicts.specs.declared.judging.JudgedSymbols.{JudgedSymbols}
 use Rattle.day_verdicts.specs.DayVerdicts.{IsJudgedShare}
 use Rattle.log_verdict.specs.declared.sources.Source.{Source}
@@ -41,7 +41,7 @@ stays-without r (norecords.Malformed log bad) result is within = rw is at within
 stays-without r (norecords.Stopped why) result is within = rw is at within
 
 -- The answer to what two logs come to: their verdicts.
-pub judged-up-to : (q : DayQuestion) (ended : EndedTrades) (judged : JudgedSymbols) → IsJudgedShare q.rule q.table q.checks q.share ended judged → IsAnswerUpToRule q.share (admission_of q.rule) (AreVerdictsOfDay q) (before_rule.Read ended) (answer.Judged judged)
+pub judged-up-to : (q : DayQuestion) (ended : DayRecords) (judged : JudgedSymbols) → IsJudgedShare q.rule q.table q.checks q.share ended judged → IsAnswerUpToRule q.share (admission_of q.rule) (AreVerdictsOfDay q) (before_rule.Read ended) (answer.Judged judged)
 judged-up-to q ended judged is = of-records
   where
     of-records : (entries : List OrderRecord) (paired : Result (List TradeRecord) Finding) → IsDayBeforeRule q.share (admission_of q.rule) entries paired (before_rule.Read ended) → IsAnswerToRecords (AreVerdictsOfDay q) entries paired (answer.Judged judged)

@@ -7,7 +7,7 @@ use Rattle.audit_base.specs.declared.records.TradeRecord.{TradeRecord}
 use Rattle.day_logs.specs.declared.before_rule.DayBeforeRule.{DayBeforeRule}
 use Rattle.day_logs.specs.declared.before_rule.DayBeforeRule.TheVariants as before_rule
 use Rattle.day_symbols.specs.Shares.{DayShare}
-use Rattle.day_records.specs.declared.day_trades.EndedTrades.{EndedTrades}
+use Rattle.day_records.specs.declared.day_trades.DayRecords.{DayRecords}
 use Rattle.day_records.specs.DayTrades.{HasTradesOf}
 use Rattle.record_verdict.specs.declared.scopes.Admission.{Admission}
 
@@ -20,7 +20,7 @@ IsDayBeforeRule share admission entries paired (before_rule.Read ended) =
 IsDayBeforeRule share admission entries paired (before_rule.Unpaired finding) = paired ≡ Err finding
 
 -- The day has some records, of trades fewer than there are places.
-pub record DayTradesFitPlaces (share : DayShare) (admission : Admission) (ended : EndedTrades)
+pub record DayTradesFitPlaces (share : DayShare) (admission : Admission) (ended : DayRecords)
     : Type 0 where
   pub entries : List OrderRecord
   pub trades : List TradeRecord

@@ -1,6 +1,6 @@
 //! What the records of two logs of a day give before a rule is looked at.
 use audit_base::findings::Finding;
-use day_records::day_trades::EndedTrades;
+use day_records::day_trades::DayRecords;
 
 /// What the records of two logs of a day give before a rule is looked at.
 #[derive(Drop)]
@@ -9,5 +9,5 @@ pub enum DayBeforeRule {
     /// symbol.
     Unpaired(Finding),
     /// What is known of each symbol of the share.
-    Read(EndedTrades),
+    Read(DayRecords),
 }

@@ -1,7 +1,7 @@
 //! Reading two logs of a day up to the rule: each is handed record by record to what is kept of
 //! all symbols.
 ghost use Rattle.std.specs.Prelude.{◌≡◌, ◌≤◌, [], List, IfOk};
-ghost use Rattle.audit_base.specs.declared.records.OrderRecord.{OrderRecord as AnEntry};
+ghost use Rattle.audit_base.specs.declared.records.OrderRecord.{OrderRecord as OrderRecordSpec};
 ghost use Rattle.audit_base.specs.declared.terms.Which.{Which};
 ghost use Rattle.day_records.specs.DayOrders.{HasOrders};
 ghost use Rattle.day_records.specs.DayTrades.{IsDayTrades};
@@ -13,11 +13,11 @@ ghost use Rattle.day_logs.specs.DayBeforeRule.{IsDayBeforeRule, IsDayWithFewTrad
 
 use crate::before_rule::DayBeforeRule;
 use audit_base::terms::Which;
-use day_records::day_orders::{AuditedShare, DayOrders, EndedOrders};
-use day_records::day_trades::{AuditedDay, DayTrades};
+use day_records::day_orders::{ShareGhost, DayOrders, DayOrderLog};
+use day_records::day_trades::{DayGhost, DayTrades};
 use day_symbols::shares::DayShare;
 use log_source::shelf::Shelf;
-use log_verdict::reading::{Collected, collect_orders, collect_trades};
+use log_verdict::reading::{CollectedTrades, collect_orders, collect_trades};
 use log_verdict::sources::Source;
 use log_verdict::stops::{NoRecords, Stop};
 use record_verdict::scopes::Admission;
@@ -25,7 +25,7 @@ use std::alloc::Global;
 use std::marker::Brand;
 
 /// What is known where the trade log is read by a day that has been handed no trade yet.
-fn read_trades<M: AuditedDay, F: Shelf>(
+fn read_trades<M: DayGhost, F: Shelf>(
     alloc: Global,
     shelf: &mut F,
     trades: &Source<'_>,
@@ -35,7 +35,7 @@ fn read_trades<M: AuditedDay, F: Shelf>(
     requires fresh { IsDayTrades M.share M.admission M.may_have day [] }
     ensures logs { KeepsShelfLogs F.Shelf shelf.old shelf.new }
     ensures only { TouchesOnly (reading_by trades.now F.Shelf shelf.old shelf.new) Which.Trades }
-    ensures decides { (entries : List AnEntry) → M.may_have entries
+    ensures decides { (entries : List OrderRecordSpec) → M.may_have entries
         → GivesOfTrades (IsDayBeforeRule M.share M.admission entries)
         (reading_by trades.now F.Shelf shelf.old shelf.new) trades.now result }
     ensures fits_places { IfOk result (IsDayWithFewTrades M.share M.admission) }
@@ -43,30 +43,30 @@ fn read_trades<M: AuditedDay, F: Shelf>(
         Which.Trades result }
 {
     match collect_trades::<F, DayTrades<M>>(alloc, shelf, trades, day) {
-        Ok(Collected::Trades(day)) => Ok(DayBeforeRule::Read(day.end())),
-        Ok(Collected::Alone(finding)) => Ok(DayBeforeRule::Unpaired(finding)),
+        Ok(CollectedTrades::Trades(day)) => Ok(DayBeforeRule::Read(day.end())),
+        Ok(CollectedTrades::Alone(finding)) => Ok(DayBeforeRule::Unpaired(finding)),
         Err(unread) => Err(NoRecords::at(Which::Trades, unread)),
     }
 }
 
 /// What is known where the order log has been read: the trade log is read after it.
-fn after_orders<M: AuditedDay, F: Shelf>(
+fn after_orders<M: DayGhost, F: Shelf>(
     alloc: Global,
     shelf: &mut F,
     share: DayShare,
     admission: Admission,
     trades: &Source<'_>,
-    orders: EndedOrders,
+    orders: DayOrderLog,
 ) -> Result<DayBeforeRule, NoRecords>
     requires limit { trades.now.limit ≤ longest_read }
     requires share { share ≡ M.share }
     requires admission { admission ≡ M.admission }
-    requires orders { (entries : List AnEntry)
+    requires orders { (entries : List OrderRecordSpec)
         → M.may_have entries → HasOrders M.share orders entries }
-    requires some { (entries : List AnEntry) × M.may_have entries }
+    requires some { (entries : List OrderRecordSpec) × M.may_have entries }
     ensures logs { KeepsShelfLogs F.Shelf shelf.old shelf.new }
     ensures only { TouchesOnly (reading_by trades.now F.Shelf shelf.old shelf.new) Which.Trades }
-    ensures decides { (entries : List AnEntry) → M.may_have entries
+    ensures decides { (entries : List OrderRecordSpec) → M.may_have entries
         → GivesOfTrades (IsDayBeforeRule share admission entries)
         (reading_by trades.now F.Shelf shelf.old shelf.new) trades.now result }
     ensures fits_places { IfOk result (IsDayWithFewTrades share admission) }
@@ -80,7 +80,7 @@ fn after_orders<M: AuditedDay, F: Shelf>(
 }
 
 /// What two logs of a day give before a rule is looked at, by the orders of the share.
-fn read_share<D: AuditedShare, F: Shelf>(
+fn read_share<D: ShareGhost, F: Shelf>(
     alloc: Global,
     shelf: &mut F,
     share: DayShare,

@@ -10,7 +10,7 @@ use audit_base::faults::NoMemory;
 use page_markup::markup::Markup;
 use page_markup::words::{AttributeName, Tag};
 use page_parts::cells::{with_gaps, with_words};
-use page_parts::elements::{says, with_link};
+use page_parts::elements::{attribute, with_link};
 use std::alloc::Global;
 
 /// The heading of a row, whose spaces are kept.
@@ -18,8 +18,8 @@ fn row_heading_of(alloc: Global, inner: &Markup) -> Result<Markup, NoMemory>
     ensures { IfOk result (λ made. made ≡ spec.row_heading_of inner.now) }
 {
     let said = [
-        says(AttributeName::Scope, b"row"),
-        says(AttributeName::Class, b"name"),
+        attribute(AttributeName::Scope, b"row"),
+        attribute(AttributeName::Class, b"name"),
     ];
     Markup::new(alloc).with_element(Tag::HeaderCell, &said, inner)
 }
@@ -56,7 +56,7 @@ fn with_digits(alloc: Global, row: Markup, digits: &[u8]) -> Result<Markup, NoMe
     ensures { IfOk result (λ more. more ≡ row ++ spec.digits_cell digits.now) }
 {
     let text = Markup::new(alloc).with_text(digits)?;
-    row.with_element(Tag::Cell, &[says(AttributeName::Class, b"number")], &text)
+    row.with_element(Tag::Cell, &[attribute(AttributeName::Class, b"number")], &text)
 }
 
 /// With the cells of the totals behind it.

@@ -1,4 +1,4 @@
-pub mod SymbolTradesLemmas
+pub mod SymbolDuringTradesLemmas
 pub mod ReplayLemmas
 pub mod DayTradesLemmas
 pub mod DayOrderLemmas

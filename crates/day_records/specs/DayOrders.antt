@@ -6,7 +6,7 @@ use Rattle.day_symbols.specs.Kept.{AreForEach}
 use Rattle.day_symbols.specs.Shares.{DayShare, symbols_in}
 use Rattle.day_symbols.specs.Symbols.{distinct_names}
 use Rattle.day_records.specs.declared.day_orders.DayOrders.{DayOrders}
-use Rattle.day_records.specs.declared.day_orders.EndedOrders.{EndedOrders}
+use Rattle.day_records.specs.declared.day_orders.DayOrderLog.{DayOrderLog}
 use Rattle.day_records.specs.KeptOrders.{KeptEntries}
 
 -- the symbols of order records, in the order in which each appears first
@@ -37,7 +37,7 @@ abbrev pub ForEntries : {D : Type 0} → DayShare → DayOrders D → (List Orde
 ForEntries share day P = (entries : List OrderRecord) → IsDayOrders share day entries → P entries
 
 -- the order log has these records: these are its symbols, and the histories of those of the share
-pub record HasOrders (share : DayShare) (ended : EndedOrders)
+pub record HasOrders (share : DayShare) (ended : DayOrderLog)
     (entries : List OrderRecord) : Type 0 where
   pub symbols_are : ended.symbols ≡ order_symbols entries
   pub histories_are : HaveHistories

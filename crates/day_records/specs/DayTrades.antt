@@ -8,14 +8,15 @@ use Rattle.day_symbols.specs.Symbols.{symbols_of_day}
 use Rattle.day_records.specs.KeptOrders.{KeptEntries}
 use Rattle.record_verdict.specs.declared.scopes.Admission.{Admission}
 use Rattle.day_records.specs.declared.day_trades.DayTrades.{DayTrades}
-use Rattle.day_records.specs.declared.day_trades.EndedTrades.{EndedTrades}
-use Rattle.day_records.specs.declared.symbol_records.SymbolRecords.{SymbolRecords}
-use Rattle.day_records.specs.SymbolRecords.{HasSymbolRecords, IsBegun}
+use Rattle.day_records.specs.declared.day_trades.DayRecords.{DayRecords}
+use Rattle.day_records.specs.declared.kept_records.KeptRecords.{KeptRecords}
+use Rattle.day_records.specs.KeptRecords.{HasKeptRecords, IsBegun}
 
 -- each of these symbols is kept with its records among these
-abbrev pub HaveSymbolRecords : List OrderRecord → List TradeRecord → List (List ℕ) → List SymbolRecords
+abbrev pub HaveKeptRecords : List OrderRecord → List TradeRecord → List (List ℕ) → List KeptRecords
     → Type 0
-HaveSymbolRecords entries trades symbols kept = AreForEach (HasSymbolRecords entries trades) symbols kept
+HaveKeptRecords entries trades symbols kept =
+    AreForEach (HasKeptRecords entries trades) symbols kept
 
 -- after these order records the day has been handed exactly these records of the trade log: it has
 -- the symbols of both logs, and the records of each symbol of the share
@@ -25,7 +26,7 @@ pub record IsDayAfterOrders {M : Type 0} (share : DayShare) (admission : Admissi
   pub admits : day.admission ≡ admission
   pub count : day.count ≡ length trades
   pub symbols_are : day.symbols ≡ symbols_of_day entries trades
-  pub records_are : HaveSymbolRecords entries trades
+  pub records_are : HaveKeptRecords entries trades
       (symbols_in share (symbols_of_day entries trades)) day.kept.items
   pub fits_indices : length entries < 2 ^ 32
 
@@ -41,9 +42,9 @@ pub record IsDayTrades {M : Type 0} (share : DayShare) (admission : Admission)
 
 -- the day has these records: these are its symbols, and the records of each of the share
 pub record HasTradesOf (share : DayShare) (admission : Admission) (entries : List OrderRecord)
-    (ended : EndedTrades) (trades : List TradeRecord) : Type 0 where
+    (ended : DayRecords) (trades : List TradeRecord) : Type 0 where
   pub symbols_are : ended.symbols ≡ symbols_of_day entries trades
-  pub records_are : HaveSymbolRecords entries trades
+  pub records_are : HaveKeptRecords entries trades
       (symbols_in share (symbols_of_day entries trades)) ended.kept.items
   pub count : ended.count ≡ length trades
   pub admits : ended.admission ≡ admission
@@ -52,20 +53,20 @@ pub record HasTradesOf (share : DayShare) (admission : Admission) (entries : Lis
 -- whatever trades the day has been handed, and whatever order records it may have, it ends with
 -- what is known of them
 abbrev pub EndsDay : {M : Type 0} → DayShare → Admission → (List OrderRecord → Type 0)
-    → DayTrades M → EndedTrades → Type 0
+    → DayTrades M → DayRecords → Type 0
 EndsDay share admission may_have day ended =
     (entries : List OrderRecord) (trades : List TradeRecord) → may_have entries
     → IsDayTrades share admission may_have day trades
     → HasTradesOf share admission entries ended trades
 
 -- there is one for each symbol with its orders, and it has these and no trades
-pub record AreBegun (orders : List KeptEntries) (kept : List SymbolRecords) : Type 0 where
+pub record AreBegun (orders : List KeptEntries) (kept : List KeptRecords) : Type 0 where
   pub same_length : length kept ≡ length orders
-  pub each : (i : ℕ) (own : KeptEntries) (one : SymbolRecords)
+  pub each : (i : ℕ) (own : KeptEntries) (one : KeptRecords)
       → slice_get orders i ≡ Some own → slice_get kept i ≡ Some one → IsBegun own one
 
 -- only the records that are kept have changed
-pub record KeepsAllButSymbolRecords {M : Type 0} (old new : DayTrades M) : Type 0 where
+pub record KeepsAllButKeptRecords {M : Type 0} (old new : DayTrades M) : Type 0 where
   pub shared : new.share ≡ old.share
   pub admits : new.admission ≡ old.admission
   pub count : new.count ≡ old.count

@@ -5,6 +5,6 @@ pub mod NameRows
 pub mod KeptOrders
 pub mod KeptTrades
 pub mod DayOrders
-pub mod SymbolTrades
-pub mod SymbolRecords
+pub mod SymbolDuringTrades
+pub mod KeptRecords
 pub mod DayTrades

@@ -24,11 +24,11 @@ use std::marker::{Brand, PhantomData};
 /// kind can say of one only which records it has been handed, and not which share it was made for.
 /// So the type of a day says that. Whoever makes one picks the share, at `Brand`, and nothing of it
 /// is there when the program runs.
-pub trait AuditedShare {
+pub trait ShareGhost {
     ghost share: { DayShare };
 }
 
-impl AuditedShare for Brand {
+impl ShareGhost for Brand {
     ghost share = { whole_day };
 }
 
@@ -48,13 +48,13 @@ pub struct DayOrders<D> {
 
 /// The order log of a day, whose records have all come.
 #[derive(Drop)]
-pub struct EndedOrders {
+pub struct DayOrderLog {
     pub symbols: Symbols,
     /// Those of the symbols of the share, in their order.
     pub kept: Vec<KeptOrders>,
 }
 
-impl<D: AuditedShare> DayOrders<D> {
+impl<D: ShareGhost> DayOrders<D> {
     /// No records. Symbols are found by hashes of this seed. Takes no memory.
     pub fn new(alloc: Global, seed: HashSeed, share: DayShare) -> DayOrders<D>
         requires { share ≡ D.share }
@@ -100,15 +100,15 @@ impl<D: AuditedShare> DayOrders<D> {
     }
 
     /// The symbols of the log and the records of those in the share. Takes no memory.
-    pub fn end(self) -> EndedOrders
+    pub fn end(self) -> DayOrderLog
         ensures { ForEntries D.share self (HasOrders D.share result) }
     {
         let DayOrders { symbols, kept, .. } = self;
-        EndedOrders { symbols, kept }
+        DayOrderLog { symbols, kept }
     }
 }
 
-impl<D: AuditedShare> Collector for DayOrders<D> {
+impl<D: ShareGhost> Collector for DayOrders<D> {
     ghost use Rattle.day_symbols.specs.Shares.{is_looked_at};
 
     type Entry = OrderRecord;

@@ -3,20 +3,20 @@
 //! Which order records there may be is a predicate (`may_have`), since a caller knows what the
 //! order log gave and not the list.
 ghost use Rattle.std.specs.Prelude.{⊤, ◌≡◌, ◌+◌, ◌<◌, ◌∷◌, [], List, IfOk, OnOk, slice_get, Some, length};
-ghost use Rattle.audit_base.specs.declared.records.OrderRecord.{OrderRecord as AnEntry};
+ghost use Rattle.audit_base.specs.declared.records.OrderRecord.{OrderRecord as OrderRecordSpec};
 ghost use Rattle.log_source.specs.Collectors.{HasPlace};
 ghost use Rattle.log_source.specs.Handing.{HandsOnMore};
 ghost use Rattle.day_records.specs.DayOrders.{HasOrders};
 ghost use Rattle.day_symbols.specs.Kept.{HasRoomAt};
 ghost use Rattle.day_symbols.specs.Shares.{DayShare, whole_day};
-ghost use Rattle.record_verdict.specs.declared.scopes.Admission.{Admission as AnAdmission};
+ghost use Rattle.record_verdict.specs.declared.scopes.Admission.{Admission as AdmissionSpec};
 ghost use Rattle.record_verdict.specs.declared.scopes.Admission.TheVariants.{All as AdmitsAll};
-ghost use Rattle.day_records.specs.DayTrades.{AreBegun, EndsDay, IsDayTrades, KeepsAllButSymbolRecords};
-ghost use Rattle.day_records.specs.SymbolRecords.{IsUnseen};
+ghost use Rattle.day_records.specs.DayTrades.{AreBegun, EndsDay, IsDayTrades, KeepsAllButKeptRecords};
+ghost use Rattle.day_records.specs.KeptRecords.{IsUnseen};
 
-use crate::day_orders::EndedOrders;
+use crate::day_orders::DayOrderLog;
 use crate::kept_orders::KeptOrders;
-use crate::symbol_records::SymbolRecords;
+use crate::kept_records::KeptRecords;
 use audit_base::faults::NoMemory;
 use audit_base::names::Name;
 use audit_base::records::TradeRecord;
@@ -32,15 +32,15 @@ use std::marker::{Brand, PhantomData};
 /// have, for proofs alone. What hands records to collectors of any kind can say of one only which
 /// records it has been handed, and not which day it was made for. So the type of a day says that.
 /// Whoever makes one picks them, at `Brand`, and nothing of them is there when the program runs.
-pub trait AuditedDay {
+pub trait DayGhost {
     ghost share: { DayShare };
 
-    ghost admission: { AnAdmission };
+    ghost admission: { AdmissionSpec };
 
-    ghost may_have: { List AnEntry → Type 0 };
+    ghost may_have: { List OrderRecordSpec → Type 0 };
 }
 
-impl AuditedDay for Brand {
+impl DayGhost for Brand {
     ghost share = { whole_day };
 
     ghost admission = { AdmitsAll };
@@ -60,16 +60,16 @@ pub struct DayTrades<M> {
     count: u32,
     symbols: Symbols,
     /// Those of the symbols of the share, in their order.
-    kept: Vec<SymbolRecords>,
+    kept: Vec<KeptRecords>,
     of: PhantomData<M>,
 }
 
 /// A day whose records have all come.
 #[derive(Drop)]
-pub struct EndedTrades {
+pub struct DayRecords {
     pub symbols: Symbols,
     /// Those of the symbols of the share, in their order.
-    pub kept: Vec<SymbolRecords>,
+    pub kept: Vec<KeptRecords>,
     /// How many records the trade log has, of all symbols.
     pub count: u32,
     /// The seed of the hashes by which keys and ids are found, when a symbol is judged.
@@ -78,17 +78,17 @@ pub struct EndedTrades {
 }
 
 /// The records of each symbol before any trade.
-fn begin(alloc: Global, orders: Vec<KeptOrders>) -> Result<Vec<SymbolRecords>, NoMemory>
+fn begin(alloc: Global, orders: Vec<KeptOrders>) -> Result<Vec<KeptRecords>, NoMemory>
     ensures { IfOk result (λ kept. AreBegun orders.items kept.items) }
 {
     let mut kept = Vec::with_capacity(alloc, orders.len())?;
     for symbol_orders in orders {
-        kept.push(SymbolRecords::of(alloc, symbol_orders))?;
+        kept.push(KeptRecords::of(alloc, symbol_orders))?;
     }
     Ok(kept)
 }
 
-impl<M: AuditedDay> DayTrades<M> {
+impl<M: DayGhost> DayTrades<M> {
     /// No trades, after these orders of the share. Symbols, keys and ids are found by hashes of
     /// this seed.
     pub fn new(
@@ -96,16 +96,16 @@ impl<M: AuditedDay> DayTrades<M> {
         seed: HashSeed,
         share: DayShare,
         admission: Admission,
-        orders: EndedOrders,
+        orders: DayOrderLog,
     ) -> Result<DayTrades<M>, NoMemory>
         requires share { share ≡ M.share }
         requires admission { admission ≡ M.admission }
-        requires orders { (entries : List AnEntry)
+        requires orders { (entries : List OrderRecordSpec)
             → M.may_have entries → HasOrders M.share orders entries }
-        requires some { (entries : List AnEntry) × M.may_have entries }
+        requires some { (entries : List OrderRecordSpec) × M.may_have entries }
         ensures { IfOk result (λ day. IsDayTrades M.share M.admission M.may_have day []) }
     {
-        let EndedOrders { symbols, kept } = orders;
+        let DayOrderLog { symbols, kept } = orders;
         let kept = begin(alloc, kept)?;
         Ok(DayTrades {
             alloc,
@@ -123,10 +123,10 @@ impl<M: AuditedDay> DayTrades<M> {
     fn make_room(&mut self, share_index: usize, symbol: Name) -> Result<(), NoMemory>
         ensures room { let room = HasRoomAt (IsUnseen symbol) share_index in
             OnOk result (room self.old.kept.items self.new.kept.items) }
-        ensures only { KeepsAllButSymbolRecords self.old self.new }
+        ensures only { KeepsAllButKeptRecords self.old self.new }
     {
         if share_index == self.kept.len() {
-            self.kept.push(SymbolRecords::none(self.alloc, symbol))?;
+            self.kept.push(KeptRecords::none(self.alloc, symbol))?;
         }
         Ok(())
     }
@@ -148,7 +148,7 @@ impl<M: AuditedDay> DayTrades<M> {
     }
 
     /// The symbols of the day and the records of those in the share. Takes no memory.
-    pub fn end(self) -> EndedTrades
+    pub fn end(self) -> DayRecords
         ensures { EndsDay M.share M.admission M.may_have self result }
     {
         let DayTrades {
@@ -159,7 +159,7 @@ impl<M: AuditedDay> DayTrades<M> {
             kept,
             ..
         } = self;
-        EndedTrades {
+        DayRecords {
             symbols,
             kept,
             count,
@@ -169,7 +169,7 @@ impl<M: AuditedDay> DayTrades<M> {
     }
 }
 
-impl<M: AuditedDay> Collector for DayTrades<M> {
+impl<M: DayGhost> Collector for DayTrades<M> {
     ghost use Rattle.day_symbols.specs.Shares.{is_looked_at};
 
     type Entry = TradeRecord;

@@ -16,7 +16,7 @@ use Rattle.day_verdicts.specs.declared.judging.JudgedSymbols.{JudgedSymbols}
 use Rattle.day_verdicts.specs.CheckedSymbols.{after_checks}
 use Rattle.day_verdicts.specs.Laws.{SayTheSame as SayTheSameDay}
 use Rattle.day_verdicts.proofs.ShareTellingLemmas.{shares-tell}
-use Rattle.day_verdicts.specs.ToldSymbols.{counts_of, day_lines_of, Told}
+use Rattle.day_verdicts.specs.SymbolAnswers.{counts_of, day_lines_of, SymbolAnswer}
 use Rattle.further_checks.specs.declared.findings.FurtherChecks.{FurtherChecks}
 use Rattle.log_verdict.specs.LogVerdicts.{trades_of_trade_log}
 use Rattle.log_verdict.specs.Ranges.{TradeLogsAreInRange}
@@ -61,7 +61,7 @@ same-judged phases table checks entries trades symbols a b ranges one is-a is-b 
     let same = same-told phases table checks entries trades ranges one symbols is-a.sessions is-b.sessions is-a.sessions_are is-b.sessions_are in
     record {
       counts_same = is-a.tells.counts_are ∙ ap counts_of same ∙ sym is-b.tells.counts_are;
-      lines_same = is-a.tells.lines_are ∙ ap (λ (told : List Told). day_lines_of symbols told) same ∙ sym is-b.tells.lines_are;
+      lines_same = is-a.tells.lines_are ∙ ap (λ (told : List SymbolAnswer). day_lines_of symbols told) same ∙ sym is-b.tells.lines_are;
     }
 
 pub one-session-answer : SessionIsOne → TradeLogsAreInRange → OneSessionAnswer

@@ -9,13 +9,13 @@ use Rattle.day_logs.specs.DayAnswers.{IsAnswerToRecords, IsAnswerUpToRule}
 use Rattle.day_logs.specs.DayBeforeRule.{IsDayBeforeRule}
 use Rattle.day_sessions.specs.JudgedSessions.{AreSessionsOfDay, AreJudgedSessionsOfShare}
 use Rattle.day_symbols.specs.Shares.{DayShare}
-use Rattle.day_records.specs.declared.day_trades.EndedTrades.{EndedTrades}
+use Rattle.day_records.specs.declared.day_trades.DayRecords.{DayRecords}
 use Rattle.day_verdicts.specs.declared.judging.JudgedSymbols.{JudgedSymbols}
 use Rattle.further_checks.specs.declared.findings.FurtherChecks.{FurtherChecks}
 use Rattle.record_verdict.specs.declared.scopes.Admission.TheVariants as admission
 use Rattle.session_audit.specs.declared.phases.Phase.{Phase}
 
-pub sessions-up-to : (phases : List Phase) (table : Bool) (checks : FurtherChecks) (share : DayShare) (ended : EndedTrades) (judged : JudgedSymbols) → AreJudgedSessionsOfShare phases table checks share ended judged
+pub sessions-up-to : (phases : List Phase) (table : Bool) (checks : FurtherChecks) (share : DayShare) (ended : DayRecords) (judged : JudgedSymbols) → AreJudgedSessionsOfShare phases table checks share ended judged
     → IsAnswerUpToRule share admission.All (AreSessionsOfDay phases table checks share) (before_rule.Read ended) (answer.Judged judged)
 sessions-up-to phases table checks share ended judged is = of-records
   where

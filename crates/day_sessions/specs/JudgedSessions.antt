@@ -9,10 +9,10 @@ use Rattle.day_sessions.specs.SymbolSessions.{IsSymbolSession, session_told}
 use Rattle.day_symbols.specs.Kept.{AreForEach}
 use Rattle.day_symbols.specs.Shares.{DayShare, symbols_in}
 use Rattle.day_symbols.specs.Symbols.{symbols_of_day}
-use Rattle.day_records.specs.declared.day_trades.EndedTrades.{EndedTrades}
+use Rattle.day_records.specs.declared.day_trades.DayRecords.{DayRecords}
 use Rattle.day_records.specs.DayTrades.{HasTradesOf}
 use Rattle.day_verdicts.specs.declared.judging.JudgedSymbols.{JudgedSymbols}
-use Rattle.day_verdicts.specs.ToldSymbols.{tell_each, Told, TellsSymbols}
+use Rattle.day_verdicts.specs.SymbolAnswers.{tell_each, SymbolAnswer, TellsSymbols}
 use Rattle.further_checks.specs.declared.findings.FurtherChecks.{FurtherChecks}
 use Rattle.record_verdict.specs.declared.scopes.Admission.TheVariants as admission
 use Rattle.session_audit.specs.declared.phases.Phase.{Phase}
@@ -25,7 +25,7 @@ AreSessions phases table entries trades symbols sessions =
 
 -- what is told of each of these symbols by its session, and then by the checks
 abbrev pub told_by_sessions : FurtherChecks → List OrderRecord → List TradeRecord → List (List ℕ)
-    → List Session → List Told
+    → List Session → List SymbolAnswer
 told_by_sessions checks entries trades symbols sessions =
     tell_each (session_told checks entries trades) symbols sessions
 
@@ -41,7 +41,7 @@ pub record AreJudgedSessions (phases : List Phase) (table : Bool) (checks : Furt
 
 -- whatever records the day has, these are the counts and lines of the sessions of the symbols of
 -- the share
-abbrev pub AreJudgedSessionsOfShare : List Phase → Bool → FurtherChecks → DayShare → EndedTrades
+abbrev pub AreJudgedSessionsOfShare : List Phase → Bool → FurtherChecks → DayShare → DayRecords
     → JudgedSymbols → Type 0
 AreJudgedSessionsOfShare phases table checks share ended judged =
     (entries : List OrderRecord) (trades : List TradeRecord)

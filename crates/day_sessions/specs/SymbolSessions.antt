@@ -6,7 +6,7 @@ use Rattle.audit_base.specs.declared.records.OrderRecord.{OrderRecord}
 use Rattle.audit_base.specs.declared.records.TradeRecord.{TradeRecord}
 use Rattle.day_verdicts.specs.declared.symbol_reports.SymbolReport.{SymbolReport}
 use Rattle.day_verdicts.specs.CheckedSymbols.{after_checks, after_given}
-use Rattle.day_verdicts.specs.ToldSymbols.{Told, told_by}
+use Rattle.day_verdicts.specs.SymbolAnswers.{SymbolAnswer, told_by}
 use Rattle.further_checks.specs.declared.findings.FurtherChecks.{FurtherChecks}
 use Rattle.record_verdict.specs.declared.before_rule.BeforeRule.{BeforeRule}
 use Rattle.session_audit.specs.declared.phases.Phase.{Phase}
@@ -20,12 +20,12 @@ IsSymbolSession phases table entries trades symbol session =
     IsSessionOfKind (IsSessionOfRecords symbol phases table entries (Ok trades)) session
 
 -- what a session tells
-abbrev pub told_by_session : Session → Told
+abbrev pub told_by_session : Session → SymbolAnswer
 told_by_session session = record { accepted = session.conforms; text = session.text.items }
 
 -- what is told of a symbol by its session, and then by the checks that are asked for
 abbrev pub session_told : FurtherChecks → List OrderRecord → List TradeRecord → List ℕ → Session
-    → Told
+    → SymbolAnswer
 session_told checks entries trades symbol session =
     after_checks checks entries trades symbol (told_by_session session)
 

@@ -12,7 +12,7 @@ use crate::questions::SessionQuestion;
 use audit_base::faults::NoMemory;
 use audit_base::names::Name;
 use audit_base::stamps::Stamp;
-use day_records::day_trades::EndedTrades;
+use day_records::day_trades::DayRecords;
 use day_verdicts::judging::JudgedSymbols;
 use day_verdicts::symbol_reports::{SymbolReport, report_after};
 use day_verdicts::symbol_walk::{SymbolJudge, judge_each};
@@ -80,7 +80,7 @@ impl SymbolJudge<JudgedSymbols> for SessionQuestion<'_> {
 pub fn judge_sessions(
     alloc: Global,
     question: &SessionQuestion<'_>,
-    ended: EndedTrades,
+    ended: DayRecords,
 ) -> Result<JudgedSymbols, NoMemory>
     requires phases { ArePhases question.now.phases.now }
     requires fits_places { DayTradesFitPlaces question.now.share AdmitsAll ended }

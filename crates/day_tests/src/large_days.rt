@@ -146,7 +146,7 @@ const ONE_SYMBOL: &str = "Z,accepted,matching,Z\nZ,totals,1000,250,1250\n";
 /// What the logs have beside the records of Z; the first line of the day and that of its share
 /// 2/2; and the lines that come after those of Z.
 #[derive(Clone, Copy)]
-struct Beside {
+struct BesideRow {
     name: &'static str,
     orders: &'static str,
     trades_before: &'static str,
@@ -156,8 +156,8 @@ struct Beside {
     lines: &'static str,
 }
 
-const BESIDE: [Beside; 5] = [
-    Beside {
+const BESIDE: [BesideRow; 5] = [
+    BesideRow {
         name: "nothing",
         orders: "",
         trades_before: "",
@@ -166,7 +166,7 @@ const BESIDE: [Beside; 5] = [
         second_share: "day,0,0,0,matching\n",
         lines: "",
     },
-    Beside {
+    BesideRow {
         name: "one order",
         orders: "N,A,b1,20240102-09:00:00,Y,B,5,7,\n",
         trades_before: "",
@@ -175,7 +175,7 @@ const BESIDE: [Beside; 5] = [
         second_share: "day,1,1,0,matching\n",
         lines: "Y,accepted,matching,Y\nY,totals,1,0,0\n",
     },
-    Beside {
+    BesideRow {
         name: "a cancel of an order that Z has, and no order of its own",
         orders: "X,A,x1,20240102-09:00:00,Y,,,,b1\n",
         trades_before: "",
@@ -184,7 +184,7 @@ const BESIDE: [Beside; 5] = [
         second_share: "day,1,0,1,matching\n",
         lines: "Y,rejected,unknown-target,orders,1001\n",
     },
-    Beside {
+    BesideRow {
         name: "a trade between orders that Z has, after all others",
         orders: "",
         trades_before: "",
@@ -193,7 +193,7 @@ const BESIDE: [Beside; 5] = [
         second_share: "day,1,0,1,matching\n",
         lines: "Y,rejected,unknown-order,trades,251\nY,unknown,buy,A,b1\n",
     },
-    Beside {
+    BesideRow {
         name: "a trade between orders that Z has, before all others",
         orders: "",
         trades_before: "T1,20240102-09:00:01,Y,A,b1,B,s1,5,7\n",
@@ -206,7 +206,7 @@ const BESIDE: [Beside; 5] = [
 
 /// Fails where the day of Z and of what there is beside it, or a share of the day, has another
 /// text.
-fn check_beside(alloc: Global, row: &Beside) -> Result<(), Fail> {
+fn check_beside(alloc: Global, row: &BesideRow) -> Result<(), Fail> {
     let orders = orders_of_one(alloc, row.orders)?;
     let trades = trades_of_one(alloc, row.trades_before, row.trades_after)?;
     let mut shelf = day_shelf(alloc, &orders, &trades)?;

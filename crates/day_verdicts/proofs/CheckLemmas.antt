@@ -10,7 +10,7 @@ use Rattle.audit_base.specs.declared.records.OrderRecord.{OrderRecord}
 use Rattle.audit_base.specs.declared.records.TradeRecord.{TradeRecord}
 use Rattle.audit_base.specs.Histories.{order_list}
 use Rattle.audit_base.specs.Trades.{deal_of_trade, deals_of_symbol, trades_of_symbol}
-use Rattle.day_records.specs.SymbolRecords.{times_if}
+use Rattle.day_records.specs.KeptRecords.{times_if}
 use Rattle.further_checks.specs.declared.findings.FurtherChecks.{FurtherChecks}
 use Rattle.further_checks.specs.declared.findings.FurtherFinding.{FurtherFinding}
 use Rattle.further_checks.specs.FurtherRules.{asks_further, first_finding_of_symbol, further_findings, further_findings_of_symbol, times_of_symbol}
@@ -21,13 +21,13 @@ use Rattle.record_verdict.specs.declared.before_rule.BeforeRule.TheVariants as b
 use Rattle.record_verdict.specs.declared.questions.Question.{Question}
 use Rattle.record_verdict.specs.declared.scopes.Scope.{Scope}
 use Rattle.record_verdict.specs.BeforeRule.{IsBeforeRule, IsResolvedWithoutFinding}
-use Rattle.record_verdict.specs.declared.verdicts.Judged.{Judged}
-use Rattle.record_verdict.specs.Judged.{as_verdict}
+use Rattle.record_verdict.specs.declared.verdicts.RecordVerdict.{RecordVerdict}
+use Rattle.record_verdict.specs.RecordVerdict.{as_verdict}
 use Rattle.record_verdict.specs.Stages.{IsVerdictAfterStages}
 use Rattle.day_verdicts.specs.CheckedSymbols.{after_checks, after_finding, after_given, HasTimes, told_by_finding}
 use Rattle.day_verdicts.specs.DayVerdicts.{is_acceptance}
 use Rattle.day_verdicts.specs.Laws.{UncheckedSymbols}
-use Rattle.day_verdicts.specs.ToldSymbols.{Told}
+use Rattle.day_verdicts.specs.SymbolAnswers.{SymbolAnswer}
 
 -- what a test that is turned round says
 pub false-of-not : (b : Bool) → not b ≡ true → b ≡ false
@@ -39,20 +39,20 @@ true-of-not true e = refl
 true-of-not false e = cc
 
 -- a rejected symbol stays so
-pub rejected-stays : (found : Option FurtherFinding) (told : Told) → told.accepted ≡ false → after_finding found told ≡ told
+pub rejected-stays : (found : Option FurtherFinding) (told : SymbolAnswer) → told.accepted ≡ false → after_finding found told ≡ told
 rejected-stays None told rejected = refl
 rejected-stays (Some finding) told rejected = rw rejected refl
 
 -- an accepted one is rejected by a finding
-pub accepted-found : (found : Option FurtherFinding) (finding : FurtherFinding) (told : Told) → found ≡ Some finding → told.accepted ≡ true → after_finding found told ≡ told_by_finding finding
+pub accepted-found : (found : Option FurtherFinding) (finding : FurtherFinding) (told : SymbolAnswer) → found ≡ Some finding → told.accepted ≡ true → after_finding found told ≡ told_by_finding finding
 accepted-found found finding told is accepted = rw (is, accepted) refl
 
 -- and stays where there is none
-pub none-found : (found : Option FurtherFinding) (told : Told) → found ≡ None → after_finding found told ≡ told
+pub none-found : (found : Option FurtherFinding) (told : SymbolAnswer) → found ≡ None → after_finding found told ≡ told
 none-found found told is = rw is refl
 
 -- where no check is asked for, nothing is found
-pub unasked-stays : NothingIsFoundUnasked → (checks : FurtherChecks) (orders : List Order) (deals : List Deal) (times : List Moment) (told : Told) → asks_further checks ≡ false
+pub unasked-stays : NothingIsFoundUnasked → (checks : FurtherChecks) (orders : List Order) (deals : List Deal) (times : List Moment) (told : SymbolAnswer) → asks_further checks ≡ false
     → after_finding (slice_get (further_findings checks orders deals times) 0) told ≡ told
 unasked-stays none checks orders deals times told unasked =
     ap (λ (found : List FurtherFinding). after_finding (slice_get found 0) told) (none checks orders deals times unasked)
@@ -91,7 +91,7 @@ same-findings none checks scope entries trades sound times is times_are = by-ask
 
 -- what is told after the checks of what is given is what is told after those of its records, where a
 -- finding before the rule rejects
-pub told-after : NothingIsFoundUnasked → (checks : FurtherChecks) (scope : Scope) (entries : List OrderRecord) (trades : List TradeRecord) (given : BeforeRule) (times : List Moment) (told : Told)
+pub told-after : NothingIsFoundUnasked → (checks : FurtherChecks) (scope : Scope) (entries : List OrderRecord) (trades : List TradeRecord) (given : BeforeRule) (times : List Moment) (told : SymbolAnswer)
     → IsBeforeRule scope entries (Ok trades) given → times ≡ times_if (asks_further checks) (trades_of_symbol scope.symbol trades) → ((finding : Finding) → given ≡ before_rule.Found finding → told.accepted ≡ false)
     → after_given checks given times told ≡ after_checks checks entries trades scope.symbol told
 told-after none checks scope entries trades (before_rule.Found finding) times told is times_are rejects =
@@ -100,8 +100,8 @@ told-after none checks scope entries trades (before_rule.Sound sound) times told
     ap (λ (found : List FurtherFinding). after_finding (slice_get found 0) told) (same-findings none checks scope entries trades sound times is times_are)
 
 -- a verdict after a finding before the rule rejects
-pub verdict-rejects : (q : Question) (given : BeforeRule) (v : Judged) → IsVerdictAfterStages q given v → (finding : Finding) → given ≡ before_rule.Found finding → is_acceptance (as_verdict v) ≡ false
-verdict-rejects q given v stages finding found = ap (λ (j : Judged). is_acceptance (as_verdict j)) (stages.of_finding finding found)
+pub verdict-rejects : (q : Question) (given : BeforeRule) (v : RecordVerdict) → IsVerdictAfterStages q given v → (finding : Finding) → given ≡ before_rule.Found finding → is_acceptance (as_verdict v) ≡ false
+verdict-rejects q given v stages finding found = ap (λ (j : RecordVerdict). is_acceptance (as_verdict j)) (stages.of_finding finding found)
 
 -- where no check is asked for, what is told stays
 pub unchecked : NothingIsFoundUnasked → UncheckedSymbols

@@ -7,7 +7,7 @@ use Rattle.record_verdict.specs.RecordVerdicts.{question}
 use Rattle.record_verdict.specs.Laws.{RecordVerdictIsOne}
 use Rattle.day_symbols.specs.Kept.{AreForEach}
 use Rattle.day_verdicts.specs.DayVerdicts.{told_of_symbols}
-use Rattle.day_verdicts.specs.ToldSymbols.{counts_of, day_lines_of}
+use Rattle.day_verdicts.specs.SymbolAnswers.{counts_of, day_lines_of}
 use Rattle.day_verdicts.specs.Laws.{OneDay, VerdictsAreOne}
 
 -- two lists with the same members are one

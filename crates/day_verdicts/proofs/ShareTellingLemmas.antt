@@ -17,7 +17,7 @@ use Rattle.day_symbols.proofs.PlaceLemmas.{index-at, place-at, place-is}
 use Rattle.day_verdicts.specs.DayVerdicts.{told_of_symbol, told_of_symbols}
 use Rattle.day_verdicts.specs.Laws.{IsJudgedShareOf, SharesOfRuleAreTheDay}
 use Rattle.day_verdicts.specs.ShareTelling.{IsToldInOneShare, SharesTellTheDay, nothing_told, told_in}
-use Rattle.day_verdicts.specs.ToldSymbols.{Told, TellsSymbols, tell_each}
+use Rattle.day_verdicts.specs.SymbolAnswers.{SymbolAnswer, TellsSymbols, tell_each}
 use Rattle.day_verdicts.specs.declared.judging.JudgedSymbols.{JudgedSymbols}
 use Rattle.day_verdicts.proofs.OneDayLemmas.{same-members}
 use Rattle.further_checks.specs.declared.findings.FurtherChecks.{FurtherChecks}
@@ -56,7 +56,7 @@ there xs other share index is within =
     ∙ sym (slice_get-get_or xs index other within)
 
 -- each symbol is told in one share
-in-one : SharesAreTheDay → (symbols : List (List ℕ)) (told : List Told) → length told ≡ length symbols → (count index : ℕ) → 1 ≤ count → index < length symbols → IsToldInOneShare count index symbols told
+in-one : SharesAreTheDay → (symbols : List (List ℕ)) (told : List SymbolAnswer) → length told ≡ length symbols → (count index : ℕ) → 1 ≤ count → index < length symbols → IsToldInOneShare count index symbols told
 in-one shares symbols told long count index some within =
     let found = shares count index some in
     let inside : index < length told = omega (arith, within, long) in
@@ -67,7 +67,7 @@ in-one shares symbols told long count index some within =
       told_there = there told nothing_told (record { number = found.0; count = count }) index found.1.has inside;
     }
 
-module _ {S : Type 0} (P : List ℕ → S → Type 0) (tell : List ℕ → S → Told) (one : (symbol : List ℕ) (x y : S) → P symbol x → P symbol y → tell symbol x ≡ tell symbol y) where
+module _ {S : Type 0} (P : List ℕ → S → Type 0) (tell : List ℕ → S → SymbolAnswer) (one : (symbol : List ℕ) (x y : S) → P symbol x → P symbol y → tell symbol x ≡ tell symbol y) where
   rest : (symbol : List ℕ) (symbols : List (List ℕ)) (x : S) (xs : List S) → AreForEach P (symbol ∷ symbols) (x ∷ xs) → AreForEach P symbols xs
   rest symbol symbols x xs are = record {
     same_length = omega (arith, are.same_length);
@@ -112,14 +112,14 @@ module _ {S : Type 0} (P : List ℕ → S → Type 0) (tell : List ℕ → S →
       → SharesTellTheDay means symbols whole
   shares-tell shares means symbols whole xs are-whole tells said =
       let are : AreForEach P symbols xs = subst (λ (s : List (List ℕ)). AreForEach P s xs) (whole-symbols symbols) are-whole in
-      let told : List Told = tell_each tell symbols xs in
+      let told : List SymbolAnswer = tell_each tell symbols xs in
       record {
         told = told;
         one_for_each = length-told symbols xs are;
         whole_tells = subst (λ (s : List (List ℕ)). TellsSymbols s (tell_each tell s xs) whole) (whole-symbols symbols) tells;
         shares_tell = λ share judged means-it.
             let has = said share judged means-it in
-            subst (λ (t : List Told). TellsSymbols (symbols_in share symbols) t judged) (told-in-share symbols xs are share has.0 has.1) has.2;
+            subst (λ (t : List SymbolAnswer). TellsSymbols (symbols_in share symbols) t judged) (told-in-share symbols xs are share has.0 has.1) has.2;
         in_one_share = in-one shares symbols told (length-told symbols xs are);
       }
 

@@ -10,12 +10,12 @@ use Rattle.audit_base.specs.declared.terms.Rule.{Rule}
 use Rattle.audit_report.specs.declared.verdicts.Verdict.{Verdict}
 use Rattle.day_symbols.specs.Kept.{AreForEach}
 use Rattle.day_symbols.proofs.PlaceLemmas.{got-left, got-last}
-use Rattle.day_records.specs.SymbolTrades.{scope_by}
+use Rattle.day_records.specs.SymbolDuringTrades.{scope_by}
 use Rattle.day_verdicts.specs.declared.judging.JudgedSymbols.{JudgedSymbols}
 use Rattle.day_verdicts.specs.declared.symbol_reports.SymbolReport.{SymbolReport}
 use Rattle.day_verdicts.specs.DayVerdicts.{IsJudgedDay, TellsVerdict, told_by_verdict, told_of_symbol}
 use Rattle.day_verdicts.specs.SymbolWalks.{IsGivenOf}
-use Rattle.day_verdicts.specs.ToldSymbols.{AddsTold, told_by}
+use Rattle.day_verdicts.specs.SymbolAnswers.{AddsTold, told_by}
 use Rattle.day_verdicts.specs.VerdictLists.{HasTakenVerdicts, TakesVerdict}
 use Rattle.day_verdicts.proofs.CheckLemmas.{told-after, verdict-rejects}
 use Rattle.day_verdicts.proofs.TellLemmas.{tells-more}
@@ -23,8 +23,8 @@ use Rattle.further_checks.specs.declared.findings.FurtherChecks.{FurtherChecks}
 use Rattle.further_checks.specs.FurtherRules.{asks_further}
 use Rattle.further_checks.specs.Laws.{NothingIsFoundUnasked}
 use Rattle.record_verdict.specs.declared.before_rule.BeforeRule.{BeforeRule}
-use Rattle.record_verdict.specs.declared.verdicts.Judged.{Judged}
-use Rattle.record_verdict.specs.Judged.{as_verdict}
+use Rattle.record_verdict.specs.declared.verdicts.RecordVerdict.{RecordVerdict}
+use Rattle.record_verdict.specs.RecordVerdict.{as_verdict}
 use Rattle.record_verdict.specs.RecordVerdicts.{IsRecordVerdict, question}
 use Rattle.record_verdict.specs.Scopes.{admission_of}
 use Rattle.record_verdict.specs.Stages.{IsVerdictAfterStages}
@@ -63,7 +63,7 @@ module _ (rule : Rule) (entries : List OrderRecord) (trades : List TradeRecord) 
       }
 
   -- a list with one verdict more
-  pub handed-more : {L : Type 0} (has_taken : L → List (List ℕ) → List Verdict → Type 0) (asked : Bool) (one : Judged) (old new : L) → IsGivenOf (admission_of rule) asked symbol given times entries trades → IsVerdictAfterStages (question rule symbol false) given one
+  pub handed-more : {L : Type 0} (has_taken : L → List (List ℕ) → List Verdict → Type 0) (asked : Bool) (one : RecordVerdict) (old new : L) → IsGivenOf (admission_of rule) asked symbol given times entries trades → IsVerdictAfterStages (question rule symbol false) given one
       → TakesVerdict (has_taken old) (has_taken new) symbol (as_verdict one) → HasTakenVerdicts has_taken rule entries trades symbols old → HasTakenVerdicts has_taken rule entries trades (symbols ++ symbol ∷ []) new
   handed-more has_taken asked one old new is stages takes before = record {
     verdicts = before.verdicts ++ as_verdict one ∷ [];

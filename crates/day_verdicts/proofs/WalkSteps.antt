@@ -8,13 +8,13 @@ use Rattle.audit_base.specs.declared.records.OrderRecord.{OrderRecord}
 use Rattle.audit_base.specs.declared.records.TradeRecord.{TradeRecord}
 use Rattle.day_symbols.specs.Shares.{DayShare, symbols_in}
 use Rattle.day_symbols.specs.Symbols.{symbols_of_day}
-use Rattle.day_records.specs.declared.day_trades.EndedTrades.{EndedTrades}
-use Rattle.day_records.specs.declared.symbol_records.SymbolRecords.{SymbolRecords}
-use Rattle.day_records.specs.declared.symbol_trades.SymbolTrades.{SymbolTrades}
+use Rattle.day_records.specs.declared.day_trades.DayRecords.{DayRecords}
+use Rattle.day_records.specs.declared.kept_records.KeptRecords.{KeptRecords}
+use Rattle.day_records.specs.declared.symbol_during_trades.SymbolDuringTrades.{SymbolDuringTrades}
 use Rattle.day_records.specs.DayTrades.{HasTradesOf}
 use Rattle.day_records.specs.KeptTrades.{KeptDeals}
-use Rattle.day_records.specs.SymbolRecords.{GivesSymbolTrades, HasFewSymbolRecords, HasSymbolRecords, times_if}
-use Rattle.day_records.specs.SymbolTrades.{GivesBeforeRule, HasFewOfSymbol, IsSymbolTrades}
+use Rattle.day_records.specs.KeptRecords.{GivesSymbolDuringTrades, HasFewKeptRecords, HasKeptRecords, times_if}
+use Rattle.day_records.specs.SymbolDuringTrades.{GivesBeforeRule, HasFewOfSymbol, IsSymbolDuringTrades}
 use Rattle.day_verdicts.specs.SymbolWalks.{HasJudgedShare, HasJudgedUpTo, IsGivenOf, IsNext, JudgesNext, TradesFitPlaces}
 use Rattle.record_verdict.specs.declared.before_rule.BeforeRule.{BeforeRule}
 use Rattle.record_verdict.specs.declared.scopes.Admission.{Admission}
@@ -25,32 +25,32 @@ behind-at [] x rest = refl
 behind-at (y ∷ ys) x rest = behind-at ys x rest
 
 -- the next symbol: its place, its records, and those behind them
-pub record IsAt (share : DayShare) (ended : EndedTrades) (n : ℕ) (own : SymbolRecords) (symbol : List ℕ) (before rest : List SymbolRecords) : Type 0 where
+pub record IsAt (share : DayShare) (ended : DayRecords) (n : ℕ) (own : KeptRecords) (symbol : List ℕ) (before rest : List KeptRecords) : Type 0 where
   pub parts : before ++ own ∷ rest ≡ ended.kept.items
   pub at : n ≡ length before
   pub symbol_there : slice_get (symbols_in share ended.symbols) n ≡ Some symbol
 
-pub next-at : {R : Type 0} {n : ℕ} {own : SymbolRecords} {symbol : R} {before left rest : List SymbolRecords} {found : Option R} (name : R → List ℕ) (share : DayShare) (ended : EndedTrades) → before ++ left ≡ ended.kept.items → left ≡ own ∷ rest → n ≡ length before
+pub next-at : {R : Type 0} {n : ℕ} {own : KeptRecords} {symbol : R} {before left rest : List KeptRecords} {found : Option R} (name : R → List ℕ) (share : DayShare) (ended : DayRecords) → before ++ left ≡ ended.kept.items → left ≡ own ∷ rest → n ≡ length before
     → option_map name found ≡ slice_get (symbols_in share ended.symbols) n → found ≡ Some symbol → IsAt share ended n own (name symbol) before rest
 next-at {before = before} name share ended parts next at got is = record {
-  parts = ap (λ (xs : List SymbolRecords). before ++ xs) (sym next) ∙ parts;
+  parts = ap (λ (xs : List KeptRecords). before ++ xs) (sym next) ∙ parts;
   at = at;
   symbol_there = sym got ∙ ap (option_map name) is;
 }
 
 -- its records lie at its place
-records-there : {share : DayShare} {ended : EndedTrades} {n : ℕ} {own : SymbolRecords} {symbol : List ℕ} {before rest : List SymbolRecords} → IsAt share ended n own symbol before rest → slice_get ended.kept.items n ≡ Some own
-records-there {ended = ended} {own = own} {before = before} {rest = rest} next = ap (slice_get ended.kept.items) next.at ∙ ap (λ (xs : List SymbolRecords). slice_get xs (length before)) (sym next.parts) ∙ behind-at before own rest
+records-there : {share : DayShare} {ended : DayRecords} {n : ℕ} {own : KeptRecords} {symbol : List ℕ} {before rest : List KeptRecords} → IsAt share ended n own symbol before rest → slice_get ended.kept.items n ≡ Some own
+records-there {ended = ended} {own = own} {before = before} {rest = rest} next = ap (slice_get ended.kept.items) next.at ∙ ap (λ (xs : List KeptRecords). slice_get xs (length before)) (sym next.parts) ∙ behind-at before own rest
 
-module _ {share : DayShare} {admission : Admission} {ended : EndedTrades} {n : ℕ} {own : SymbolRecords} {symbol : List ℕ} {before rest : List SymbolRecords} (next : IsAt share ended n own symbol before rest) where
+module _ {share : DayShare} {admission : Admission} {ended : DayRecords} {n : ℕ} {own : KeptRecords} {symbol : List ℕ} {before rest : List KeptRecords} (next : IsAt share ended n own symbol before rest) where
   symbol-there : (entries : List OrderRecord) (trades : List TradeRecord) → HasTradesOf share admission entries ended trades → slice_get (symbols_in share (symbols_of_day entries trades)) n ≡ Some symbol
   symbol-there entries trades has = ap (λ (s : List (List ℕ)). slice_get (symbols_in share s) n) (sym has.symbols_are) ∙ next.symbol_there
 
   -- they are the records of the symbol
-  own-records : (entries : List OrderRecord) (trades : List TradeRecord) → HasTradesOf share admission entries ended trades → HasSymbolRecords entries trades symbol own
+  own-records : (entries : List OrderRecord) (trades : List TradeRecord) → HasTradesOf share admission entries ended trades → HasKeptRecords entries trades symbol own
   own-records entries trades has = has.records_are.each n symbol own (symbol-there entries trades has) (records-there next)
 
-  pub few-records : TradesFitPlaces share admission ended → HasFewSymbolRecords own
+  pub few-records : TradesFitPlaces share admission ended → HasFewKeptRecords own
   few-records few = record {
     symbol = symbol;
     entries = few.entries;
@@ -60,11 +60,11 @@ module _ {share : DayShare} {admission : Admission} {ended : EndedTrades} {n : �
   }
 
   -- what they give
-  own-trades : (symbol_trades : SymbolTrades) → GivesSymbolTrades ended.admission own symbol_trades → (entries : List OrderRecord) (trades : List TradeRecord) → HasTradesOf share admission entries ended trades → IsSymbolTrades admission entries trades symbol symbol_trades
+  own-trades : (symbol_trades : SymbolDuringTrades) → GivesSymbolDuringTrades ended.admission own symbol_trades → (entries : List OrderRecord) (trades : List TradeRecord) → HasTradesOf share admission entries ended trades → IsSymbolDuringTrades admission entries trades symbol symbol_trades
   own-trades symbol_trades gives entries trades has =
-      subst (λ (a : Admission). IsSymbolTrades a entries trades symbol symbol_trades) has.admits (gives entries trades symbol (own-records entries trades has))
+      subst (λ (a : Admission). IsSymbolDuringTrades a entries trades symbol symbol_trades) has.admits (gives entries trades symbol (own-records entries trades has))
 
-  pub few-of-symbol : (symbol_trades : SymbolTrades) → GivesSymbolTrades ended.admission own symbol_trades → TradesFitPlaces share admission ended → HasFewOfSymbol ended.count symbol_trades
+  pub few-of-symbol : (symbol_trades : SymbolDuringTrades) → GivesSymbolDuringTrades ended.admission own symbol_trades → TradesFitPlaces share admission ended → HasFewOfSymbol ended.count symbol_trades
   few-of-symbol symbol_trades gives few = record {
     admission = admission;
     entries = few.entries;
@@ -75,7 +75,7 @@ module _ {share : DayShare} {admission : Admission} {ended : EndedTrades} {n : �
     fits_places = few.fits_places;
   }
 
-  module _ (asked : Bool) (symbol_trades : SymbolTrades) (given : BeforeRule) (times : List Moment) (gives : GivesSymbolTrades ended.admission own symbol_trades) (ends : GivesBeforeRule ended.count symbol_trades given) (times_are : times ≡ times_if asked own.trades.trades) where
+  module _ (asked : Bool) (symbol_trades : SymbolDuringTrades) (given : BeforeRule) (times : List Moment) (gives : GivesSymbolDuringTrades ended.admission own symbol_trades) (ends : GivesBeforeRule ended.count symbol_trades given) (times_are : times ≡ times_if asked own.trades.trades) where
     given-of : (entries : List OrderRecord) (trades : List TradeRecord) → HasTradesOf share admission entries ended trades → IsGivenOf admission asked symbol given times entries trades
     given-of entries trades has = record {
       before = ends admission entries trades symbol (own-trades symbol_trades gives entries trades has) has.count;
@@ -117,7 +117,7 @@ module _ {share : DayShare} {admission : Admission} {ended : EndedTrades} {n : �
       )
 
 -- all symbols were judged
-pub walked-all : {K : Type 0} (admission : Admission) (has_judged : K → List OrderRecord → List TradeRecord → List (List ℕ) → Type 0) (share : DayShare) (ended : EndedTrades) (n : ℕ) (before rest : List SymbolRecords) (kept : K)
+pub walked-all : {K : Type 0} (admission : Admission) (has_judged : K → List OrderRecord → List TradeRecord → List (List ℕ) → Type 0) (share : DayShare) (ended : DayRecords) (n : ℕ) (before rest : List KeptRecords) (kept : K)
     → before ++ rest ≡ ended.kept.items → length rest ≡ 0 → n ≡ length before → HasJudgedUpTo admission has_judged share ended n kept → HasJudgedShare admission has_judged share ended kept
 walked-all admission has_judged share ended n before rest kept all none at is = λ entries trades has.
     let symbols : List (List ℕ) = symbols_in share (symbols_of_day entries trades) in

@@ -11,18 +11,18 @@ use Rattle.audit_report.specs.declared.day_line.DayCounts.{DayCounts}
 use Rattle.day_symbols.specs.Kept.{AreForEach}
 use Rattle.day_symbols.specs.Shares.{DayShare, symbols_in}
 use Rattle.day_symbols.specs.Symbols.{symbols_of_day}
-use Rattle.day_records.specs.declared.day_trades.EndedTrades.{EndedTrades}
+use Rattle.day_records.specs.declared.day_trades.DayRecords.{DayRecords}
 use Rattle.day_records.specs.DayTrades.{HasTradesOf}
 use Rattle.day_verdicts.specs.declared.judging.JudgedSymbols.{JudgedSymbols}
 use Rattle.day_verdicts.specs.declared.symbol_reports.SymbolReport.{SymbolReport}
 use Rattle.day_verdicts.specs.CheckedSymbols.{after_checks, after_given}
 use Rattle.day_verdicts.specs.SymbolWalks.{TradesFitPlaces}
-use Rattle.day_verdicts.specs.ToldSymbols.{Told, TellsSymbols, tell_each, told_by}
+use Rattle.day_verdicts.specs.SymbolAnswers.{SymbolAnswer, TellsSymbols, tell_each, told_by}
 use Rattle.further_checks.specs.declared.findings.FurtherChecks.{FurtherChecks}
 use Rattle.record_verdict.specs.declared.before_rule.BeforeRule.{BeforeRule}
 use Rattle.record_verdict.specs.declared.questions.Question.{Question}
-use Rattle.record_verdict.specs.declared.verdicts.Judged.{Judged}
-use Rattle.record_verdict.specs.Judged.{as_verdict}
+use Rattle.record_verdict.specs.declared.verdicts.RecordVerdict.{RecordVerdict}
+use Rattle.record_verdict.specs.RecordVerdict.{as_verdict}
 use Rattle.record_verdict.specs.RecordVerdicts.{IsRecordVerdict, question}
 use Rattle.record_verdict.specs.Scopes.{admission_of}
 use Rattle.record_verdict.specs.Stages.{IsVerdictAfterStages}
@@ -43,19 +43,19 @@ is_acceptance (verdict.Rejected finding) = false
 is_acceptance (verdict.Malformed log bad) = false
 
 -- what a verdict tells
-abbrev pub told_by_verdict : Verdict → Told
+abbrev pub told_by_verdict : Verdict → SymbolAnswer
 told_by_verdict the_verdict =
     record { accepted = is_acceptance the_verdict; text = verdict_text the_verdict }
 
 -- what is told of a symbol by its verdict, and then by the checks that are asked for
 abbrev pub told_of_symbol : FurtherChecks → List OrderRecord → List TradeRecord → List ℕ → Verdict
-    → Told
+    → SymbolAnswer
 told_of_symbol checks entries trades symbol the_verdict =
     after_checks checks entries trades symbol (told_by_verdict the_verdict)
 
 -- what is told of each of these symbols
 abbrev pub told_of_symbols : FurtherChecks → List OrderRecord → List TradeRecord → List (List ℕ)
-    → List Verdict → List Told
+    → List Verdict → List SymbolAnswer
 told_of_symbols checks entries trades symbols verdicts =
     tell_each (told_of_symbol checks entries trades) symbols verdicts
 
@@ -78,13 +78,13 @@ pub record HasRoomForOne (counts : DayCounts) : Type 0 where
 -- This is told of what was given by the verdict on it, and then by the checks.
 pub record TellsVerdict (q : Question) (checks : FurtherChecks) (given : BeforeRule)
     (times : List Moment) (report : SymbolReport) : Type 0 where
-  pub one : Judged
+  pub one : RecordVerdict
   pub is : IsVerdictAfterStages q given one
   pub told_is : told_by report ≡ after_given checks given times (told_by_verdict (as_verdict one))
 
 -- whatever records the day has, these are the counts and lines of the verdicts on the symbols of
 -- the share
-abbrev pub IsJudgedShare : Rule → Bool → FurtherChecks → DayShare → EndedTrades → JudgedSymbols
+abbrev pub IsJudgedShare : Rule → Bool → FurtherChecks → DayShare → DayRecords → JudgedSymbols
     → Type 0
 IsJudgedShare rule table checks share ended judged =
     (entries : List OrderRecord) (trades : List TradeRecord)
@@ -93,5 +93,5 @@ IsJudgedShare rule table checks share ended judged =
     (symbols_in share (symbols_of_day entries trades)) judged
 
 -- the day has some records by which the rule judges it, of trades fewer than there are places
-abbrev pub RuleTradesFitPlaces : Rule → DayShare → EndedTrades → Type 0
+abbrev pub RuleTradesFitPlaces : Rule → DayShare → DayRecords → Type 0
 RuleTradesFitPlaces rule share ended = TradesFitPlaces share (admission_of rule) ended

@@ -10,7 +10,7 @@ use Rattle.day_verdicts.specs.DayVerdicts.{AreVerdicts, IsJudgedDay}
 use Rattle.day_symbols.specs.Shares.{DayShare, symbols_in, whole_day}
 use Rattle.day_symbols.specs.Symbols.{symbols_of_day}
 use Rattle.day_verdicts.specs.ShareTelling.{SharesTellTheDay}
-use Rattle.day_verdicts.specs.ToldSymbols.{Told}
+use Rattle.day_verdicts.specs.SymbolAnswers.{SymbolAnswer}
 use Rattle.further_checks.specs.declared.findings.FurtherChecks.{FurtherChecks}
 use Rattle.further_checks.specs.FurtherRules.{asks_further}
 
@@ -37,7 +37,8 @@ OneDay = (rule : Rule) (table : Bool) (checks : FurtherChecks) (entries : List O
 -- where no check is asked for, what is told of a symbol is what its rule told
 abbrev pub UncheckedSymbols : Type 0
 UncheckedSymbols = (checks : FurtherChecks) (entries : List OrderRecord)
-    (trades : List TradeRecord) (symbol : List ℕ) (told : Told) → asks_further checks ≡ false
+    (trades : List TradeRecord) (symbol : List ℕ) (told : SymbolAnswer)
+    → asks_further checks ≡ false
     → after_checks checks entries trades symbol told ≡ told
 
 -- the counts and lines of the verdicts on the symbols of a share, and of the checks

@@ -1,6 +1,6 @@
 -- What a reader must believe: what is told of each symbol of a day, by its verdict and by the
 -- further checks behind it, and the text of the day.
-pub mod ToldSymbols
+pub mod SymbolAnswers
 pub mod CheckedSymbols
 pub mod SymbolWalks
 pub mod DayVerdicts

@@ -6,10 +6,10 @@ use Rattle.audit_base.specs.declared.records.TradeRecord.{TradeRecord}
 use Rattle.audit_base.specs.Trades.{trades_of_symbol}
 use Rattle.day_symbols.specs.Shares.{DayShare, symbols_in}
 use Rattle.day_symbols.specs.Symbols.{symbols_of_day}
-use Rattle.day_records.specs.declared.day_trades.EndedTrades.{EndedTrades}
+use Rattle.day_records.specs.declared.day_trades.DayRecords.{DayRecords}
 use Rattle.day_records.specs.DayTrades.{HasTradesOf}
-use Rattle.day_records.specs.SymbolRecords.{times_if}
-use Rattle.day_records.specs.SymbolTrades.{scope_by}
+use Rattle.day_records.specs.KeptRecords.{times_if}
+use Rattle.day_records.specs.SymbolDuringTrades.{scope_by}
 use Rattle.record_verdict.specs.declared.before_rule.BeforeRule.{BeforeRule}
 use Rattle.record_verdict.specs.declared.scopes.Admission.{Admission}
 use Rattle.record_verdict.specs.BeforeRule.{IsBeforeRule}
@@ -44,7 +44,7 @@ JudgesNext admission asked has_judged symbol given times old new =
     → has_judged first new entries trades (symbols ++ symbol ∷ [])
 
 -- the day has some records, of trades fewer than there are places
-pub record TradesFitPlaces (share : DayShare) (admission : Admission) (ended : EndedTrades)
+pub record TradesFitPlaces (share : DayShare) (admission : Admission) (ended : DayRecords)
     : Type 0 where
   pub entries : List OrderRecord
   pub trades : List TradeRecord
@@ -53,7 +53,7 @@ pub record TradesFitPlaces (share : DayShare) (admission : Admission) (ended : E
 
 -- whatever records the day has, the symbols of the share were judged over them
 abbrev pub HasJudgedShare : {K : Type 0} → Admission
-    → (K → List OrderRecord → List TradeRecord → List (List ℕ) → Type 0) → DayShare → EndedTrades
+    → (K → List OrderRecord → List TradeRecord → List (List ℕ) → Type 0) → DayShare → DayRecords
     → K → Type 0
 HasJudgedShare admission has_judged share ended kept =
     (entries : List OrderRecord) (trades : List TradeRecord)
@@ -62,7 +62,7 @@ HasJudgedShare admission has_judged share ended kept =
 
 -- the same of this many first symbols of the share
 abbrev pub HasJudgedUpTo : {K : Type 0} → Admission
-    → (K → List OrderRecord → List TradeRecord → List (List ℕ) → Type 0) → DayShare → EndedTrades
+    → (K → List OrderRecord → List TradeRecord → List (List ℕ) → Type 0) → DayShare → DayRecords
     → ℕ → K → Type 0
 HasJudgedUpTo admission has_judged share ended n kept =
     (entries : List OrderRecord) (trades : List TradeRecord)

@@ -7,7 +7,7 @@ use Rattle.audit_report.specs.declared.verdicts.Verdict.{Verdict}
 use Rattle.day_symbols.specs.Shares.{DayShare, symbols_in}
 use Rattle.day_symbols.specs.Symbols.{symbols_of_day}
 use Rattle.day_records.specs.DayTrades.{HasTradesOf}
-use Rattle.day_records.specs.declared.day_trades.EndedTrades.{EndedTrades}
+use Rattle.day_records.specs.declared.day_trades.DayRecords.{DayRecords}
 use Rattle.day_verdicts.specs.DayVerdicts.{AreVerdicts}
 use Rattle.record_verdict.specs.Scopes.{admission_of}
 
@@ -27,7 +27,7 @@ pub record HasTakenVerdicts {L : Type 0} (has_taken : L → List (List ℕ) → 
 
 -- whatever records the day has, the list has been handed the verdicts on the symbols of the share
 abbrev pub HasTakenShare : {L : Type 0} → (L → List (List ℕ) → List Verdict → Type 0) → Rule
-    → DayShare → EndedTrades → L → Type 0
+    → DayShare → DayRecords → L → Type 0
 HasTakenShare has_taken rule share ended handed =
     (entries : List OrderRecord) (trades : List TradeRecord)
     → HasTradesOf share (admission_of rule) entries ended trades

@@ -2,10 +2,10 @@
 ghost use Rattle.std.specs.Prelude.{◌≡◌, ◌++◌, IfOk, OnOk};
 ghost use Rattle.audit_report.specs.DayTexts.{day_line};
 ghost use Rattle.record_verdict.specs.BeforeRule.{IsJudgeable};
-ghost use Rattle.record_verdict.specs.Judged.{as_verdict};
+ghost use Rattle.record_verdict.specs.RecordVerdict.{as_verdict};
 ghost use Rattle.day_verdicts.specs.CheckedSymbols.{HasTimes};
 ghost use Rattle.day_verdicts.specs.DayVerdicts as day;
-ghost use Rattle.day_verdicts.specs.ToldSymbols.{told_by, with_one, AddsTold, IsNothingTold};
+ghost use Rattle.day_verdicts.specs.SymbolAnswers.{told_by, with_one, AddsTold, IsNothingTold};
 
 use crate::symbol_reports::{SymbolReport, report_after};
 use crate::symbol_walk::{SymbolJudge, judge_each};
@@ -16,22 +16,22 @@ use audit_base::terms::Rule;
 use audit_report::day_line::{DayCounts, append_day_line};
 use audit_report::reports::report_text;
 use audit_report::symbol_lines::append_symbol_lines;
-use day_records::day_trades::EndedTrades;
+use day_records::day_trades::DayRecords;
 use day_symbols::shares::DayShare;
 use further_checks::findings::FurtherChecks;
 use further_checks::laws::nothing_is_found_unasked;
 use record_verdict::before_rule::BeforeRule;
 use record_verdict::questions::Question;
-use record_verdict::verdicts::{Judged, verdict_after};
+use record_verdict::verdicts::{RecordVerdict, verdict_after};
 use std::alloc::Global;
 
 /// Whether a verdict is that the records are accepted.
-fn is_acceptance(judged: &Judged) -> bool
+fn is_acceptance(judged: &RecordVerdict) -> bool
     ensures { result ≡ day.is_acceptance (as_verdict judged.now) }
 {
     match judged {
-        Judged::Accepted(_) => true,
-        Judged::Rejected(_) => false,
+        RecordVerdict::Accepted(_) => true,
+        RecordVerdict::Rejected(_) => false,
     }
 }
 
@@ -164,7 +164,7 @@ pub fn judge_day(
     table: bool,
     checks: FurtherChecks,
     share: DayShare,
-    ended: EndedTrades,
+    ended: DayRecords,
 ) -> Result<JudgedSymbols, NoMemory>
     requires { day.RuleTradesFitPlaces rule share ended }
     ensures { IfOk result (day.IsJudgedShare rule table checks share ended) }

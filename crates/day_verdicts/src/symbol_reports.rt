@@ -5,7 +5,7 @@ ghost use Rattle.audit_base.specs.Deals.{IsDealList};
 ghost use Rattle.further_checks.specs.FurtherRules.{asks_further, further_findings};
 ghost use Rattle.record_verdict.specs.BeforeRule.{IsJudgeable};
 ghost use Rattle.day_verdicts.specs.CheckedSymbols.{after_finding, after_given, told_by_finding, HasTimes};
-ghost use Rattle.day_verdicts.specs.ToldSymbols.{told_by};
+ghost use Rattle.day_verdicts.specs.SymbolAnswers.{told_by};
 
 use audit_base::faults::NoMemory;
 use audit_base::orders::Deal;

@@ -11,7 +11,7 @@ ghost use Rattle.record_verdict.specs.BeforeRule.{IsJudgeable};
 use audit_base::faults::NoMemory;
 use audit_base::names::Name;
 use audit_base::stamps::Stamp;
-use day_records::day_trades::EndedTrades;
+use day_records::day_trades::DayRecords;
 use day_symbols::shares::DayShare;
 use record_verdict::before_rule::BeforeRule;
 use std::alloc::Global;
@@ -60,7 +60,7 @@ pub fn judge_each<K: Drop, J: SymbolJudge<K>>(
     alloc: Global,
     judge: &J,
     share: DayShare,
-    ended: EndedTrades,
+    ended: DayRecords,
     first: K,
 ) -> Result<K, NoMemory>
     requires few { TradesFitPlaces share (J.admission judge.now) ended }
@@ -69,7 +69,7 @@ pub fn judge_each<K: Drop, J: SymbolJudge<K>>(
     ensures { let has_judged = J.has_judged judge.now first in
         IfOk result (HasJudgedShare (J.admission judge.now) has_judged share ended) }
 {
-    let EndedTrades {
+    let DayRecords {
         symbols,
         kept,
         count,

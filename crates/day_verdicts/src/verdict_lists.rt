@@ -1,9 +1,9 @@
 //! The verdict on each symbol of a share, handed on one after another.
 ghost use Rattle.std.specs.Prelude.{[], ℕ, false, List, IfOk, OnOk};
-ghost use Rattle.audit_report.specs.declared.verdicts.Verdict.{Verdict as AVerdict};
+ghost use Rattle.audit_report.specs.declared.verdicts.Verdict.{Verdict as VerdictSpec};
 ghost use Rattle.day_verdicts.specs.DayVerdicts.{RuleTradesFitPlaces};
 ghost use Rattle.day_verdicts.specs.VerdictLists.{HasTakenShare, HasTakenVerdicts, TakesVerdict};
-ghost use Rattle.record_verdict.specs.Judged.{as_verdict};
+ghost use Rattle.record_verdict.specs.RecordVerdict.{as_verdict};
 ghost use Rattle.record_verdict.specs.Scopes.{admission_of};
 
 use crate::symbol_walk::{SymbolJudge, judge_each};
@@ -11,11 +11,11 @@ use audit_base::faults::NoMemory;
 use audit_base::names::Name;
 use audit_base::stamps::Stamp;
 use audit_base::terms::Rule;
-use day_records::day_trades::EndedTrades;
+use day_records::day_trades::DayRecords;
 use day_symbols::shares::DayShare;
 use record_verdict::before_rule::BeforeRule;
 use record_verdict::questions::Question;
-use record_verdict::verdicts::{Judged, verdict_after};
+use record_verdict::verdicts::{RecordVerdict, verdict_after};
 use std::alloc::Global;
 
 /// What is handed the verdicts on symbols in their order, one by one, and keeps what it needs of
@@ -23,11 +23,11 @@ use std::alloc::Global;
 /// what it was at first.
 pub trait VerdictList: Drop {
     // Since it was the first of these, it has been handed exactly these verdicts, on these symbols.
-    ghost has_taken: { Self → Self → List (List ℕ) → List AVerdict → Type 0 };
+    ghost has_taken: { Self → Self → List (List ℕ) → List VerdictSpec → Type 0 };
 
     /// Hands on the verdict on the next symbol. A list that has answered `NoMemory` is given up:
     /// nothing is known of it afterwards.
-    fn take(&mut self, symbol: &Name, judged: &Judged) -> Result<(), NoMemory>
+    fn take(&mut self, symbol: &Name, judged: &RecordVerdict) -> Result<(), NoMemory>
         ensures { OnOk result ((first : Self) → TakesVerdict (has_taken first self.old)
             (has_taken first self.new) symbol.now (as_verdict judged.now)) };
 }
@@ -70,7 +70,7 @@ pub fn hand_verdicts<L: VerdictList>(
     alloc: Global,
     rule: Rule,
     share: DayShare,
-    ended: EndedTrades,
+    ended: DayRecords,
     list: L,
 ) -> Result<L, NoMemory>
     requires few { RuleTradesFitPlaces rule share ended }

@@ -4,14 +4,14 @@ ghost use Rattle.std.specs.Prelude.{◌≡◌, false};
 ghost use Rattle.audit_base.specs.declared.terms.Which.{Which};
 
 use audit_base::faults::NoMemory;
-use desk_filing::memory_opener::MemoryDigestOpener;
+use desk_filing::map_digest_opener::MapDigestOpener;
 use desk_filing::running::run_filing;
 use desk_page::running::run_page;
 use desk_program::pictures::RulePictures;
 use desk_run::running::run_desk;
 use desk_words::commands::{asks_filing, asks_page};
 use digest_keeper::digested::KeptCase;
-use digest_keeper::memory_keeper::MemoryDigestKeeper;
+use digest_keeper::map_digest_keeper::MapDigestKeeper;
 use log_source::memory_sink::MemorySink;
 use log_source::shelf::Shelf;
 use std::alloc::Global;
@@ -21,10 +21,10 @@ const ROOM: usize = 65_536;
 
 /// What a call came to: the number of its status, what it wrote, and the database that it opened.
 #[derive(Drop)]
-pub(crate) struct Came {
+pub(crate) struct CallEnd {
     pub(crate) status: u8,
     pub(crate) out: MemorySink,
-    pub(crate) book: Option<MemoryDigestKeeper>,
+    pub(crate) book: Option<MapDigestKeeper>,
 }
 
 /// Makes the call that the first word is for, over a shelf and a database with this case, or none.
@@ -33,19 +33,19 @@ pub(crate) fn make_call<F: Shelf + Drop>(
     words: &[String],
     shelf: F,
     kept: &Option<KeptCase>,
-) -> Result<Came, NoMemory>
+) -> Result<CallEnd, NoMemory>
     requires fresh { (which : Which) → (F.slot shelf which).started ≡ false }
 {
     let mut out = MemorySink::new(alloc, ROOM, ROOM, Vec::new(alloc))?;
     if asks_filing(words) {
-        let mut opener = MemoryDigestOpener::new(alloc, *kept, Vec::new(alloc), Vec::new(alloc));
+        let mut opener = MapDigestOpener::new(alloc, *kept, Vec::new(alloc), Vec::new(alloc));
         let ran = run_filing(alloc, words, shelf, &mut out, &mut opener);
         let (status, book) = (ran.status.number(), ran.back.keeper);
-        return Ok(Came { status, out, book });
+        return Ok(CallEnd { status, out, book });
     }
     let status = call_without_database(alloc, words, shelf, &mut out);
     let book = None;
-    Ok(Came { status, out, book })
+    Ok(CallEnd { status, out, book })
 }
 
 /// Makes the call of a page, or that of the other words.

@@ -1,7 +1,7 @@
 //! The run of an example: each of its lines, over its files and over their bytes in pieces.
 ghost use Rattle.std.specs.Prelude.{◌≤◌};
 
-use crate::calls::{Came, make_call};
+use crate::calls::{CallEnd, make_call};
 use crate::difference::Difference;
 use crate::example::{Example, read_example, shelf_of};
 use audit_base::faults::NoMemory;
@@ -57,7 +57,7 @@ fn compare(
     alloc: Global,
     example: &Example,
     line: &str,
-    came: &Came,
+    came: &CallEnd,
 ) -> io::Result<Option<Difference>> {
     let status = came.status.to_string(alloc)?;
     if status.as_str() != example.status.as_str() {

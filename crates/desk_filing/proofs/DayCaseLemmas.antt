@@ -11,7 +11,7 @@ use Rattle.audit_base.specs.declared.terms.Rule.{Rule}
 use Rattle.audit_report.specs.declared.verdicts.Verdict.{Verdict}
 use Rattle.day_symbols.specs.Shares.{symbols_in, whole_day}
 use Rattle.day_symbols.specs.Symbols.{symbols_of_day}
-use Rattle.day_records.specs.declared.day_trades.EndedTrades.{EndedTrades}
+use Rattle.day_records.specs.declared.day_trades.DayRecords.{DayRecords}
 use Rattle.day_verdicts.specs.VerdictLists.{HasTakenShare, TakesVerdict}
 use Rattle.log_digests.specs.declared.digests.LogDigests.{LogDigests}
 use Rattle.digest_keeper.specs.declared.digested.DigestedCase.{DigestedCase}
@@ -157,7 +157,7 @@ day_begins label the_rule digests day is = record {
 }
 
 -- what the cases of all symbols come to is what the day comes to
-pub day_judges : (label : List ℕ) (the_rule : Rule) (digests : LogDigests) (ended : EndedTrades) (first day : DayCases) → IsDayOf label the_rule digests first [] [] → HasTakenShare (HasDayTaken first) the_rule whole_day ended day
+pub day_judges : (label : List ℕ) (the_rule : Rule) (digests : LogDigests) (ended : DayRecords) (first day : DayCases) → IsDayOf label the_rule digests first [] [] → HasTakenShare (HasDayTaken first) the_rule whole_day ended day
     → (made : FilingOutcome) → IsJudgedAs day made → JudgesDay label the_rule digests ended made
 day_judges label the_rule digests ended first day begun taken made is = λ entries trades has.
     let after = taken entries trades has in

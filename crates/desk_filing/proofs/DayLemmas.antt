@@ -19,7 +19,7 @@ use Rattle.day_logs.specs.declared.before_rule.DayBeforeRule.{DayBeforeRule}
 use Rattle.day_logs.specs.declared.before_rule.DayBeforeRule.TheVariants as before_rule
 use Rattle.day_symbols.specs.Shares.{whole_day}
 use Rattle.day_records.specs.DayTrades.{HasTradesOf}
-use Rattle.day_records.specs.declared.day_trades.EndedTrades.{EndedTrades}
+use Rattle.day_records.specs.declared.day_trades.DayRecords.{DayRecords}
 use Rattle.desk_words.specs.declared.requests.NamedLogs.{NamedLogs}
 use Rattle.log_digests.specs.declared.digests.LogDigests.{LogDigests}
 use Rattle.digest_keeper.specs.declared.digested.KeptCase.{KeptCase}
@@ -79,7 +79,7 @@ module _ (r : Reading) (request : FilingRequest) (orders trades : Source) (names
   digested : (given : DayBeforeRule) (reads : ReadsRecords r request.logs (On given)) (digests : LogDigests) → AreDigestsOfGiven r digests → ReadsDigestedLogs r request.logs (logs_of_records r request.logs (On given) reads digests)
   digested given reads digests are = reads_of_records r request.logs (On given) reads digests are
 
-  module _ (ended : EndedTrades) (reads : ReadsRecords r request.logs (On (before_rule.Read ended))) (digests : LogDigests) (are : AreDigestsOfGiven r digests) where
+  module _ (ended : DayRecords) (reads : ReadsRecords r request.logs (On (before_rule.Read ended))) (digests : LogDigests) (are : AreDigestsOfGiven r digests) where
     -- the cases of the records that the day has
     by_records : (given : FilingOutcome) → JudgesDay request.label the_rule digests ended given → (records : List TradeRecord) → reads.paired ≡ Ok records → HasTradesOf whole_day (admission_of the_rule) reads.entries ended records → ReadsJudged r request given
     by_records (judged.Cases cases) judges records same has =
@@ -123,7 +123,7 @@ module _ (r : Reading) (request : FilingRequest) (orders trades : Source) (names
     by_paired given judges (Err finding) same has = absurd has
 
   -- the verdicts on its symbols
-  judges_read : (ended : EndedTrades) (digests : LogDigests) → AreDigestsOfGiven r digests → (given : FilingOutcome) → JudgesDay request.label the_rule digests ended given
+  judges_read : (ended : DayRecords) (digests : LogDigests) → AreDigestsOfGiven r digests → (given : FilingOutcome) → JudgesDay request.label the_rule digests ended given
       → AreRead (before_rule.Read ended) → ReadsJudged r request given
   judges_read ended digests are given judges reads = ⊎_elim
       (λ records. by_paired ended records digests are given judges records.paired refl records.holds)

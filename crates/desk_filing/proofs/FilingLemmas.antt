@@ -17,8 +17,8 @@ use Rattle.desk_filing.specs.Runs.{AnswersOfPass, NeedsDatabase, filing_call, mi
 use Rattle.desk_filing.specs.Steps.{ChecksOrStops, ChecksPass, DecidesRequest, FilesOrStops, ReadsCases, ReadsRefusal, StopsReading}
 use Rattle.desk_filing.specs.Turns.{IsTurnOfLogs, filed_turn, filed_turn_by, first_known}
 use Rattle.case_run.specs.declared.answers.CaseAnswer.{CaseAnswer}
-use Rattle.desk_filing.specs.declared.opener.Missing.{Missing}
-use Rattle.desk_filing.specs.declared.opener.Missing.TheVariants.{Make, Refuse}
+use Rattle.desk_filing.specs.declared.opener.MissingDatabase.{MissingDatabase}
+use Rattle.desk_filing.specs.declared.opener.MissingDatabase.TheVariants.{Make, Refuse}
 use Rattle.desk_filing.specs.declared.requests.FilingCommand.{FilingCommand}
 use Rattle.desk_filing.specs.declared.requests.FilingCommand.TheVariants as command
 use Rattle.desk_filing.specs.declared.requests.FilingRequest.{FilingRequest}
@@ -60,7 +60,7 @@ module _ (r : Reading) (old new : DigestOpenerState) (request : FilingRequest) w
           reads = reads.turn.reads;
           is = record {
             opened = before;
-            is_opened = subst (λ (m : Missing). IsDatabaseOpened old request.database m before) (sym made) is_opened;
+            is_opened = subst (λ (m : MissingDatabase). IsDatabaseOpened old request.database m before) (sym made) is_opened;
             turn = λ kept has.
                 let as_filed = files.known kept has in
                 record {
@@ -80,7 +80,7 @@ module _ (r : Reading) (old new : DigestOpenerState) (request : FilingRequest) w
     read = one_pass request.command (λ pass. ReadsLogsUpTo pass request.logs why) r request.logs (keeper_read r request.logs why files.of_keeper reads.read);
     by = record {
       opened = before;
-      is_opened = subst (λ (m : Missing). IsDatabaseOpened old request.database m before) (sym made) is_opened;
+      is_opened = subst (λ (m : MissingDatabase). IsDatabaseOpened old request.database m before) (sym made) is_opened;
       needed = needs_to_file r request cases reads;
       stays = files.stays;
       fault = files.fault;
@@ -106,12 +106,12 @@ module _ (r : Reading) (old new : DigestOpenerState) (request : FilingRequest) w
   decides_memory = record { why = halt.Memory; read = one_pass request.command (λ pass. ReadsLogsUpTo pass request.logs halt.Memory) r request.logs tt; by = λ e. cc; status_is = refl; text_is = refl }
 
   -- or since the database was not opened
-  pub decides_unopened : ReadsGoodLogs r request.logs → (r.tells ≡ true → NeedsDatabase r.log_of request) → (missing : Missing) → missing_database request.command ≡ missing → (found : KeepFault) → (found ≡ fault.Failed → IsDatabaseRefused old new request.database missing)
+  pub decides_unopened : ReadsGoodLogs r request.logs → (r.tells ≡ true → NeedsDatabase r.log_of request) → (missing : MissingDatabase) → missing_database request.command ≡ missing → (found : KeepFault) → (found ≡ fault.Failed → IsDatabaseRefused old new request.database missing)
       → DecidesRequest (filing_call r old new None) request (Err (halt_of_keeper found))
   decides_unopened good needed missing is fault.Failed cause = record {
     why = halt.KeeperFault;
     read = one_pass request.command (λ pass. ReadsLogsUpTo pass request.logs halt.KeeperFault) r request.logs good;
-    by = λ e. record { needed = needed; refused = subst (λ (m : Missing). IsDatabaseRefused old new request.database m) (sym is) (cause refl) };
+    by = λ e. record { needed = needed; refused = subst (λ (m : MissingDatabase). IsDatabaseRefused old new request.database m) (sym is) (cause refl) };
     status_is = refl;
     text_is = refl;
   }
@@ -130,7 +130,7 @@ module _ (r : Reading) (old new : DigestOpenerState) (request : FilingRequest) w
           reads = checked.turn.reads;
           is = record {
             opened = before;
-            is_opened = subst (λ (m : Missing). IsDatabaseOpened old request.database m before) (sym is) is_opened;
+            is_opened = subst (λ (m : MissingDatabase). IsDatabaseOpened old request.database m before) (sym is) is_opened;
             turn = λ kept has. record { left = kept; is = checked.turn.is kept has; kept_is = checks.stays ∙ has };
             needed = λ tells. inl asked;
             stays = λ e. checks.stays;
@@ -143,7 +143,7 @@ module _ (r : Reading) (old new : DigestOpenerState) (request : FilingRequest) w
     read = subst (λ (c : FilingCommand). HoldsOfPass c (λ pass. ReadsLogsUpTo pass request.logs why) r request.logs) (sym asked) checks.read;
     by = record {
       opened = before;
-      is_opened = subst (λ (m : Missing). IsDatabaseOpened old request.database m before) (sym is) is_opened;
+      is_opened = subst (λ (m : MissingDatabase). IsDatabaseOpened old request.database m before) (sym is) is_opened;
       needed = λ tells. inl asked;
       stays = checks.stays;
       fault = checks.fault;

@@ -17,7 +17,7 @@ use Rattle.desk_filing.specs.Laws.{FiledCallIsSame, FiledIsFound, FiledIsSame}
 use Rattle.desk_filing.specs.Lines.{comparison_line}
 use Rattle.desk_filing.specs.Runs.{AnswersBy, AnswersOfPass, AnswersRequest, FilingCall, missing_database}
 use Rattle.desk_filing.specs.Turns.{DigestedLogs, FilingTurn, IsFilingTurn, unfiled_turn}
-use Rattle.desk_filing.specs.declared.opener.Missing.{Missing}
+use Rattle.desk_filing.specs.declared.opener.MissingDatabase.{MissingDatabase}
 use Rattle.desk_filing.specs.declared.requests.FilingCommand.TheVariants.{Check, File}
 use Rattle.desk_filing.specs.declared.requests.FilingRequest.{FilingRequest}
 use Rattle.desk_filing.proofs.LogLemmas.{known_turn}
@@ -25,7 +25,7 @@ use Rattle.desk_filing.proofs.PassLemmas.{of_pass}
 use Rattle.log_verdict.specs.Steps.{Reading}
 
 -- a database that is there is opened with what it has
-opened_there : (missing : Missing) (under kept : Option (List KeptCase)) → IsSome kept → under ≡ kept → kept_once_opened missing under ≡ kept
+opened_there : (missing : MissingDatabase) (under kept : Option (List KeptCase)) → IsSome kept → under ≡ kept → kept_once_opened missing under ≡ kept
 opened_there missing (Some xs) kept some is = is
 opened_there missing None (Some ys) some is = absurd (cc)
 opened_there missing None None some is = absurd (cc)
@@ -120,7 +120,7 @@ pub record Answered (call : FilingCall) (request : FilingRequest) (kept : List K
   pub is : IsFilingTurn call.reading.log_of kept request (record { kept = left; text = text; status = the_status })
 
 module _ (call : FilingCall) (request : FilingRequest) (tells : call.reading.tells ≡ true) (kept : List KeptCase) (the_status : CaseStatus) (text : List ℕ)
-    (found : (missing : Missing) (opened : DigestKeeperState) → IsDatabaseOpened call.opener_old request.database missing opened → opened.kept ≡ Some kept) where
+    (found : (missing : MissingDatabase) (opened : DigestKeeperState) → IsDatabaseOpened call.opener_old request.database missing opened → opened.kept ≡ Some kept) where
   answered_of_pass : (pass : Reading) → pass.tells ≡ true → pass.log_of ≡ call.reading.log_of → (keeper : Option DigestKeeperState) → (given : DigestedLogs) → ReadsDigestedLogs pass request.logs given
       → AnswersBy call given request the_status text keeper → Answered call request kept the_status text
   answered_of_pass pass told same None given reads by = record {
@@ -161,7 +161,7 @@ filed_call_is_same law filing checking request the_rule symbol a b c d answer fi
         (λ front. absurd (written status.Done front.answer_is (inl refl)))
         files.runs.writes
 
-    found : (missing : Missing) (opened : DigestKeeperState) → IsDatabaseOpened checking.opener_old request.database missing opened → opened.kept ≡ Some filed.turn.kept
+    found : (missing : MissingDatabase) (opened : DigestKeeperState) → IsDatabaseOpened checking.opener_old request.database missing opened → opened.kept ≡ Some filed.turn.kept
     found missing opened is =
         filed_is_found checking.opener_old request.database missing filed.keeper opened after.opener_still_tells (ap is_some filed.on_file) (after.on_file filed.keeper filed.handed_back) is ∙ filed.on_file
 

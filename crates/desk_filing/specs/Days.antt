@@ -16,7 +16,7 @@ use Rattle.day_logs.specs.declared.before_rule.DayBeforeRule.TheVariants as befo
 use Rattle.day_symbols.specs.Shares.{symbols_in, whole_day}
 use Rattle.day_symbols.specs.Symbols.{symbols_of_day}
 use Rattle.day_records.specs.DayTrades.{HasTradesOf}
-use Rattle.day_records.specs.declared.day_trades.EndedTrades.{EndedTrades}
+use Rattle.day_records.specs.declared.day_trades.DayRecords.{DayRecords}
 use Rattle.day_verdicts.specs.DayVerdicts.{AreVerdicts}
 use Rattle.log_digests.specs.declared.digests.LogDigests.{LogDigests}
 use Rattle.desk_filing.specs.Judging.{TellsBadPlace}
@@ -99,7 +99,7 @@ pub record JudgesRecords (label : List ℕ) (the_rule : Rule) (digests : LogDige
       (symbols_in whole_day (symbols_of_day entries trades)) verdicts judged
 
 -- whatever records the day has, this is what it comes to
-abbrev pub JudgesDay : List ℕ → Rule → LogDigests → EndedTrades → FilingOutcome → Type 0
+abbrev pub JudgesDay : List ℕ → Rule → LogDigests → DayRecords → FilingOutcome → Type 0
 JudgesDay label the_rule digests ended judged =
     (entries : List OrderRecord) (trades : List TradeRecord)
     → HasTradesOf whole_day (admission_of the_rule) entries ended trades

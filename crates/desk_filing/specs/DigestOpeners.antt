@@ -5,8 +5,8 @@ use Rattle.case_keeper.specs.declared.keeper.KeepFault.{KeepFault}
 use Rattle.case_keeper.specs.declared.keeper.KeepFault.TheVariants as fault
 use Rattle.digest_keeper.specs.DigestKeepers.{DigestKeeperState}
 use Rattle.digest_keeper.specs.declared.digested.KeptCase.{KeptCase}
-use Rattle.desk_filing.specs.declared.opener.Missing.{Missing}
-use Rattle.desk_filing.specs.declared.opener.Missing.TheVariants.{Make, Refuse}
+use Rattle.desk_filing.specs.declared.opener.MissingDatabase.{MissingDatabase}
+use Rattle.desk_filing.specs.declared.opener.MissingDatabase.TheVariants.{Make, Refuse}
 use Rattle.log_source.specs.Sources.{RoseOrIsFull}
 
 -- What is known of an opener: whether it is known what it has, what is on file under each path,
@@ -25,14 +25,14 @@ pub record KeepsDatabases (old new : DigestOpenerState) : Type 0 where
 
 -- what is on file once a path was opened under which there is this: where there is no database,
 -- nothing is on file in the one that is made, if one is to be made
-abbrev pub kept_once_opened : Missing → Option (List KeptCase) → Option (List KeptCase)
+abbrev pub kept_once_opened : MissingDatabase → Option (List KeptCase) → Option (List KeptCase)
 kept_once_opened missing (Some kept) = Some kept
 kept_once_opened Make None = Some []
 kept_once_opened Refuse None = None
 
 -- A keeper that was opened counts no fault yet, and where it is known what the opener has, it has
 -- on file what is under the path.
-pub record IsDatabaseOpened (opener : DigestOpenerState) (path : List ℕ) (missing : Missing)
+pub record IsDatabaseOpened (opener : DigestOpenerState) (path : List ℕ) (missing : MissingDatabase)
     (keeper : DigestKeeperState) : Type 0 where
   pub fresh : keeper.faults ≡ 0
   pub known : opener.tells ≡ true → IsSome (kept_once_opened missing (opener.kept path))
@@ -40,13 +40,14 @@ pub record IsDatabaseOpened (opener : DigestOpenerState) (path : List ℕ) (miss
 
 -- an opening failed because the opener's faults rose or their count is at its greatest value, or
 -- because it is known that there is no database under the path, and none was to be made
-abbrev pub IsDatabaseRefused : DigestOpenerState → DigestOpenerState → List ℕ → Missing → Type 0
+abbrev pub IsDatabaseRefused : DigestOpenerState → DigestOpenerState → List ℕ → MissingDatabase
+    → Type 0
 IsDatabaseRefused old new path missing = RoseOrIsFull old.faults new.faults
     ⊎ ((old.tells ≡ true) × (kept_once_opened missing (old.kept path) ≡ None))
 
 -- What opening a path does.
 pub record OpensDatabase {B : Type 0} (state : B → DigestKeeperState)
-    (old new : DigestOpenerState) (path : List ℕ) (missing : Missing)
+    (old new : DigestOpenerState) (path : List ℕ) (missing : MissingDatabase)
     (result : Result B KeepFault) : Type 0 where
   pub keeps : KeepsDatabases old new
   pub opened : IfOk result (λ keeper. IsDatabaseOpened old path missing (state keeper))

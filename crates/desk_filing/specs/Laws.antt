@@ -11,7 +11,7 @@ use Rattle.desk_filing.specs.DigestOpeners.{DigestOpenerState, IsDatabaseOpened}
 use Rattle.desk_filing.specs.Lines.{comparison_line}
 use Rattle.desk_filing.specs.Runs.{FilesRequest, FilingCall}
 use Rattle.desk_filing.specs.Turns.{FilingTurn, IsFilingTurn, unfiled_turn}
-use Rattle.desk_filing.specs.declared.opener.Missing.{Missing}
+use Rattle.desk_filing.specs.declared.opener.MissingDatabase.{MissingDatabase}
 use Rattle.desk_filing.specs.declared.requests.FilingCommand.TheVariants.{Check, File}
 use Rattle.desk_filing.specs.declared.requests.FilingRequest.{FilingRequest}
 use Rattle.log_source.specs.Sinks.{SinkState}
@@ -36,7 +36,7 @@ FiledIsSame = (logs : Which → List ℕ → Option (List ℕ)) (kept : List Kep
 -- an opener that has under a path what a keeper had when it was handed back opens there a keeper
 -- that has the same
 abbrev pub FiledIsFound : Type 0
-FiledIsFound = (opener : DigestOpenerState) (path : List ℕ) (missing : Missing)
+FiledIsFound = (opener : DigestOpenerState) (path : List ℕ) (missing : MissingDatabase)
     (keeper opened : DigestKeeperState) → opener.tells ≡ true → IsSome keeper.kept
     → opener.kept path ≡ keeper.kept → IsDatabaseOpened opener path missing opened
     → opened.kept ≡ keeper.kept

@@ -17,8 +17,8 @@ use Rattle.digest_keeper.specs.declared.digested.KeptCase.{KeptCase}
 use Rattle.desk_filing.specs.Causes.{HoldsOfPass, OfDigestedLogs, ReadsLogsFor, ReadsLogsUpTo, day_log_name}
 use Rattle.desk_filing.specs.DigestOpeners.{DigestOpenerState, IsDatabaseOpened, IsDatabaseRefused, kept_once_opened}
 use Rattle.desk_filing.specs.Turns.{DigestedLogs, FilingTurn, IsFilingTurn, IsTurnOfLogs, unfiled_turn}
-use Rattle.desk_filing.specs.declared.opener.Missing.{Missing}
-use Rattle.desk_filing.specs.declared.opener.Missing.TheVariants.{Make, Refuse}
+use Rattle.desk_filing.specs.declared.opener.MissingDatabase.{MissingDatabase}
+use Rattle.desk_filing.specs.declared.opener.MissingDatabase.TheVariants.{Make, Refuse}
 use Rattle.desk_filing.specs.declared.requests.FilingCommand.{FilingCommand}
 use Rattle.desk_filing.specs.declared.requests.FilingCommand.TheVariants as command
 use Rattle.desk_filing.specs.declared.requests.FilingRequest.{FilingRequest}
@@ -56,7 +56,7 @@ filing_reading shelf logs old new = record {
 }
 
 -- a database that is not there is made by `file` and `file-all` alone
-abbrev pub missing_database : FilingCommand → Missing
+abbrev pub missing_database : FilingCommand → MissingDatabase
 missing_database (command.File the_rule symbol) = Make
 missing_database (command.FileAll the_rule) = Make
 missing_database command.Check = Refuse

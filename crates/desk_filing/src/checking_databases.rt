@@ -12,7 +12,7 @@ ghost use Rattle.log_verdict.specs.Steps.{FaultsNeverFall, KeepsShelfLogs, Readi
 
 use crate::checking::{check_in, look_at_logs};
 use crate::databases::end_unopened;
-use crate::opener::{DigestOpener, Missing};
+use crate::opener::{DigestOpener, MissingDatabase};
 use crate::requests::FilingRequest;
 use crate::writing::write_decided;
 use case_run::halts::Halt;
@@ -20,7 +20,7 @@ use case_run::statuses::CaseStatus;
 use log_digests::digest_shelf::DigestShelf;
 use log_source::shelf::Shelf;
 use log_source::sink::Sink;
-use log_verdict::runs::Ran;
+use log_verdict::runs::RunEnd;
 use log_verdict::sources::LogSources;
 use std::alloc::Global;
 
@@ -32,7 +32,7 @@ fn check_database<'a, F: Shelf, K: Sink, O: DigestOpener>(
     logs: &LogSources<'_>,
     out: &mut K,
     opener: &mut O,
-) -> Ran<CaseStatus, Option<O::Book>>
+) -> RunEnd<CaseStatus, Option<O::Book>>
     requires limit { HaveOneLimit logs.now.orders logs.now.trades }
     requires names { NamesLogs request.now.logs logs.now.orders logs.now.trades }
     requires asked { request.now.command ≡ Check }
@@ -51,7 +51,7 @@ fn check_database<'a, F: Shelf, K: Sink, O: DigestOpener>(
     ensures opener { KeepsDatabases (O.state opener.old) (O.state opener.new) }
     ensures stays { SinkStays (K.state out.old) (K.state out.new) }
 {
-    match opener.open(request.database.as_str(), Missing::Refuse) {
+    match opener.open(request.database.as_str(), MissingDatabase::Refuse) {
         Ok(mut keeper) => {
             let answer = check_in(
                 alloc,
@@ -62,7 +62,7 @@ fn check_database<'a, F: Shelf, K: Sink, O: DigestOpener>(
                 &mut keeper,
             );
             let ran = write_decided(out, answer);
-            Ran {
+            RunEnd {
                 status: ran.status,
                 stop: ran.stop,
                 back: Some(keeper),
@@ -80,7 +80,7 @@ pub(crate) fn check<'a, F: Shelf, K: Sink, O: DigestOpener>(
     logs: &LogSources<'_>,
     out: &mut K,
     opener: &mut O,
-) -> Ran<CaseStatus, Option<O::Book>>
+) -> RunEnd<CaseStatus, Option<O::Book>>
     requires limit { HaveOneLimit logs.now.orders logs.now.trades }
     requires names { NamesLogs request.now.logs logs.now.orders logs.now.trades }
     requires asked { request.now.command ≡ Check }

@@ -7,14 +7,14 @@ ghost use Rattle.desk_filing.specs.DigestOpeners.{KeepsDatabases};
 ghost use Rattle.desk_filing.specs.Runs.{EndsWithinOrAnswers, FilingCall, RunsRequest};
 ghost use Rattle.desk_filing.specs.Runs.{filing_call, missing_database};
 ghost use Rattle.desk_filing.specs.Steps.{DecidesRequest, JudgesLogs, ReadsCases, case_lines};
-ghost use Rattle.desk_filing.specs.declared.requests.FilingRequest.{FilingRequest as ARequest};
+ghost use Rattle.desk_filing.specs.declared.requests.FilingRequest.{FilingRequest as FilingRequestSpec};
 ghost use Rattle.log_source.specs.Sinks.{SinkStays};
 ghost use Rattle.log_verdict.specs.Steps.{Reading};
 
 use crate::answers::FilingOutcome;
 use crate::filing::file_in;
 use crate::lines::case_text;
-use crate::opener::{DigestOpener, Missing};
+use crate::opener::{DigestOpener, MissingDatabase};
 use crate::requests::FilingRequest;
 use crate::writing::write_decided;
 use case_run::answers::CaseAnswer;
@@ -22,15 +22,15 @@ use case_run::halts::Halt;
 use case_run::statuses::CaseStatus;
 use digest_keeper::digested::DigestedCase;
 use log_source::sink::Sink;
-use log_verdict::runs::Ran;
+use log_verdict::runs::RunEnd;
 use std::alloc::Global;
 
 /// What a command leaves that opens no database: it hands back none.
 pub(crate) fn end_unopened<K: Sink, B>(
     out: &mut K,
     decided: Result<CaseAnswer, Halt>,
-) -> Ran<CaseStatus, Option<B>>
-    ensures runs { (call : FilingCall) (request : ARequest)
+) -> RunEnd<CaseStatus, Option<B>>
+    ensures runs { (call : FilingCall) (request : FilingRequestSpec)
         → DecidesRequest call request decided
         → RunsRequest call request (K.state out.old) (K.state out.new) result.status }
     ensures length { (r : Reading) → EndsWithinOrHalts r decided
@@ -39,7 +39,7 @@ pub(crate) fn end_unopened<K: Sink, B>(
     ensures unopened { result.back ≡ None }
 {
     let ran = write_decided(out, decided);
-    Ran {
+    RunEnd {
         status: ran.status,
         stop: ran.stop,
         back: None,
@@ -54,20 +54,20 @@ fn file_with_text<K: Sink, O: DigestOpener>(
     text: Vec<u8>,
     out: &mut K,
     opener: &mut O,
-) -> Ran<CaseStatus, Option<O::Book>>
+) -> RunEnd<CaseStatus, Option<O::Book>>
     requires text { text.items ≡ case_lines cases.now }
-    requires made { missing_database request.now.command ≡ Missing.Make }
+    requires made { missing_database request.now.command ≡ MissingDatabase.Make }
     ensures runs { (r : Reading) → ReadsCases r request.now cases.now → RunsRequest
         (filing_call r (O.state opener.old) (O.state opener.new)
         (option_map O.Book.state result.back)) request.now (K.state out.old) (K.state out.new) result.status }
     ensures opener { KeepsDatabases (O.state opener.old) (O.state opener.new) }
     ensures stays { SinkStays (K.state out.old) (K.state out.new) }
 {
-    match opener.open(request.database.as_str(), Missing::Make) {
+    match opener.open(request.database.as_str(), MissingDatabase::Make) {
         Ok(mut keeper) => {
             let answer = file_in(alloc, cases, text, &mut keeper);
             let ran = write_decided(out, answer);
-            Ran {
+            RunEnd {
                 status: ran.status,
                 stop: ran.stop,
                 back: Some(keeper),
@@ -84,8 +84,8 @@ fn file_cases<K: Sink, O: DigestOpener>(
     cases: &[DigestedCase],
     out: &mut K,
     opener: &mut O,
-) -> Ran<CaseStatus, Option<O::Book>>
-    requires made { missing_database request.now.command ≡ Missing.Make }
+) -> RunEnd<CaseStatus, Option<O::Book>>
+    requires made { missing_database request.now.command ≡ MissingDatabase.Make }
     ensures runs { (r : Reading) → ReadsCases r request.now cases.now → RunsRequest
         (filing_call r (O.state opener.old) (O.state opener.new)
         (option_map O.Book.state result.back)) request.now (K.state out.old) (K.state out.new) result.status }
@@ -105,8 +105,8 @@ pub(crate) fn file_judged<K: Sink, O: DigestOpener>(
     judged: Result<FilingOutcome, Halt>,
     out: &mut K,
     opener: &mut O,
-) -> Ran<CaseStatus, Option<O::Book>>
-    requires made { missing_database request.now.command ≡ Missing.Make }
+) -> RunEnd<CaseStatus, Option<O::Book>>
+    requires made { missing_database request.now.command ≡ MissingDatabase.Make }
     ensures runs { (r : Reading) → JudgesLogs r request.now judged → RunsRequest
         (filing_call r (O.state opener.old) (O.state opener.new)
         (option_map O.Book.state result.back)) request.now (K.state out.old) (K.state out.new) result.status }

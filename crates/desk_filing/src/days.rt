@@ -13,7 +13,7 @@ ghost use Rattle.desk_filing.specs.Turns.{label_of_symbol};
 ghost use Rattle.desk_filing.specs.declared.requests.FilingCommand.TheVariants as command;
 ghost use Rattle.log_verdict.specs.BothLogs.{HaveOneLimit};
 ghost use Rattle.log_verdict.specs.Steps.{reading_by, FaultsNeverFall, KeepsShelfLogs};
-ghost use Rattle.record_verdict.specs.Judged.{as_verdict};
+ghost use Rattle.record_verdict.specs.RecordVerdict.{as_verdict};
 ghost use Rattle.record_verdict.specs.Scopes.{admission_of};
 
 use crate::answers::FilingOutcome;
@@ -29,7 +29,7 @@ use case_run::halts::Halt;
 use case_run::statuses::CaseStatus;
 use day_logs::before_rule::DayBeforeRule;
 use day_logs::reading::read_day;
-use day_records::day_trades::EndedTrades;
+use day_records::day_trades::DayRecords;
 use day_symbols::shares::DayShare;
 use day_verdicts::verdict_lists::{VerdictList, hand_verdicts};
 use digest_keeper::digested::DigestedCase;
@@ -39,7 +39,7 @@ use log_source::shelf::Shelf;
 use log_verdict::sources::Source;
 use log_verdict::stops::NoRecords;
 use record_verdict::scopes::Admission;
-use record_verdict::verdicts::Judged;
+use record_verdict::verdicts::RecordVerdict;
 use std::alloc::Global;
 
 /// The text of the label of a symbol of a day, LABEL/SYMBOL.
@@ -92,7 +92,7 @@ impl DayCases {
     }
 
     /// One case more, under this label; or this symbol, where its label is too long.
-    fn keep(&mut self, label: Option<Name>, symbol: &Name, judged: &Judged) -> Result<(), NoMemory>
+    fn keep(&mut self, label: Option<Name>, symbol: &Name, judged: &RecordVerdict) -> Result<(), NoMemory>
         requires { self.old.long ≡ None }
         ensures { OnOk result
             (KeepsCase self.old self.new label symbol.now (as_verdict judged.now)) }
@@ -117,7 +117,7 @@ impl VerdictList for DayCases {
 
     ghost has_taken = { HasDayTaken };
 
-    fn take(&mut self, symbol: &Name, judged: &Judged) -> Result<(), NoMemory> {
+    fn take(&mut self, symbol: &Name, judged: &RecordVerdict) -> Result<(), NoMemory> {
         if self.long.is_some() {
             return Ok(());
         }
@@ -147,7 +147,7 @@ fn judged_day(
     label: &Name,
     rule: Rule,
     digests: &LogDigests,
-    ended: EndedTrades,
+    ended: DayRecords,
 ) -> Result<FilingOutcome, NoMemory>
     requires few { RuleTradesFitPlaces rule whole_day ended }
     ensures { IfOk result (JudgesDay label.now rule digests.now ended) }

@@ -8,7 +8,7 @@ ghost use Rattle.desk_filing.specs.Turns.{offence_in};
 ghost use Rattle.desk_filing.specs.declared.requests.FilingCommand.TheVariants as command;
 ghost use Rattle.log_verdict.specs.BothLogs.{HaveOneLimit};
 ghost use Rattle.log_verdict.specs.Steps.{reading_by, FaultsNeverFall, KeepsShelfLogs};
-ghost use Rattle.record_verdict.specs.Judged.{as_verdict};
+ghost use Rattle.record_verdict.specs.RecordVerdict.{as_verdict};
 
 use crate::answers::FilingOutcome;
 use crate::digested_verdicts::{DigestedVerdict, digested_verdict_on};
@@ -26,16 +26,16 @@ use log_digests::digests::LogDigests;
 use log_source::shelf::Shelf;
 use log_verdict::sources::Source;
 use record_verdict::questions::Question;
-use record_verdict::verdicts::Judged;
+use record_verdict::verdicts::RecordVerdict;
 use std::alloc::Global;
 
 /// How an audit ended with a verdict on records.
-pub(crate) fn offence_in(judged: &Judged) -> Option<Offence>
+pub(crate) fn offence_in(judged: &RecordVerdict) -> Option<Offence>
     ensures { result ≡ offence_in (as_verdict judged.now) }
 {
     match judged {
-        Judged::Accepted(_) => None,
-        Judged::Rejected(finding) => Some(offence_of(finding)),
+        RecordVerdict::Accepted(_) => None,
+        RecordVerdict::Rejected(finding) => Some(offence_of(finding)),
     }
 }
 

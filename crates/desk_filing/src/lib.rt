@@ -22,7 +22,7 @@ mod filing;
 mod judging;
 pub mod laws;
 mod lines;
-pub mod memory_opener;
+pub mod map_digest_opener;
 pub mod opener;
 pub mod requests;
 pub mod running;

@@ -9,7 +9,7 @@ use digest_keeper::keeper::DigestKeeper;
 
 /// What an opener does where there is no database under a path.
 #[derive(Clone, Copy, Debug, PartialEq, Eq)]
-pub enum Missing {
+pub enum MissingDatabase {
     /// It makes one, with nothing on file.
     Make,
     /// It fails, and makes nothing.
@@ -27,7 +27,7 @@ pub trait DigestOpener {
     /// The keeper of what is on file under a path, with no fault counted. `Failed` comes only
     /// where the opener's faults rose or their count is at its greatest value, or where it is
     /// known that there is no database under the path and none was to be made.
-    fn open(&mut self, path: &str, missing: Missing) -> Result<Self::Book, KeepFault>
+    fn open(&mut self, path: &str, missing: MissingDatabase) -> Result<Self::Book, KeepFault>
         ensures { OpensDatabase Self.Book.state (state self.old) (state self.new) path.now missing
             result };
 }

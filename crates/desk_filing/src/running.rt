@@ -25,10 +25,10 @@ use case_run::writing::write_text;
 use command_words::requests::WordsFault;
 use desk_words::texts::desk_usage_text;
 use log_digests::digest_shelf::DigestShelf;
-use log_digests::same_logs::{SameLogs, ShelfLogs};
+use log_digests::same_logs::{SameLogs, ShelfGhost};
 use log_source::shelf::Shelf;
 use log_source::sink::Sink;
-use log_verdict::runs::Ran;
+use log_verdict::runs::RunEnd;
 use log_verdict::sources::{LogSources, Source};
 use record_verdict::questions::Question;
 use seeded_hash::seed::HashSeed;
@@ -38,7 +38,7 @@ use std::marker::Brand;
 /// What a call hands back: the shelf that its logs were read from; and the keeper of what is on
 /// file, where the database was opened.
 #[derive(Drop)]
-pub struct HandedBack<F, B> {
+pub struct ShelfAndKeeper<F, B> {
     pub shelf: F,
     pub keeper: Option<B>,
 }
@@ -62,7 +62,7 @@ fn run_over<'a, F: Shelf, K: Sink, O: DigestOpener>(
     shelf: &mut DigestShelf<'a, F>,
     out: &mut K,
     opener: &mut O,
-) -> Ran<CaseStatus, Option<O::Book>>
+) -> RunEnd<CaseStatus, Option<O::Book>>
     ensures files { let shelves = ⟦<DigestShelf<'a, F> as Shelf>⟧ in
         let r = reading_within longest_read shelves shelf.old shelf.new in
         FilesRequest (filing_call r (O.state opener.old) (O.state opener.new)
@@ -96,14 +96,14 @@ fn run_over<'a, F: Shelf, K: Sink, O: DigestOpener>(
 }
 
 /// Does what a request asks for over a shelf of these logs, with those under its names.
-fn run_request<L: ShelfLogs, F: Shelf, K: Sink, O: DigestOpener>(
+fn run_request<L: ShelfGhost, F: Shelf, K: Sink, O: DigestOpener>(
     alloc: Global,
     seed: HashSeed,
     request: &FilingRequest,
     shelf: F,
     out: &mut K,
     opener: &mut O,
-) -> Ran<CaseStatus, HandedBack<F, O::Book>>
+) -> RunEnd<CaseStatus, ShelfAndKeeper<F, O::Book>>
     requires tells { F.tells shelf ≡ L.tells }
     requires logs { (which : Which) (name : List ℕ) →
         F.log_of shelf which name ≡ L.log_of which name }
@@ -118,10 +118,10 @@ fn run_request<L: ShelfLogs, F: Shelf, K: Sink, O: DigestOpener>(
     let same = SameLogs::<L, F>::of(shelf);
     let mut taking = DigestShelf::over(same, orders, trades);
     let ran = run_over(alloc, seed, request, &mut taking, out, opener);
-    Ran {
+    RunEnd {
         status: ran.status,
         stop: ran.stop,
-        back: HandedBack {
+        back: ShelfAndKeeper {
             shelf: taking.into_shelf().into_shelf(),
             keeper: ran.back,
         },
@@ -154,7 +154,7 @@ pub fn run_filing<F: Shelf, K: Sink, O: DigestOpener>(
     shelf: F,
     out: &mut K,
     opener: &mut O,
-) -> Ran<CaseStatus, HandedBack<F, O::Book>>
+) -> RunEnd<CaseStatus, ShelfAndKeeper<F, O::Book>>
     ensures files { FilesAsked F.Shelf shelf result.back.shelf
         (filing_request_of (map string_bytes words.now)) (O.state opener.old) (O.state opener.new)
         (option_map O.Book.state result.back.keeper) (K.state out.old) (K.state out.new)
@@ -175,7 +175,7 @@ pub fn run_filing_seeded<F: Shelf, K: Sink, O: DigestOpener>(
     shelf: F,
     out: &mut K,
     opener: &mut O,
-) -> Ran<CaseStatus, HandedBack<F, O::Book>>
+) -> RunEnd<CaseStatus, ShelfAndKeeper<F, O::Book>>
     ensures files { FilesAsked F.Shelf shelf result.back.shelf
         (filing_request_of (map string_bytes words.now)) (O.state opener.old) (O.state opener.new)
         (option_map O.Book.state result.back.keeper) (K.state out.old) (K.state out.new)
@@ -188,10 +188,10 @@ pub fn run_filing_seeded<F: Shelf, K: Sink, O: DigestOpener>(
     one_filing_turn();
     match read_filing_words(alloc, words) {
         Ok(request) => { run_request::<Brand, F, K, O>(alloc, seed, &request, shelf, out, opener) }
-        Err(fault) => Ran {
+        Err(fault) => RunEnd {
             status: refuse_words(out, fault),
             stop: None,
-            back: HandedBack {
+            back: ShelfAndKeeper {
                 shelf,
                 keeper: None,
             },

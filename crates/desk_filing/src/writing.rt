@@ -11,7 +11,7 @@ use case_run::halts::Halt;
 use case_run::statuses::CaseStatus;
 use case_run::writing::{write_halt, write_text};
 use log_source::sink::Sink;
-use log_verdict::runs::Ran;
+use log_verdict::runs::RunEnd;
 
 /// Writes the text of an answer, or the line of a halt, and answers the status. Whatever decided
 /// that, the status has its cause in it. Why there are no records of the logs, where there are
@@ -19,7 +19,7 @@ use log_verdict::runs::Ran;
 pub(crate) fn write_decided<K: Sink>(
     out: &mut K,
     decided: Result<CaseAnswer, Halt>,
-) -> Ran<CaseStatus, ()>
+) -> RunEnd<CaseStatus, ()>
     ensures runs { (call : FilingCall) (request : FilingRequest)
         → DecidesRequest call request decided
         → RunsRequest call request (K.state out.old) (K.state out.new) result.status }
@@ -28,12 +28,12 @@ pub(crate) fn write_decided<K: Sink>(
     ensures stays { SinkStays (K.state out.old) (K.state out.new) }
 {
     match decided {
-        Ok(answer) => Ran {
+        Ok(answer) => RunEnd {
             status: write_text(out, &answer.text, answer.status),
             stop: answer.stop,
             back: (),
         },
-        Err(halt) => Ran {
+        Err(halt) => RunEnd {
             status: write_halt(out, halt),
             stop: halt.stop(),
             back: (),

@@ -30,10 +30,10 @@ use Rattle.offence_list.specs.Offences.{record_offences}
 use Rattle.page_parts.specs.Laws.{HasByte, ShellReadsCommand}
 use Rattle.page_parts.specs.Repeats.{form_option}
 use Rattle.record_verdict.specs.Laws.{RecordVerdictIsOne}
-use Rattle.symbol_offences.specs.declared.symbol_logs.QuotedRecords.{QuotedRecords}
+use Rattle.symbol_offences.specs.declared.symbol_before_rule.QuotedRecords.{QuotedRecords}
 use Rattle.symbol_offences.specs.OffenceAnswers.{IsAnswerByVerdict, IsAnswerToAccepted, orders_under_rule}
 use Rattle.symbol_offences.specs.OffenceLines.{offence_lines}
-use Rattle.symbol_offences.specs.SymbolLogs.{quoted_records}
+use Rattle.symbol_offences.specs.SymbolBeforeRule.{quoted_records}
 use Rattle.audit_base.specs.Histories.{order_list}
 use Rattle.audit_base.specs.Trades.{deals_of_symbol}
 use Rattle.audit_base.specs.Verdicts.{paired_trades}

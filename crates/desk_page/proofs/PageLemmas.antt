@@ -15,13 +15,13 @@ use Rattle.audit_report.specs.Statuses.{verdict_status}
 use Rattle.command_run.specs.declared.answers.Answer.{Answer}
 use Rattle.command_run.specs.Deciding.{IsAnswerOfKind}
 use Rattle.matching_core.specs.declared.deals_draft.ResolvedTrades.{ResolvedTrades}
-use Rattle.desk_page.specs.PageAnswers.{finding_of, in_words, IsPageAfter, IsPageOfMarket, Pictures}
+use Rattle.desk_page.specs.PageAnswers.{verdict_finding, in_words, IsPageAfter, IsPageOfMarket, Pictures}
 use Rattle.desk_page.specs.Telling.{IsAnswerByEmptiness, IsAnswerToGiven, IsNamedByAbsence, IsPageOfFinding}
 use Rattle.record_verdict.specs.declared.before_rule.BeforeRule.{BeforeRule}
 use Rattle.record_verdict.specs.declared.before_rule.BeforeRule.TheVariants as before_rule
 use Rattle.record_verdict.specs.declared.questions.Question.{Question}
-use Rattle.record_verdict.specs.declared.verdicts.Judged.{Judged}
-use Rattle.record_verdict.specs.Judged.{as_verdict}
+use Rattle.record_verdict.specs.declared.verdicts.RecordVerdict.{RecordVerdict}
+use Rattle.record_verdict.specs.RecordVerdict.{as_verdict}
 use Rattle.record_verdict.specs.BeforeRule.{IsBeforeRule, IsResolvedWithoutFinding}
 use Rattle.record_verdict.specs.RecordVerdicts.{IsRecordVerdict}
 use Rattle.record_verdict.specs.Scopes.{finding_before_rule_in_scope, scope_of}
@@ -35,15 +35,15 @@ use Rattle.page_parts.specs.VerdictPages.{IsVerdictPage}
 module _ (is_picture : Pictures) (q : Question) (named : PageLogs) (text : List ℕ) (v : Verdict) where
   -- where this was found before the rule, the page is that of the finding
   page-of-found : (before : Option Finding) (finding : Finding) (orders : List Order) (deals : List Deal) → before ≡ Some finding → v ≡ verdict.Rejected finding
-      → IsVerdictPage (in_words q (Some finding) None) [] named text → IsPageAfter before is_picture q named orders deals (finding_of v) text
+      → IsVerdictPage (in_words q (Some finding) None) [] named text → IsPageAfter before is_picture q named orders deals (verdict_finding v) text
   page-of-found before finding orders deals found rejected page =
-      subst (λ (b : Option Finding). IsPageAfter b is_picture q named orders deals (finding_of v) text) (sym found)
-      (subst (λ (w : Verdict). IsVerdictPage (in_words q (finding_of w) None) [] named text) (sym rejected) page)
+      subst (λ (b : Option Finding). IsPageAfter b is_picture q named orders deals (verdict_finding v) text) (sym found)
+      (subst (λ (w : Verdict). IsVerdictPage (in_words q (verdict_finding w) None) [] named text) (sym rejected) page)
 
   -- where nothing was, it is that of the orders and deals
   page-of-sound : (before : Option Finding) (orders : List Order) (deals : List Deal) → before ≡ None
-      → IsPageOfMarket is_picture q named orders deals (finding_of v) text → IsPageAfter before is_picture q named orders deals (finding_of v) text
-  page-of-sound before orders deals none page = subst (λ (b : Option Finding). IsPageAfter b is_picture q named orders deals (finding_of v) text) (sym none) page
+      → IsPageOfMarket is_picture q named orders deals (verdict_finding v) text → IsPageAfter before is_picture q named orders deals (verdict_finding v) text
+  page-of-sound before orders deals none page = subst (λ (b : Option Finding). IsPageAfter b is_picture q named orders deals (verdict_finding v) text) (sym none) page
 
 module _ (is_picture : Pictures) (q : Question) (named : PageLogs) (entries : List OrderRecord) (paired : Result (List TradeRecord) Finding) (v : Verdict) (has : IsRecordVerdict q entries paired v) (the_status : Status) (text : List ℕ) where
   abbrev orders : List Order
@@ -87,7 +87,7 @@ module _ (is_picture : Pictures) (q : Question) (named : PageLogs) (entries : Li
       (subst (λ (ds : List Deal). IsAnswerByEmptiness (are_none orders ds) is_picture q named orders ds v the_status text) resolved.deals
       (subst (λ (os : List Order). IsAnswerByEmptiness (are_none os sound.deals.items) is_picture q named os sound.deals.items v the_status text) resolved.orders told)))
 
-module _ (is_picture : Pictures) (q : Question) (named : PageLogs) (given : BeforeRule) (v : Judged) (answer : Answer) (stages : IsVerdictAfterStages q given v) where
+module _ (is_picture : Pictures) (q : Question) (named : PageLogs) (given : BeforeRule) (v : RecordVerdict) (answer : Answer) (stages : IsVerdictAfterStages q given v) where
   -- a finding before the rule
   pub found-told : FoundIsPresent → (finding : Finding) → given ≡ before_rule.Found finding → IsAnswerOfKind (IsPageOfFinding q named finding) answer → IsAnswerToGiven is_picture q named given answer
   found-told present finding is told entries paired before =

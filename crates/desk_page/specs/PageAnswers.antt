@@ -77,10 +77,10 @@ IsPageAfter (Some before) is_picture q named orders deals found text =
     IsVerdictPage (in_words q found None) [] named text
 
 -- the finding of a verdict
-abbrev pub finding_of : Verdict → Option Finding
-finding_of (verdict.Accepted accepted) = None
-finding_of (verdict.Rejected finding) = Some finding
-finding_of (verdict.Malformed log bad) = None
+abbrev pub verdict_finding : Verdict → Option Finding
+verdict_finding (verdict.Accepted accepted) = None
+verdict_finding (verdict.Rejected finding) = Some finding
+verdict_finding (verdict.Malformed log bad) = None
 
 -- The verdict on the records of two logs that a page names, and its page.
 pub record IsPageOfRecords (is_picture : Pictures) (q : Question) (named : PageLogs)
@@ -92,7 +92,7 @@ pub record IsPageOfRecords (is_picture : Pictures) (q : Question) (named : PageL
   pub page : let orders = order_list q.symbol entries in
       let before = finding_before_rule_in_scope (scope_of q) entries paired in
       IsPageAfter before is_picture q named orders
-      (deals_of_symbol orders q.symbol (paired_trades paired)) (finding_of the_verdict) text
+      (deals_of_symbol orders q.symbol (paired_trades paired)) (verdict_finding the_verdict) text
 
 -- The page of the verdict on the records of two logs, which names the logs with their digests.
 pub record IsPageOfLogs (is_picture : Pictures) (shelf : ShelfLogs) (request : PageRequest)

@@ -14,7 +14,7 @@ use Rattle.command_run.specs.Deciding.{IsAnswerOfKind}
 use Rattle.command_run.specs.VerdictAnswers.{IsAnswerWith}
 use Rattle.log_digests.specs.declared.digests.LogDigests.{LogDigests}
 use Rattle.desk_page.specs.declared.requests.PageRequest.{PageRequest}
-use Rattle.desk_page.specs.PageAnswers.{finding_of, in_words, IsPageOfMarket, IsPageOfRecords, page_question, Pictures}
+use Rattle.desk_page.specs.PageAnswers.{verdict_finding, in_words, IsPageOfMarket, IsPageOfRecords, page_question, Pictures}
 use Rattle.desk_page.specs.PageLogs.{NamesLogs}
 use Rattle.record_verdict.specs.declared.before_rule.BeforeRule.{BeforeRule}
 use Rattle.record_verdict.specs.declared.questions.Question.{Question}
@@ -36,7 +36,7 @@ pub record IsPageOfDeals (is_picture : Pictures) (q : Question) (named : PageLog
     (orders : List Order) (deals : List Deal) (the_verdict : Verdict)
     (the_status : Status) (text : List ℕ) : Type 0 where
   pub status_is : the_status ≡ verdict_status the_verdict
-  pub page : IsPageOfMarket is_picture q named orders deals (finding_of the_verdict) text
+  pub page : IsPageOfMarket is_picture q named orders deals (verdict_finding the_verdict) text
 
 -- the answer by whether there is no order and no deal
 abbrev pub IsAnswerByEmptiness : Bool → Pictures → Question → PageLogs → List Order → List Deal

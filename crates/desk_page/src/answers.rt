@@ -10,12 +10,12 @@ ghost use Rattle.desk_page.specs.PageAnswers.{GivesPageOrStop, page_question};
 ghost use Rattle.desk_page.specs.Telling.{IsAnswerByEmptiness, IsAnswerToGiven, IsDigestedAnswer};
 ghost use Rattle.desk_page.specs.Telling.{IsPageOfDeals, IsPageOfFinding};
 ghost use Rattle.record_verdict.specs.BeforeRule.{IsJudgeable};
-ghost use Rattle.record_verdict.specs.Judged.{as_verdict};
+ghost use Rattle.record_verdict.specs.RecordVerdict.{as_verdict};
 ghost use Rattle.symbol_offences.specs.Telling.{are_none};
 
 use crate::drawings::Drawing;
 use crate::page_logs::{digits_of, named_logs};
-use crate::pages::{finding_of, page_before_rule, page_of_market};
+use crate::pages::{verdict_finding, page_before_rule, page_of_market};
 use crate::requests::PageRequest;
 use audit_base::faults::NoMemory;
 use audit_base::findings::Finding;
@@ -34,7 +34,7 @@ use order_list::lists::OrderList;
 use page_parts::repeats::PageLogs;
 use record_verdict::before_rule::BeforeRule;
 use record_verdict::questions::Question;
-use record_verdict::verdicts::{Judged, verdict_after};
+use record_verdict::verdicts::{RecordVerdict, verdict_after};
 use std::alloc::Global;
 use symbol_offences::answers::absent_answer;
 use symbol_offences::laws::absent_symbols_have_nothing;
@@ -74,7 +74,7 @@ fn answer_market<D: Drawing>(
     question: &Question,
     orders: &OrderList<'_>,
     deals: &[Deal],
-    judged: &Judged,
+    judged: &RecordVerdict,
     named: &PageLogs<'_>,
 ) -> Result<Answer, NoMemory>
     requires order_list { IsOrderList orders.now }
@@ -82,7 +82,7 @@ fn answer_market<D: Drawing>(
     ensures { IfOk result (IsAnswerOfKind (IsPageOfDeals D.is_picture question.now named.now
         orders.now deals.now (as_verdict judged.now))) }
 {
-    let finding = finding_of(judged);
+    let finding = verdict_finding(judged);
     let text = page_of_market::<D>(alloc, question, orders, deals, &finding, named)?;
     Ok(Answer {
         status: judged.status(),
@@ -97,7 +97,7 @@ fn answer_sound<D: Drawing>(
     alloc: Global,
     question: &Question,
     sound: &ResolvedTrades,
-    judged: &Judged,
+    judged: &RecordVerdict,
     named: &PageLogs<'_>,
 ) -> Result<Answer, NoMemory>
     requires { IsDealList sound.now.history sound.now.deals.items }

@@ -4,7 +4,7 @@ ghost use Rattle.audit_base.specs.Deals.{IsDealList};
 ghost use Rattle.audit_base.specs.Orders.{IsOrderList};
 ghost use Rattle.desk_page.specs.PageAnswers as spec;
 ghost use Rattle.page_parts.specs.VerdictPages.{IsVerdictPage};
-ghost use Rattle.record_verdict.specs.Judged.{as_verdict};
+ghost use Rattle.record_verdict.specs.RecordVerdict.{as_verdict};
 
 use crate::drawings::Drawing;
 use audit_base::faults::NoMemory;
@@ -17,16 +17,16 @@ use page_parts::repeats::PageLogs;
 use page_parts::sentences::{SymbolTotals, VerdictInWords};
 use page_parts::verdict_pages::verdict_page;
 use record_verdict::questions::Question;
-use record_verdict::verdicts::Judged;
+use record_verdict::verdicts::RecordVerdict;
 use std::alloc::Global;
 
 /// The finding of a verdict.
-pub(crate) fn finding_of(judged: &Judged) -> Option<Finding>
-    ensures { result ≡ spec.finding_of (as_verdict judged.now) }
+pub(crate) fn verdict_finding(judged: &RecordVerdict) -> Option<Finding>
+    ensures { result ≡ spec.verdict_finding (as_verdict judged.now) }
 {
     match judged {
-        Judged::Accepted(_) => None,
-        Judged::Rejected(finding) => Some(*finding),
+        RecordVerdict::Accepted(_) => None,
+        RecordVerdict::Rejected(finding) => Some(*finding),
     }
 }
 

@@ -1,5 +1,5 @@
 //! The command `page`, as `command_run` speaks of programs and of what two logs give.
-ghost use Rattle.desk_page.specs.PageLogs.{ShelfLogs as LogsOfShelf};
+ghost use Rattle.desk_page.specs.PageLogs.{ShelfLogs};
 
 use crate::drawings::Drawing;
 use crate::requests::PageRequest;
@@ -11,11 +11,11 @@ use std::marker::{Brand, PhantomData};
 
 /// Which logs a shelf has, for proofs alone: what a page answers depends on them by its digests.
 /// Whoever asks for a page picks them, at `Brand`.
-pub trait KnownLogs {
-    ghost shelf: { LogsOfShelf };
+pub trait PageLogsGhost {
+    ghost shelf: { ShelfLogs };
 }
 
-impl KnownLogs for Brand {
+impl PageLogsGhost for Brand {
     ghost use Rattle.std.specs.Prelude.{false, None};
 
     ghost shelf = { record { tells = false; log_of = λ log name. None } };
@@ -28,7 +28,7 @@ pub struct Pages<D, W> {
     logs: PhantomData<W>,
 }
 
-impl<D: Drawing, W: KnownLogs> Program for Pages<D, W> {
+impl<D: Drawing, W: PageLogsGhost> Program for Pages<D, W> {
     ghost use Rattle.desk_words.specs.Texts.{desk_usage_line};
     ghost use Rattle.desk_page.specs.Requests.{page_command};
 
@@ -50,7 +50,7 @@ pub struct GivenPage<D, W> {
     logs: PhantomData<W>,
 }
 
-impl<D: Drawing, W: KnownLogs> GivenByLogs for GivenPage<D, W> {
+impl<D: Drawing, W: PageLogsGhost> GivenByLogs for GivenPage<D, W> {
     ghost use Rattle.audit_report.specs.declared.verdicts.Verdict.TheVariants.{Malformed};
     ghost use Rattle.command_run.specs.Deciding.{IsAnswerOfKind};
     ghost use Rattle.command_run.specs.VerdictAnswers.{IsVerdictAnswer};

@@ -15,7 +15,7 @@ ghost use Rattle.desk_page.specs.Words.{page_request_of};
 
 use crate::answers::page_on;
 use crate::drawings::Drawing;
-use crate::program::{GivenPage, KnownLogs, Pages};
+use crate::program::{GivenPage, PageLogsGhost, Pages};
 use crate::requests::PageRequest;
 use crate::words::read_page_words;
 use audit_report::statuses::Status;
@@ -24,10 +24,10 @@ use command_run::laws::{both_logs_decide, held_logs_are_answered};
 use command_run::writing::{write_answer, write_usage};
 use command_words::requests::WordsFault;
 use log_digests::digest_shelf::DigestShelf;
-use log_digests::same_logs::{SameLogs, ShelfLogs};
+use log_digests::same_logs::{SameLogs, ShelfGhost};
 use log_source::shelf::Shelf;
 use log_source::sink::Sink;
-use log_verdict::runs::Ran;
+use log_verdict::runs::RunEnd;
 use log_verdict::sources::Source;
 use log_verdict::stops::Stop;
 use seeded_hash::seed::HashSeed;
@@ -35,7 +35,7 @@ use std::alloc::Global;
 use std::marker::Brand;
 
 /// The answer to a request over a shelf that takes the digests of what is read from it.
-fn answer_page<'a, D: Drawing, W: KnownLogs, F: Shelf>(
+fn answer_page<'a, D: Drawing, W: PageLogsGhost, F: Shelf>(
     alloc: Global,
     seed: HashSeed,
     request: &PageRequest,
@@ -60,13 +60,13 @@ fn answer_page<'a, D: Drawing, W: KnownLogs, F: Shelf>(
 }
 
 /// Answers a request over a shelf of these logs that takes the digests of what is read from it.
-fn run_over<'a, D: Drawing, W: KnownLogs, F: Shelf, K: Sink>(
+fn run_over<'a, D: Drawing, W: PageLogsGhost, F: Shelf, K: Sink>(
     alloc: Global,
     seed: HashSeed,
     request: &PageRequest,
     shelf: &mut DigestShelf<'a, F>,
     out: &mut K,
-) -> Ran<Status, ()>
+) -> RunEnd<Status, ()>
     requires { let shelves = ⟦<DigestShelf<'a, F> as Shelf>⟧ in
         W.shelf ≡ logs_in (reading_within longest_read shelves shelf.old shelf.old) }
     ensures answers { let shelves = ⟦<DigestShelf<'a, F> as Shelf>⟧ in
@@ -81,13 +81,13 @@ fn run_over<'a, D: Drawing, W: KnownLogs, F: Shelf, K: Sink>(
 }
 
 /// Answers a request, with these logs of a shelf under its names.
-fn run_known<D: Drawing, W: KnownLogs, F: Shelf, K: Sink>(
+fn run_known<D: Drawing, W: PageLogsGhost, F: Shelf, K: Sink>(
     alloc: Global,
     seed: HashSeed,
     request: &PageRequest,
     shelf: F,
     out: &mut K,
-) -> Ran<Status, F>
+) -> RunEnd<Status, F>
     requires known { W.shelf ≡ logs_in (page_reading F.Shelf request.now.logs shelf shelf) }
     ensures answers { AnswersPageRequest D.is_picture F.Shelf request.now shelf result.back
         (K.state out.old) (K.state out.new) result.status }
@@ -96,7 +96,7 @@ fn run_known<D: Drawing, W: KnownLogs, F: Shelf, K: Sink>(
     let (orders, trades) = (request.logs.orders.as_str(), request.logs.trades.as_str());
     let mut taking = DigestShelf::over(shelf, orders, trades);
     let ran = run_over::<D, W, F, K>(alloc, seed, request, &mut taking, out);
-    Ran {
+    RunEnd {
         status: ran.status,
         stop: ran.stop,
         back: taking.into_shelf(),
@@ -110,7 +110,7 @@ fn run_named<D: Drawing, F: Shelf, K: Sink>(
     request: &PageRequest,
     shelf: F,
     out: &mut K,
-) -> Ran<Status, F>
+) -> RunEnd<Status, F>
     ensures answers { AnswersPageRequest D.is_picture F.Shelf request.now shelf result.back
         (K.state out.old) (K.state out.new) result.status }
     ensures stays { SinkStays (K.state out.old) (K.state out.new) }
@@ -119,13 +119,13 @@ fn run_named<D: Drawing, F: Shelf, K: Sink>(
 }
 
 /// Answers a request over a shelf that has these logs under all its names.
-fn run_same<D: Drawing, L: ShelfLogs, F: Shelf, K: Sink>(
+fn run_same<D: Drawing, L: ShelfGhost, F: Shelf, K: Sink>(
     alloc: Global,
     seed: HashSeed,
     request: &PageRequest,
     shelf: F,
     out: &mut K,
-) -> Ran<Status, F>
+) -> RunEnd<Status, F>
     requires tells { F.tells shelf ≡ L.tells }
     requires logs { (which : Which) (name : List ℕ) →
         F.log_of shelf which name ≡ L.log_of which name }
@@ -136,7 +136,7 @@ fn run_same<D: Drawing, L: ShelfLogs, F: Shelf, K: Sink>(
 {
     let same = SameLogs::<L, F>::of(shelf);
     let ran = run_named::<D, SameLogs<L, F>, K>(alloc, seed, request, same, out);
-    Ran {
+    RunEnd {
         status: ran.status,
         stop: ran.stop,
         back: ran.back.into_shelf(),
@@ -150,7 +150,7 @@ fn run_request<D: Drawing, F: Shelf, K: Sink>(
     request: &PageRequest,
     shelf: F,
     out: &mut K,
-) -> Ran<Status, F>
+) -> RunEnd<Status, F>
     ensures answers { AnswersPageRequest D.is_picture F.Shelf request.now shelf result.back
         (K.state out.old) (K.state out.new) result.status }
     ensures stays { SinkStays (K.state out.old) (K.state out.new) }
@@ -192,7 +192,7 @@ pub fn run_page<D: Drawing, F: Shelf, K: Sink>(
     words: &[String],
     shelf: F,
     out: &mut K,
-) -> Ran<Status, F>
+) -> RunEnd<Status, F>
     ensures answers { AnswersPageWords D.is_picture F.Shelf
         (page_request_of (map string_bytes words.now)) shelf result.back
         (K.state out.old) (K.state out.new) result.status }
@@ -209,7 +209,7 @@ pub fn run_page_seeded<D: Drawing, F: Shelf, K: Sink>(
     words: &[String],
     shelf: F,
     out: &mut K,
-) -> Ran<Status, F>
+) -> RunEnd<Status, F>
     ensures answers { AnswersPageWords D.is_picture F.Shelf
         (page_request_of (map string_bytes words.now)) shelf result.back
         (K.state out.old) (K.state out.new) result.status }
@@ -218,7 +218,7 @@ pub fn run_page_seeded<D: Drawing, F: Shelf, K: Sink>(
 {
     match read_page_words(alloc, words) {
         Ok(request) => run_request::<D, F, K>(alloc, seed, &request, shelf, out),
-        Err(fault) => Ran {
+        Err(fault) => RunEnd {
             status: refuse_words::<D, K>(out, fault),
             stop: None,
             back: shelf,

@@ -8,15 +8,15 @@ use Rattle.desk_program.specs.declared.ends.DeskEnd.{DeskEnd}
 use Rattle.desk_program.specs.declared.ends.DeskEnd.TheVariants.{Run, Filed}
 use Rattle.desk_run.specs.TopCall.{DeskAnswers}
 use Rattle.desk_words.specs.Words.{asks_filing, asks_page, desk_request_of}
-use Rattle.digest_files.specs.ClosedFilings.{FilesThenCloses}
-use Rattle.digest_files.specs.FileDigestOpeners.{fresh_digest_opener}
+use Rattle.digest_database_files.specs.ClosedFilings.{FilesThenCloses}
+use Rattle.digest_database_files.specs.FileDigestOpeners.{fresh_digest_opener}
 use Rattle.desk_filing.specs.DigestOpeners.{DigestOpenerState}
 use Rattle.log_source.specs.Sinks.{SinkState}
 use Rattle.log_source.specs.declared.shelf.Shelf.{Ghosts as Shelf}
 use Rattle.desk_page.specs.TopCall.{AnswersPageWords}
 use Rattle.desk_page.specs.Words.{page_request_of}
 use Rattle.rule_drawing.specs.RulePictures.{IsRulePicture}
-use Rattle.stderr_notes.specs.FreshEnds.{IsFreshOver, fresh_sink}
+use Rattle.program_ends.specs.FreshEnds.{IsFreshOver, fresh_sink}
 
 -- the number of the status with which the call ended that was asked
 abbrev pub desk_end_number : DeskEnd → ℕ

@@ -9,10 +9,10 @@ use crate::pictures::RulePictures;
 use desk_page::running::run_page_seeded;
 use desk_run::running::run_desk_seeded;
 use desk_words::commands::{asks_filing, asks_page};
-use digest_files::closing::{ClosingDigests, file_and_close};
+use digest_database_files::closing::{ClosingDigests, file_and_close};
 use log_source::shelf::Shelf;
 use log_source::sink::Sink;
-use log_verdict::runs::Ran;
+use log_verdict::runs::RunEnd;
 use seeded_hash::seed::HashSeed;
 use std::alloc::Global;
 
@@ -24,7 +24,7 @@ pub(crate) fn ask_call<F: Shelf, K: Sink, O: ClosingDigests>(
     shelf: F,
     out: &mut K,
     opener: &mut O,
-) -> Ran<DeskEnd, F>
+) -> RunEnd<DeskEnd, F>
     ensures { DeskAnswersWords F.Shelf O.state O.closes (map string_bytes words.now)
         (record { shelf = shelf; opener = opener.old; sink = K.state out.old })
         (record { shelf = result.back; opener = opener.new; sink = K.state out.new })
@@ -32,7 +32,7 @@ pub(crate) fn ask_call<F: Shelf, K: Sink, O: ClosingDigests>(
 {
     if asks_filing(words) {
         let filed = file_and_close(alloc, seed, words, shelf, out, opener);
-        return Ran {
+        return RunEnd {
             status: DeskEnd::Filed(filed.status),
             stop: filed.stop,
             back: filed.back,
@@ -40,7 +40,7 @@ pub(crate) fn ask_call<F: Shelf, K: Sink, O: ClosingDigests>(
     }
     if asks_page(words) {
         let page = run_page_seeded::<RulePictures, F, K>(alloc, seed, words, shelf, out);
-        return Ran {
+        return RunEnd {
             status: DeskEnd::Run(page.status),
             stop: page.stop,
             back: page.back,
@@ -48,7 +48,7 @@ pub(crate) fn ask_call<F: Shelf, K: Sink, O: ClosingDigests>(
     }
     let mut shelf = shelf;
     let ran = run_desk_seeded(alloc, seed, words, &mut shelf, out);
-    Ran {
+    RunEnd {
         status: DeskEnd::Run(ran.status),
         stop: ran.stop,
         back: shelf,

@@ -2,7 +2,7 @@
 //! output, an opener of databases over files and a random seed are handed to the call that the
 //! first word is for (`calls`), and the number of its status is what the process ends with
 //! (`ends`). Where it is above 1, and where a database was made, one line on standard error says so
-//! (`notes`, `stderr_notes`).
+//! (`notes`, `program_ends`).
 //!
 //! All of it is `answer_command_line`, over any command line, files, output, opener and notes. The
 //! program is one call of it with the runtime's.
@@ -13,9 +13,9 @@ ghost use Rattle.std.specs.String.{string_bytes};
 ghost use Rattle.audit_report.specs.declared.statuses.Status.TheVariants as status;
 ghost use Rattle.desk_program.specs.Answers.{DeskAnswersWords, DeskBegins, DeskBeginsOverUnknown, desk_end_number};
 ghost use Rattle.desk_program.specs.declared.ends.DeskEnd.TheVariants as ended;
-ghost use Rattle.digest_files.specs.FileDigestOpeners.{digest_file_opener_state};
-ghost use Rattle.stderr_notes.specs.CommandLines.{words_of_arguments};
-ghost use Rattle.stderr_notes.specs.ProgramAnswers.{AnswersCommandLine, EndsAsAnswer, EndsAsSomeAnswer};
+ghost use Rattle.digest_database_files.specs.FileDigestOpeners.{digest_file_opener_state};
+ghost use Rattle.program_ends.specs.CommandLines.{words_of_arguments};
+ghost use Rattle.program_ends.specs.ProgramAnswers.{AnswersCommandLine, EndsAsAnswer, EndsAsSomeAnswer};
 
 mod calls;
 pub mod ends;
@@ -27,8 +27,8 @@ use crate::ends::{DeskEnd, exit_code};
 use crate::notes::{names_missing_database, tell, tell_made_database};
 use audit_report::statuses::Status;
 use command_words::arguments::seed_of;
-use digest_files::closing::ClosingDigests;
-use digest_files::file_opener::FileDigestOpener;
+use digest_database_files::closing::ClosingDigests;
+use digest_database_files::file_opener::FileDigestOpener;
 use log_source::file_shelf::FileShelf;
 use log_source::file_system::FileSystem;
 use log_source::output::Output;
@@ -38,14 +38,14 @@ use log_source::std_sink::StdSink;
 use std::io;
 use std::process::ExitCode;
 use std::random::RandomSource;
-use stderr_notes::command_line::{CommandLine, words_of};
-use stderr_notes::noted_shelf::NotedShelf;
-use stderr_notes::notes::Notes;
-use stderr_notes::program_ends::{Ended, UsedEnds, fresh_output, noted_files};
+use program_ends::command_line::{CommandLine, words_of};
+use program_ends::noted_shelf::NotedShelf;
+use program_ends::notes::Notes;
+use program_ends::ends::{ProgramEnd, UsedEnds, fresh_output, noted_files};
 
 /// How a run ended, and the shelf that its logs were read from.
 #[derive(Drop)]
-struct Answered<F> {
+struct DeskRunEnd<F> {
     end: DeskEnd,
     shelf: NotedShelf<F>,
 }
@@ -58,7 +58,7 @@ fn run_words<R: AllocGlobal + RandomSource, F: Shelf, K: Sink, O: ClosingDigests
     out: &mut K,
     opener: &mut O,
     notes: &N,
-) -> Answered<F>
+) -> DeskRunEnd<F>
     ensures { let shelves = ⟦<NotedShelf<F> as Shelf>⟧ in
         DeskAnswersWords shelves O.state O.closes (map string_bytes words.now)
         (record { shelf = shelf; opener = opener.old; sink = K.state out.old })
@@ -68,7 +68,7 @@ fn run_words<R: AllocGlobal + RandomSource, F: Shelf, K: Sink, O: ClosingDigests
     let ran = ask_call(machine.alloc(), seed_of(machine), words, shelf, out, opener);
     tell_made_database(notes, words, was_missing);
     tell(notes, ran.status, words, &ran.back, &ran.stop);
-    Answered {
+    DeskRunEnd {
         end: ran.status,
         shelf: ran.back,
     }
@@ -81,7 +81,7 @@ fn answer_words<
     K: Sink,
     O: ClosingDigests,
     N: Notes,
->(machine: &R, shelf: NotedShelf<F>, out: &mut K, opener: &mut O, notes: &N) -> Answered<F>
+>(machine: &R, shelf: NotedShelf<F>, out: &mut K, opener: &mut O, notes: &N) -> DeskRunEnd<F>
     ensures { let shelves = ⟦<NotedShelf<F> as Shelf>⟧ in
         AnswersCommandLine (DeskAnswersWords shelves O.state O.closes) (ended.Run status.Memory)
         (words_of_arguments (R.known_arguments machine.now))
@@ -90,7 +90,7 @@ fn answer_words<
 {
     match words_of(machine) {
         Ok(words) => run_words(machine, &words, shelf, out, opener, notes),
-        Err(_) => Answered {
+        Err(_) => DeskRunEnd {
             end: DeskEnd::Run(Status::Memory),
             shelf,
         },
@@ -110,7 +110,7 @@ pub fn answer_command_line<
     W: Output + Drop,
     O: ClosingDigests,
     N: Notes,
->(machine: &R, files: S, output: W, opener: &mut O, notes: &N) -> Ended<S, W>
+>(machine: &R, files: S, output: W, opener: &mut O, notes: &N) -> ProgramEnd<S, W>
     ensures { let shelf = ⟦<NotedShelf<FileShelf<S>> as Shelf>⟧ in
         let state = ⟦<StdSink<W> as Sink>⟧.state in
         EndsAsAnswer (DeskAnswersWords shelf O.state O.closes) (ended.Run status.Memory)
@@ -125,7 +125,7 @@ pub fn answer_command_line<
     let shelf = noted_files(machine.alloc(), files);
     let mut out = fresh_output(output);
     let answered = answer_words(machine, shelf, &mut out, opener, notes);
-    Ended {
+    ProgramEnd {
         code: exit_code(answered.end),
         ends: UsedEnds {
             shelf: answered.shelf,

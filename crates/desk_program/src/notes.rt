@@ -6,13 +6,13 @@ use desk_words::commands::asks_filing;
 use log_source::limits::LONGEST_READ;
 use log_source::shelf::Shelf;
 use log_verdict::stops::NoRecords;
-use stderr_notes::database_notes::{
+use program_ends::database_notes::{
     is_database_missing, print_database_fault, print_made_database,
 };
-use stderr_notes::log_notes::print_end;
-use stderr_notes::noted_shelf::NotedShelf;
-use stderr_notes::notes::Notes;
-use stderr_notes::usage_notes::print_desk_usage;
+use program_ends::log_notes::print_end;
+use program_ends::noted_shelf::NotedShelf;
+use program_ends::notes::Notes;
+use program_ends::usage_notes::print_desk_usage;
 
 /// The path of the database, where the words ask for a command with one.
 fn database_of(words: &[String]) -> Option<&str> {

@@ -21,8 +21,8 @@ use Rattle.log_contents.specs.Kinds.{kind_of_order, kinds_of_messages}
 use Rattle.log_contents.specs.Summaries.{LogItems}
 use Rattle.log_source.specs.Calls.{count_after}
 use Rattle.log_source.specs.Sources.{Slot, RoseOrIsFull}
-use Rattle.log_verdict.specs.declared.reading.Unread.{Unread}
-use Rattle.log_verdict.specs.declared.reading.Unread.TheVariants as unread
+use Rattle.log_verdict.specs.declared.reading.ReadingFault.{ReadingFault}
+use Rattle.log_verdict.specs.declared.reading.ReadingFault.TheVariants as unread
 use Rattle.log_verdict.specs.declared.sources.Source.{Source}
 use Rattle.log_verdict.specs.declared.stops.Stop.{Stop}
 use Rattle.log_verdict.specs.declared.stops.Stop.TheVariants as stop
@@ -63,7 +63,7 @@ bad_orders Fix bytes bad e = rw e refl
 
 -- What was answered where a log was not read.
 
-pub unread_decides : {R : Type 0} (r : Reading) (log : Which) (name : List ℕ) (said : List ℕ → Result R BadPlace) (is_answer : List ℕ → Status → List ℕ → Type 0) (why : Unread) (result : Result Answer Stop)
+pub unread_decides : {R : Type 0} (r : Reading) (log : Which) (name : List ℕ) (said : List ℕ → Result R BadPlace) (is_answer : List ℕ → Status → List ℕ → Type 0) (why : ReadingFault) (result : Result Answer Stop)
     → ((bytes : List ℕ) (bad : BadPlace) (s : Status) (text : List ℕ) → said bytes ≡ Err bad → IsVerdictAnswer (Malformed log bad) s text → is_answer bytes s text)
     → IsUnread said r log name why → DecidesUnread log why result → DecidesBytes r log name is_answer result
 unread_decides r log name said is_answer (unread.Bad bad) (Ok answer) answers is decides = record { bytes = is.bytes; read = is.read; holds = answers is.bytes bad answer.status answer.text.items is.holds decides }
@@ -72,7 +72,7 @@ unread_decides r log name said is_answer unread.ReadFault result answers is deci
 unread_decides r log name said is_answer unread.TooLong result answers is decides = rw decides (refl, is)
 unread_decides r log name said is_answer unread.Memory result answers is decides = rw decides tt
 
-pub unread_within : (r : Reading) (log : Which) (why : Unread) (result : Result Answer Stop) → ((why ≡ unread.TooLong → ⊥) → (r.after log).taken ≤ r.limit) → DecidesUnread log why result → StaysWithinAt r log result
+pub unread_within : (r : Reading) (log : Which) (why : ReadingFault) (result : Result Answer Stop) → ((why ≡ unread.TooLong → ⊥) → (r.after log).taken ≤ r.limit) → DecidesUnread log why result → StaysWithinAt r log result
 unread_within r log (unread.Bad bad) result within decides = inr (within (λ e. cc))
 unread_within r log unread.ReadFault result within decides = inr (within (λ e. cc))
 unread_within r log unread.TooLong result within decides = rw decides (inl tt)
@@ -100,7 +100,7 @@ first_leads r name only = (record { at = refl; later = only.later }, ends-at)
     ends-at Trades = only.other
 
 module _ (command : Command) (orders trades : Source) (starts : StartsBoth command orders trades) (stops : BothLogsStop command) (read_all : ReadLogsDecide command) where
-  pub orders_decide : (r : Reading) (why : Unread) (result : Result Answer Stop) → TouchesOnly r Orders
+  pub orders_decide : (r : Reading) (why : ReadingFault) (result : Result Answer Stop) → TouchesOnly r Orders
       → ((bytes : List ℕ) (bad : BadPlace) (s : Status) (text : List ℕ) → records_of_order_log orders.form bytes ≡ Err bad → IsVerdictAnswer (Malformed Orders bad) s text → command.is_answer (bytes ∷ []) s text)
       → IsUnread (records_of_order_log orders.form) r Orders orders.name.now why → DecidesUnread Orders why result → DecidesAnswer r command result
   orders_decide r (unread.Bad bad) (Ok answer) only answers is decides =

@@ -22,7 +22,7 @@ use Rattle.day_symbols.specs.Shares.{symbols_in}
 use Rattle.day_symbols.specs.Symbols.{symbols_of_day}
 use Rattle.day_verdicts.specs.declared.judging.JudgedSymbols.{JudgedSymbols}
 use Rattle.day_verdicts.specs.DayVerdicts.{told_of_symbols}
-use Rattle.day_verdicts.specs.ToldSymbols.{counts_of, day_lines_of, Told, TellsSymbols}
+use Rattle.day_verdicts.specs.SymbolAnswers.{counts_of, day_lines_of, SymbolAnswer, TellsSymbols}
 use Rattle.desk_words.specs.declared.requests.DeskRequest.{DeskRequest}
 use Rattle.desk_words.specs.declared.requests.DeskRequest.TheVariants.{Whole}
 use Rattle.desk_words.specs.declared.requests.WholeRequest.TheVariants.{Audit, Session}
@@ -41,7 +41,7 @@ same_symbols judged counts lines question_text old new status counts_are lines_a
     (subst (λ (l : List ℕ). WroteSymbols judged.counts question_text judged.lines.items old new status → WroteSymbols judged.counts question_text l old new status) lines_are (λ w. w))
 
 -- what is told of symbols, by what is written of it
-same_told : (symbols : List (List ℕ)) (told : List Told) (judged : JudgedSymbols) (question_text : List ℕ) (old new : SinkState) (status : Status) → TellsSymbols symbols told judged
+same_told : (symbols : List (List ℕ)) (told : List SymbolAnswer) (judged : JudgedSymbols) (question_text : List ℕ) (old new : SinkState) (status : Status) → TellsSymbols symbols told judged
     → WroteSymbols judged.counts question_text judged.lines.items old new status → WroteTold symbols told question_text old new status
 same_told symbols told judged question_text old new status tells written =
     same_symbols judged (counts_of told) (day_lines_of symbols told) question_text old new status tells.counts_are tells.lines_are written

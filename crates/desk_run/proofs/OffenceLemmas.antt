@@ -24,9 +24,9 @@ use Rattle.log_verdict.specs.declared.stops.Stop.{Stop}
 use Rattle.log_verdict.specs.LogVerdicts.{Log, records_of_order_log, trades_of_trade_log}
 use Rattle.log_verdict.specs.Steps.{FaultsNeverFall, Reading}
 use Rattle.symbol_offences.specs.declared.questions.OffenceQuestion.{OffenceQuestion}
-use Rattle.symbol_offences.specs.declared.symbol_logs.QuotedRecords.{QuotedRecords}
+use Rattle.symbol_offences.specs.declared.symbol_before_rule.QuotedRecords.{QuotedRecords}
 use Rattle.symbol_offences.specs.OffenceAnswers.{is_absent, GivesOffencesOrStop, IsAnswerByAbsence, IsAnswerByVerdict, IsAnswerToAccepted, IsOffencesAnswer, IsOffencesOfRecords}
-use Rattle.symbol_offences.specs.SymbolLogs.{quoted_records}
+use Rattle.symbol_offences.specs.SymbolBeforeRule.{quoted_records}
 use Rattle.desk_run.specs.Deciding.{request_for_offences}
 use Rattle.desk_run.specs.Requests.{desk_command_of}
 

@@ -21,7 +21,7 @@ use Rattle.day_sessions.specs.JudgedSessions.{AreSessions, told_by_sessions}
 use Rattle.day_symbols.specs.Shares.{DayShare, symbols_in}
 use Rattle.day_symbols.specs.Symbols.{symbols_of_day}
 use Rattle.day_verdicts.specs.DayVerdicts.{AreVerdicts, told_of_symbols}
-use Rattle.day_verdicts.specs.ToldSymbols.{counts_of, day_lines_of, Told}
+use Rattle.day_verdicts.specs.SymbolAnswers.{counts_of, day_lines_of, SymbolAnswer}
 use Rattle.desk_words.specs.declared.requests.NamedLogs.{NamedLogs}
 use Rattle.desk_words.specs.declared.requests.DeskRequest.{DeskRequest}
 use Rattle.desk_words.specs.declared.requests.DeskRequest.TheVariants.{Whole}
@@ -79,7 +79,8 @@ WroteSymbols counts question_text lines old new status =
     (day_line counts question_text ++ lines) old new status
 
 -- exactly what is told of these symbols was written
-abbrev pub WroteTold : List (List ℕ) → List Told → List ℕ → SinkState → SinkState → Status → Type 0
+abbrev pub WroteTold : List (List ℕ) → List SymbolAnswer → List ℕ → SinkState → SinkState
+    → Status → Type 0
 WroteTold symbols told question_text old new status =
     WroteSymbols (counts_of told) question_text (day_lines_of symbols told) old new status
 

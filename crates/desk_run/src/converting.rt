@@ -14,7 +14,7 @@ use audit_base::terms::{Form, Which};
 use command_run::answers::{Answer, done_answer, finding_answer, unread_answer};
 use command_run::laws::one_log_decides;
 use log_source::shelf::Shelf;
-use log_verdict::reading::Collected;
+use log_verdict::reading::CollectedTrades;
 use log_verdict::sources::Source;
 use log_verdict::stops::Stop;
 use std::alloc::Global;
@@ -57,8 +57,8 @@ fn answer_trades<F: Shelf>(
         → StaysWithinAt (reading_by source.now F.Shelf shelf.old shelf.new) Which.Trades result }
 {
     match convert_trades(alloc, shelf, source, into) {
-        Ok(Collected::Trades(text)) => Ok(done_answer(text)),
-        Ok(Collected::Alone(finding)) => Ok(finding_answer(alloc, finding)?),
+        Ok(CollectedTrades::Trades(text)) => Ok(done_answer(text)),
+        Ok(CollectedTrades::Alone(finding)) => Ok(finding_answer(alloc, finding)?),
         Err(unread) => unread_answer(alloc, Which::Trades, unread),
     }
 }

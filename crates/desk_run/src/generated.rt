@@ -7,7 +7,7 @@ ghost use Rattle.desk_words.specs.declared.requests.EarlyRequest.TheVariants.{Or
 ghost use Rattle.log_maker.specs.Generator.{IsCount, IsStart};
 ghost use Rattle.log_source.specs.Sinks.{SinkStays};
 ghost use Rattle.log_verdict.specs.Steps.{Reading};
-ghost use Rattle.audit_base.specs.declared.terms.Which.{Which as AWhich};
+ghost use Rattle.audit_base.specs.declared.terms.Which.{Which as WhichSpec};
 
 use audit_base::terms::Form;
 use audit_report::statuses::Status;
@@ -27,7 +27,7 @@ pub(crate) fn run_orders<K: Sink>(
     requires start { IsStart start }
     requires count { IsCount count }
     ensures stays { SinkStays (K.state out.old) (K.state out.new) }
-    ensures answers { (r : Reading) → ((log : AWhich) → r.after log ≡ r.before log)
+    ensures answers { (r : Reading) → ((log : WhichSpec) → r.after log ≡ r.before log)
         → AnswersCommand r (desk_command_of (Early (Orders start count form)))
         (K.state out.old) (K.state out.new) result }
 {

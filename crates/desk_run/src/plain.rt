@@ -31,13 +31,13 @@ use command_run::writing::write_answer;
 use command_words::paths::PathText;
 use desk_words::dress_words::{DayDress, SohWord};
 use fix_days::faults::BadMessage;
-use fix_days::lines::SohText;
+use fix_days::lines::SohGhost;
 use fix_messages::feeds::frame_reason;
 use log_source::limits::LONGEST_READ;
 use log_source::shelf::Shelf;
 use log_source::sink::Sink;
 use log_source::take::TakeFault;
-use log_verdict::runs::Ran;
+use log_verdict::runs::RunEnd;
 use log_verdict::stops::Stop;
 use plain_logs::day_ends::{DayEnd, PlainFault};
 use plain_logs::logs::{DaySource, write_framed, write_on_lines};
@@ -108,7 +108,7 @@ fn write_day_framed<F: Shelf, K: Sink>(
 
 /// Writes a day whose messages stand on lines, up to its end. The text of `S`, which is `soh`,
 /// stands for SOH in them.
-fn write_day_lines<S: SohText, F: Shelf, K: Sink>(
+fn write_day_lines<S: SohGhost, F: Shelf, K: Sink>(
     alloc: Global,
     shelf: &mut F,
     out: &mut K,
@@ -194,7 +194,7 @@ pub(crate) fn run_plain<F: Shelf, K: Sink>(
     out: &mut K,
     day: &PathText,
     dress: &DayDress,
-) -> Ran<Status, ()>
+) -> RunEnd<Status, ()>
     requires { HasSohWord dress.now }
     ensures logs { KeepsShelfLogs F.Shelf shelf.old shelf.new }
     ensures later { FaultsNeverFall (desk_reading F.Shelf shelf.old shelf.new) }
@@ -212,7 +212,7 @@ pub(crate) fn run_plain<F: Shelf, K: Sink>(
         Err(PlainFault::Log(fault)) => {
             write_answer::<Desk, K>(out, Err(stop_of_take(Which::Orders, fault)))
         }
-        Err(PlainFault::Sink) => Ran {
+        Err(PlainFault::Sink) => RunEnd {
             status: Status::WriteFault,
             stop: None,
             back: (),

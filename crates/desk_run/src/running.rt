@@ -22,7 +22,7 @@ use command_words::requests::WordsFault;
 use desk_words::requests::{DeskRequest, EarlyRequest, WholeRequest, read_desk_words};
 use log_source::shelf::Shelf;
 use log_source::sink::Sink;
-use log_verdict::runs::Ran;
+use log_verdict::runs::RunEnd;
 use seeded_hash::seed::HashSeed;
 use std::alloc::Global;
 
@@ -33,7 +33,7 @@ fn run_whole<F: Shelf, K: Sink>(
     shelf: &mut F,
     out: &mut K,
     request: &WholeRequest,
-) -> Ran<Status, ()>
+) -> RunEnd<Status, ()>
     requires { MayBeAskedWhole request.now }
     ensures logs { KeepsShelfLogs F.Shelf shelf.old shelf.new }
     ensures later { FaultsNeverFall (desk_reading F.Shelf shelf.old shelf.new) }
@@ -54,7 +54,7 @@ fn run_early<F: Shelf, K: Sink>(
     shelf: &mut F,
     out: &mut K,
     request: &EarlyRequest,
-) -> Ran<Status, ()>
+) -> RunEnd<Status, ()>
     requires { MayBeAskedEarly request.now }
     ensures logs { KeepsShelfLogs F.Shelf shelf.old shelf.new }
     ensures later { FaultsNeverFall (desk_reading F.Shelf shelf.old shelf.new) }
@@ -69,7 +69,7 @@ fn run_early<F: Shelf, K: Sink>(
         result.status }
 {
     match request {
-        EarlyRequest::Orders { start, count, form } => Ran {
+        EarlyRequest::Orders { start, count, form } => RunEnd {
             status: run_orders(alloc, out, *start, *count, *form),
             stop: None,
             back: (),
@@ -85,7 +85,7 @@ fn run_request<F: Shelf, K: Sink>(
     shelf: &mut F,
     out: &mut K,
     request: &DeskRequest,
-) -> Ran<Status, ()>
+) -> RunEnd<Status, ()>
     requires { MayBeAskedOfDesk request.now }
     ensures logs { KeepsShelfLogs F.Shelf shelf.old shelf.new }
     ensures later { FaultsNeverFall (desk_reading F.Shelf shelf.old shelf.new) }
@@ -139,7 +139,7 @@ pub fn run_desk_seeded<F: Shelf, K: Sink>(
     words: &[String],
     shelf: &mut F,
     out: &mut K,
-) -> Ran<Status, ()>
+) -> RunEnd<Status, ()>
     ensures { DeskAnswers F.Shelf (desk_request_of (map string_bytes words.now))
         shelf.old shelf.new (K.state out.old) (K.state out.new) result.status }
 {
@@ -148,12 +148,12 @@ pub fn run_desk_seeded<F: Shelf, K: Sink>(
     memory_is_answered::<Desk>();
     match read_desk_words(alloc, words) {
         Ok(request) => run_request(alloc, seed, shelf, out, &request),
-        Err(WordsFault::Usage) => Ran {
+        Err(WordsFault::Usage) => RunEnd {
             status: write_usage::<Desk, K>(out),
             stop: None,
             back: (),
         },
-        Err(WordsFault::Memory) => Ran {
+        Err(WordsFault::Memory) => RunEnd {
             status: Status::Memory,
             stop: None,
             back: (),

@@ -5,4 +5,4 @@
 
 pub mod digested;
 pub mod keeper;
-pub mod memory_keeper;
+pub mod map_digest_keeper;

@@ -13,12 +13,12 @@ use std::alloc::Global;
 
 /// What a command says: the number of its status, and its lines.
 #[derive(Drop)]
-pub(crate) struct Said {
+pub(crate) struct CommandAnswer {
     pub(crate) number: u8,
     pub(crate) lines: Vec<u8>,
 }
 
-impl Said {
+impl CommandAnswer {
     /// Whether it is this status with these lines.
     pub(crate) fn is(&self, number: u8, lines: &str) -> bool {
         self.number == number && self.lines.as_slice() == lines.as_bytes()
@@ -26,8 +26,8 @@ impl Said {
 }
 
 /// What is said without a line.
-pub(crate) fn said_nothing(alloc: Global, number: u8) -> Said {
-    Said {
+pub(crate) fn said_nothing(alloc: Global, number: u8) -> CommandAnswer {
+    CommandAnswer {
         number,
         lines: Vec::new(alloc),
     }
@@ -39,8 +39,8 @@ fn empty_sink(alloc: Global) -> Result<MemorySink, NoMemory> {
 }
 
 /// What a command says that ended with this status.
-fn said_of(alloc: Global, status: CaseStatus, out: &MemorySink) -> Result<Said, NoMemory> {
-    Ok(Said {
+fn said_of(alloc: Global, status: CaseStatus, out: &MemorySink) -> Result<CommandAnswer, NoMemory> {
+    Ok(CommandAnswer {
         number: status.number(),
         lines: Vec::from_slice(alloc, out.bytes())?,
     })
@@ -51,7 +51,7 @@ fn say_over_book<B: Keeper>(
     alloc: Global,
     line: &str,
     book: &mut Casebook<B>,
-) -> Result<Said, NoMemory> {
+) -> Result<CommandAnswer, NoMemory> {
     let words = split_words(alloc, line)?;
     let mut out = empty_sink(alloc)?;
     let mut shelf = shelf_of_logs(alloc)?;
@@ -64,7 +64,7 @@ pub(crate) fn say_over_keeper<B: Keeper>(
     alloc: Global,
     line: &str,
     keeper: B,
-) -> (Result<Said, NoMemory>, B) {
+) -> (Result<CommandAnswer, NoMemory>, B) {
     let mut book = Casebook::new(keeper);
     let said = say_over_book(alloc, line, &mut book);
     (said, book.into_keeper())
@@ -72,8 +72,8 @@ pub(crate) fn say_over_keeper<B: Keeper>(
 
 /// What `desk` says to the words of a filing, and the keeper of what is on file, if it was opened.
 #[derive(Drop)]
-pub(crate) struct Filed<B> {
-    pub(crate) said: Result<Said, NoMemory>,
+pub(crate) struct FilingEnd<B> {
+    pub(crate) said: Result<CommandAnswer, NoMemory>,
     pub(crate) book: Option<B>,
 }
 
@@ -81,12 +81,12 @@ fn try_filing<O: DigestOpener>(
     alloc: Global,
     line: &str,
     opener: &mut O,
-) -> Result<Filed<O::Book>, NoMemory> {
+) -> Result<FilingEnd<O::Book>, NoMemory> {
     let words = split_words(alloc, line)?;
     let mut out = empty_sink(alloc)?;
     let shelf = shelf_of_logs(alloc)?;
     let ran = run_filing(alloc, &words, shelf, &mut out, opener);
-    Ok(Filed {
+    Ok(FilingEnd {
         said: said_of(alloc, ran.status, &out),
         book: ran.back.keeper,
     })
@@ -97,10 +97,10 @@ pub(crate) fn file_by_desk<O: DigestOpener>(
     alloc: Global,
     line: &str,
     opener: &mut O,
-) -> Filed<O::Book> {
+) -> FilingEnd<O::Book> {
     match try_filing(alloc, line, opener) {
         Ok(filed) => filed,
-        Err(fault) => Filed {
+        Err(fault) => FilingEnd {
             said: Err(fault),
             book: None,
         },

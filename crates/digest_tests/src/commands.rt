@@ -1,5 +1,5 @@
 //! Commands over a connection to a database, over any store.
-use crate::calls::{Filed, Said, file_by_desk, said_nothing, say_over_keeper};
+use crate::calls::{FilingEnd, CommandAnswer, file_by_desk, said_nothing, say_over_keeper};
 use crate::connection_opener::ConnectionOpener;
 use crate::keepers::say_together;
 use crate::tables::{append_rows, digest_rows, put_case};
@@ -26,9 +26,9 @@ pub(crate) enum Command {
 }
 
 /// What a command says, and the connection.
-pub(crate) type Answered<S> = (Result<Said, NoMemory>, Connection<S>);
+pub(crate) type AnswerAndConnection<S> = (Result<CommandAnswer, NoMemory>, Connection<S>);
 
-fn by_casebook<S: Alter>(alloc: Global, line: &str, connection: Connection<S>) -> Answered<S> {
+fn by_casebook<S: Alter>(alloc: Global, line: &str, connection: Connection<S>) -> AnswerAndConnection<S> {
     let (said, keeper) = say_over_keeper(alloc, line, SqlKeeper::new(alloc, connection));
     (said, keeper.into_connection())
 }
@@ -37,20 +37,20 @@ fn by_desk<R: AllocGlobal + Abort, S: Alter + Drop>(
     rt: &R,
     line: &str,
     connection: Connection<S>,
-) -> Answered<S> {
+) -> AnswerAndConnection<S> {
     let mut opener = ConnectionOpener::of(rt.alloc(), connection);
-    let Filed { said, book } = file_by_desk(rt.alloc(), line, &mut opener);
+    let FilingEnd { said, book } = file_by_desk(rt.alloc(), line, &mut opener);
     (said, opener.into_connection(rt, book))
 }
 
-fn together<S: Alter>(alloc: Global, connection: Connection<S>) -> Answered<S> {
+fn together<S: Alter>(alloc: Global, connection: Connection<S>) -> AnswerAndConnection<S> {
     let mut keeper = SqlDigestKeeper::new(alloc, connection);
     let said = say_together(alloc, &mut keeper);
     (Ok(said), keeper.into_connection())
 }
 
 /// Says with status 0 that the row was put into the table, and with 1 that it was not.
-fn put<S: Alter>(alloc: Global, columns: &str, mut connection: Connection<S>) -> Answered<S> {
+fn put<S: Alter>(alloc: Global, columns: &str, mut connection: Connection<S>) -> AnswerAndConnection<S> {
     let said = match put_case(alloc, &mut connection, columns) {
         Ok(()) => said_nothing(alloc, 0),
         Err(_) => said_nothing(alloc, 1),
@@ -61,9 +61,9 @@ fn put<S: Alter>(alloc: Global, columns: &str, mut connection: Connection<S>) ->
 /// Appends the rows of digests to what was said, with the status of a keeper that failed where they
 /// are not shown.
 fn with_digests<S: Alter>(
-    mut said: Said,
+    mut said: CommandAnswer,
     connection: &mut Connection<S>,
-) -> Result<Said, NoMemory> {
+) -> Result<CommandAnswer, NoMemory> {
     match digest_rows(connection) {
         Ok(rows) => append_rows(&rows, &mut said.lines)?,
         Err(_) => said.number = 8,
@@ -71,7 +71,7 @@ fn with_digests<S: Alter>(
     Ok(said)
 }
 
-fn show<S: Alter>(alloc: Global, connection: Connection<S>) -> Answered<S> {
+fn show<S: Alter>(alloc: Global, connection: Connection<S>) -> AnswerAndConnection<S> {
     let (said, mut connection) = by_casebook(alloc, "list", connection);
     match said {
         Ok(said) => (with_digests(said, &mut connection), connection),
@@ -84,7 +84,7 @@ pub(crate) fn answer<R: AllocGlobal + Abort, S: Alter + Drop>(
     rt: &R,
     command: Command,
     connection: Connection<S>,
-) -> Answered<S> {
+) -> AnswerAndConnection<S> {
     match command {
         Command::Casebook(line) => by_casebook(rt.alloc(), line, connection),
         Command::Desk(line) => by_desk(rt, line, connection),

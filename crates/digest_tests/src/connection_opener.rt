@@ -1,6 +1,6 @@
 //! An opener of the database of one connection, over any store.
 use case_keeper::keeper::KeepFault;
-use desk_filing::opener::{DigestOpener, Missing};
+use desk_filing::opener::{DigestOpener, MissingDatabase};
 use digest_sqlite::sql_digest_keeper::SqlDigestKeeper;
 use sqlite::{Alter, Connection};
 use std::alloc::Global;
@@ -48,7 +48,7 @@ impl<S: Alter + Drop> DigestOpener for ConnectionOpener<S> {
     ghost state = { λ opener.
         record { tells = false; kept = (λ path. None); faults = opener.faults } };
 
-    fn open(&mut self, _path: &str, _missing: Missing) -> Result<SqlDigestKeeper<S>, KeepFault> {
+    fn open(&mut self, _path: &str, _missing: MissingDatabase) -> Result<SqlDigestKeeper<S>, KeepFault> {
         match self.connection.take() {
             Some(connection) => Ok(SqlDigestKeeper::new(self.alloc, connection)),
             None => {

@@ -1,9 +1,9 @@
 //! Commands over one database on a disk that does not stop, each of which opens and closes it.
 use crate::commands::Command;
-use crate::disks::{Came, come, empty_files};
+use crate::disks::{CommandEnd, come, empty_files};
 use crate::keepers::files_together;
 use audit_base::faults::NoMemory;
-use digest_keeper::memory_keeper::MemoryDigestKeeper;
+use digest_keeper::map_digest_keeper::MapDigestKeeper;
 use std::process::Abort;
 use std::test::Fail;
 
@@ -14,7 +14,7 @@ type CommandRow = (Command, u8, &'static str);
 fn assert_rows<R: AllocGlobal + Abort>(rt: &R, rows: &[CommandRow]) -> Result<(), NoMemory> {
     let mut files = empty_files(rt.alloc(), u64::MAX, u64::MAX);
     for &(command, number, lines) in rows {
-        let Came {
+        let CommandEnd {
             said,
             files: left,
             closed,
@@ -119,7 +119,7 @@ fn filed_and_listed_on_a_disk(rt: HostRuntime) -> Result<(), Fail> {
 #[test]
 fn all_of_a_list_or_none_in_memory(rt: HostRuntime) -> Result<(), Fail> {
     let alloc = rt.alloc();
-    let mut keeper = MemoryDigestKeeper::holding(alloc, Vec::new(alloc), Vec::new(alloc));
+    let mut keeper = MapDigestKeeper::holding(alloc, Vec::new(alloc), Vec::new(alloc));
     assert!(rt; files_together(&mut keeper));
     Ok(())
 }

@@ -3,8 +3,8 @@
 //! A function that has a database of files by its own type takes long to prove, since the proof
 //! goes through all that a database is made of. They are these: what opens, does one command, and
 //! closes. All else speaks of what the command says and of the files.
-use crate::calls::{Said, said_nothing};
-use crate::commands::{Answered, Command, answer};
+use crate::calls::{CommandAnswer, said_nothing};
+use crate::commands::{AnswerAndConnection, Command, answer};
 use audit_base::faults::NoMemory;
 use sqlite::{Connection, FileStore, Files, Options};
 use sqlite_disk::{Crash, Disk, Fuse, Memory};
@@ -55,16 +55,16 @@ fn close<D: Disk + Drop>(connection: Connection<FileStore<D>>) -> (bool, Files<D
 /// What a command came to: what it said, whether the database was closed with no fault, and the
 /// files.
 #[derive(Drop)]
-pub(crate) struct Came<D: Disk> {
-    pub(crate) said: Result<Said, NoMemory>,
+pub(crate) struct CommandEnd<D: Disk> {
+    pub(crate) said: Result<CommandAnswer, NoMemory>,
     pub(crate) closed: bool,
     pub(crate) files: Files<D>,
 }
 
 /// What a command comes to over files that cannot be opened: nothing is said, with the status of a
 /// keeper that failed.
-fn unopened<D: Disk>(alloc: Global, files: Files<D>) -> Came<D> {
-    Came {
+fn unopened<D: Disk>(alloc: Global, files: Files<D>) -> CommandEnd<D> {
+    CommandEnd {
         said: Ok(said_nothing(alloc, 8)),
         closed: false,
         files,
@@ -72,10 +72,10 @@ fn unopened<D: Disk>(alloc: Global, files: Files<D>) -> Came<D> {
 }
 
 /// Closes the database after a command.
-fn come_to<D: Disk + Drop>(answered: Answered<FileStore<D>>) -> Came<D> {
+fn come_to<D: Disk + Drop>(answered: AnswerAndConnection<FileStore<D>>) -> CommandEnd<D> {
     let (said, connection) = answered;
     let (closed, files) = close(connection);
-    Came {
+    CommandEnd {
         said,
         closed,
         files,
@@ -86,7 +86,7 @@ fn come_over<R: AllocGlobal + Abort, D: Disk + Drop>(
     rt: &R,
     command: Command,
     files: Files<D>,
-) -> Came<D> {
+) -> CommandEnd<D> {
     match open(rt.alloc(), files) {
         Ok(connection) => come_to(answer(rt, command, connection)),
         Err(files) => unopened(rt.alloc(), files),
@@ -98,7 +98,7 @@ pub(crate) fn come<R: AllocGlobal + Abort>(
     rt: &R,
     command: Command,
     files: Disks,
-) -> Came<Fuse<Memory>> {
+) -> CommandEnd<Fuse<Memory>> {
     come_over(rt, command, files)
 }
 

@@ -1,5 +1,5 @@
 //! Cases that are filed together, by any keeper.
-use crate::calls::{Said, said_nothing};
+use crate::calls::{CommandAnswer, said_nothing};
 use audit_base::names::read_name;
 use audit_base::terms::Rule;
 use case_keeper::case::Case;
@@ -62,6 +62,6 @@ pub(crate) fn files_together<K: DigestKeeper>(keeper: &mut K) -> bool {
 }
 
 /// Says with status 0 that the cases were filed together, and with 1 that they were not.
-pub(crate) fn say_together<K: DigestKeeper>(alloc: Global, keeper: &mut K) -> Said {
+pub(crate) fn say_together<K: DigestKeeper>(alloc: Global, keeper: &mut K) -> CommandAnswer {
     said_nothing(alloc, u8::from(!files_together(keeper)))
 }

@@ -1,7 +1,7 @@
 //! Filings over files whose machine stops at each of its calls in turn, and which are opened again.
-use crate::calls::Said;
+use crate::calls::CommandAnswer;
 use crate::commands::Command;
-use crate::disks::{Came, Disks, after_crash, come, empty_files};
+use crate::disks::{CommandEnd, Disks, after_crash, come, empty_files};
 use audit_base::faults::NoMemory;
 use std::alloc::Global;
 use std::process::Abort;
@@ -45,15 +45,15 @@ d/Z,9ba927cdc36dc9bf941b6314b22e4a262b2e7100c1ed44ec3aab5b355535af27,\
 
 /// Which file stops: the log, or the database file.
 #[derive(Clone, Copy)]
-enum Stopped {
+enum StoppedFile {
     Log,
     Database,
 }
 
-fn stopping_files(alloc: Global, stopped: Stopped, calls: u64) -> Disks {
+fn stopping_files(alloc: Global, stopped: StoppedFile, calls: u64) -> Disks {
     match stopped {
-        Stopped::Log => empty_files(alloc, calls, u64::MAX),
-        Stopped::Database => empty_files(alloc, u64::MAX, calls),
+        StoppedFile::Log => empty_files(alloc, calls, u64::MAX),
+        StoppedFile::Database => empty_files(alloc, u64::MAX, calls),
     }
 }
 
@@ -64,16 +64,16 @@ struct Run {
     begun: bool,
     done: bool,
     closed: bool,
-    left: Said,
+    left: CommandAnswer,
 }
 
-fn is_done(said: &Said) -> bool {
+fn is_done(said: &CommandAnswer) -> bool {
     said.number == 0
 }
 
 /// What is on file in files as a crash leaves them.
-fn show_after_crash<R: AllocGlobal + Abort>(rt: &R, files: Disks) -> Result<Said, NoMemory> {
-    let Came {
+fn show_after_crash<R: AllocGlobal + Abort>(rt: &R, files: Disks) -> Result<CommandAnswer, NoMemory> {
+    let CommandEnd {
         said,
         closed: _,
         files: _files,
@@ -88,12 +88,12 @@ fn run_stopping<R: AllocGlobal + Abort>(
     files: Disks,
     line: &'static str,
 ) -> Result<Run, NoMemory> {
-    let Came {
+    let CommandEnd {
         said: first,
         closed: first_closed,
         files,
     } = come(rt, Command::Casebook("file c1 fair Z csv o3 e"), files);
-    let Came {
+    let CommandEnd {
         said: second,
         closed: second_closed,
         files,
@@ -118,7 +118,7 @@ struct Stops {
 
 impl Stops {
     /// Counts a stop that left this: whether it is one of the three.
-    fn count(&mut self, left: &Said, whole: &str) -> bool {
+    fn count(&mut self, left: &CommandAnswer, whole: &str) -> bool {
         if left.is(0, "") {
             self.nothing = self.nothing.saturating_add(1);
             return true;
@@ -140,7 +140,7 @@ const MOST_CALLS: u64 = 250;
 /// that was filed.
 fn count_stops<R: AllocGlobal + Abort>(
     rt: &R,
-    stopped: Stopped,
+    stopped: StoppedFile,
     filing: &Filing,
 ) -> Result<Stops, Fail> {
     let mut stops = Stops {
@@ -164,7 +164,7 @@ fn count_stops<R: AllocGlobal + Abort>(
 /// Asserts that so many stops at least leave nothing, the case of `casebook` alone, and all.
 fn assert_stops<R: AllocGlobal + Abort>(
     rt: &R,
-    stopped: Stopped,
+    stopped: StoppedFile,
     filing: &Filing,
     least: (u64, u64, u64),
 ) -> Result<(), Fail> {
@@ -182,12 +182,12 @@ fn assert_stops<R: AllocGlobal + Abort>(
 
 #[test]
 fn file_is_whole_or_not_at_all(rt: HostRuntime) -> Result<(), Fail> {
-    assert_stops(&rt, Stopped::Database, &FILE, (10, 10, 5))?;
-    assert_stops(&rt, Stopped::Log, &FILE, (10, 10, 2))
+    assert_stops(&rt, StoppedFile::Database, &FILE, (10, 10, 5))?;
+    assert_stops(&rt, StoppedFile::Log, &FILE, (10, 10, 2))
 }
 
 #[test]
 fn file_all_is_whole_or_not_at_all(rt: HostRuntime) -> Result<(), Fail> {
-    assert_stops(&rt, Stopped::Database, &FILE_ALL, (10, 20, 5))?;
-    assert_stops(&rt, Stopped::Log, &FILE_ALL, (10, 10, 2))
+    assert_stops(&rt, StoppedFile::Database, &FILE_ALL, (10, 20, 5))?;
+    assert_stops(&rt, StoppedFile::Log, &FILE_ALL, (10, 10, 2))
 }

@@ -6,11 +6,11 @@ ghost use Rattle.log_source.specs.MemoryShelves.{memory_slot};
 use audit_base::faults::NoMemory;
 use audit_base::names::read_name;
 use case_run::statuses::CaseStatus;
-use desk_filing::memory_opener::MemoryDigestOpener;
+use desk_filing::map_digest_opener::MapDigestOpener;
 use desk_filing::running::run_filing;
 use digest_keeper::digested::KeptCase;
 use digest_keeper::keeper::DigestKeeper;
-use digest_keeper::memory_keeper::MemoryDigestKeeper;
+use digest_keeper::map_digest_keeper::MapDigestKeeper;
 use log_source::memory_shelf::MemoryShelf;
 use log_source::memory_sink::MemorySink;
 use std::alloc::Global;
@@ -100,10 +100,10 @@ impl Call {
 
 /// What a call came to.
 #[derive(Drop)]
-pub(crate) struct Came {
+pub(crate) struct CallEnd {
     pub(crate) status: CaseStatus,
     pub(crate) out: MemorySink,
-    pub(crate) book: Option<MemoryDigestKeeper>,
+    pub(crate) book: Option<MapDigestKeeper>,
 }
 
 /// Why a call does not come to what is asked of it.
@@ -150,17 +150,17 @@ fn shelf_of(alloc: Global, fails: u32) -> Result<MemoryShelf, NoMemory>
 }
 
 /// Makes a call.
-pub(crate) fn make_call(alloc: Global, call: &Call) -> Result<Came, NoMemory> {
+pub(crate) fn make_call(alloc: Global, call: &Call) -> Result<CallEnd, NoMemory> {
     let words = split_words(alloc, call.line)?;
     let shelf = shelf_of(alloc, call.shelf_fails)?;
     let sink_fails = Vec::from_slice(alloc, &[call.sink_fails])?;
     let mut out = MemorySink::new(alloc, 4096, 4096, sink_fails)?;
     let opener_fails = Vec::from_slice(alloc, &[call.opener_fails])?;
     let keeper_fails = Vec::from_slice(alloc, &[call.keeper_fails])?;
-    let mut opener = MemoryDigestOpener::new(alloc, call.kept, opener_fails, keeper_fails);
+    let mut opener = MapDigestOpener::new(alloc, call.kept, opener_fails, keeper_fails);
     let ran = run_filing(alloc, &words, shelf, &mut out, &mut opener);
     let (status, book) = (ran.status, ran.back.keeper);
-    Ok(Came { status, out, book })
+    Ok(CallEnd { status, out, book })
 }
 
 /// The case that a call leaves on file under the label `c1`.

@@ -40,12 +40,12 @@ same-unit soh raw more other its x y rest left whole (inr is) (inr it) =
     record { byte = cc both; rest = cc both }
 
 -- of what two fronts of a text stand for, one goes on as the other
-pub record Joined (xs ys : List ℕ) : Type 0 where
+pub record JoinedBodies (xs ys : List ℕ) : Type 0 where
   pub after : List ℕ
   pub later : List ℕ
   pub same : xs ++ after ≡ ys ++ later
 
-pub stands-joined : (soh xs ys raw more other its : List ℕ) → raw ++ more ≡ other ++ its → StandFor soh raw more xs → StandFor soh other its ys → Joined xs ys
+pub stands-joined : (soh xs ys raw more other its : List ℕ) → raw ++ more ≡ other ++ its → StandFor soh raw more xs → StandFor soh other its ys → JoinedBodies xs ys
 stands-joined soh [] ys raw more other its whole is it = record { after = ys; later = []; same = sym (append-nil ys) }
 stands-joined soh (x ∷ xs) [] raw more other its whole is it = record { after = []; later = x ∷ xs; same = append-nil (x ∷ xs) }
 stands-joined soh (x ∷ xs) (y ∷ ys) raw more other its whole is it =

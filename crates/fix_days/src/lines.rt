@@ -27,11 +27,11 @@ use std::mem;
 /// can say of one only which day it has been handed, and not which text it was made for. So the
 /// type of a feed says that. Whoever makes one picks the text, at `Brand`, and nothing of it is
 /// there when the program runs.
-pub trait SohText {
+pub trait SohGhost {
     ghost text: { List ℕ };
 }
 
-impl SohText for Brand {
+impl SohGhost for Brand {
     ghost use Rattle.std.specs.Prelude.{◌∷◌};
     ghost use Rattle.audit_base.specs.Sizes.{soh};
 
@@ -89,7 +89,7 @@ fn drop_front(bytes: &mut Vec<u8>, count: usize)
     }
 }
 
-impl<B: Bodies, S: SohText> LineFeed<B, S> {
+impl<B: Bodies, S: SohGhost> LineFeed<B, S> {
     /// A feed that has been handed no bytes, over a taker that has been handed nothing. `soh` is
     /// the text that stands for SOH in the day.
     pub fn over(alloc: Global, soh: Vec<u8>, bodies: B) -> Self
@@ -259,7 +259,7 @@ impl<B: Bodies, S: SohText> LineFeed<B, S> {
     }
 }
 
-impl<B: Bodies, S: SohText> Feed for LineFeed<B, S> {
+impl<B: Bodies, S: SohGhost> Feed for LineFeed<B, S> {
     ghost stands_for = { IsLineFeedOf S.text B.has_taken };
 
     fn feed(&mut self, piece: &[u8]) -> Result<(), NoMemory> {

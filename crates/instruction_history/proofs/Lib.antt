@@ -12,5 +12,5 @@ pub mod RecordLemmas
 pub mod SideLemmas
 pub mod SoFarLemmas
 pub mod StepLemmas
-pub mod SymbolHistoryLemmas
+pub mod HistoryOrFlawLemmas
 pub mod WellFormedLemmas

@@ -6,14 +6,14 @@ use Rattle.audit_base.specs.declared.orders.Order.{Order}
 use Rattle.audit_base.specs.Histories.{history_finding, order_list}
 use Rattle.instruction_history.specs.declared.history_draft.HistoryDraft.{HistoryDraft}
 use Rattle.instruction_history.specs.MarketPrices.{AreRecordsMarketPriced, AreMarketPriced}
-use Rattle.instruction_history.specs.SymbolHistory.{IsSymbolHistory}
+use Rattle.instruction_history.specs.HistoryOrFlaw.{IsHistoryOrFlaw}
 
 -- the draft of the symbol's history has been handed exactly these records of the order log
 pub record IsHistoryDraft {S : Type 0} (symbol : List ℕ) (draft : HistoryDraft S)
     (entries : List OrderRecord) : Type 0 where
   pub named : draft.symbol ≡ symbol
   pub count : draft.count ≡ length entries
-  pub kept : IsSymbolHistory symbol draft.kept entries
+  pub kept : IsHistoryOrFlaw symbol draft.kept entries
 
 -- a fact of whatever records the draft has been handed
 abbrev pub ForHandedRecords : {S : Type 0} → List ℕ → HistoryDraft S → (List OrderRecord → Type 0)

@@ -3,7 +3,7 @@
 pub mod Answers
 pub mod HistoryDraft
 pub mod MarketPrices
-pub mod SymbolHistory
+pub mod HistoryOrFlaw
 -- What private functions pass on: what is kept while records come, and what a history keeps.
 pub mod Draft
 pub mod History

@@ -6,7 +6,7 @@ ghost use Rattle.instruction_history.specs.Answers.{IfHistoryFinding, IsHistoryA
 ghost use Rattle.instruction_history.specs.MarketPrices.{AreRecordsMarketPriced, AreMarketPriced};
 
 use super::faults::HistoryFault;
-use super::history_draft::{AuditedSymbol, draft_of};
+use super::history_draft::{SymbolGhost, draft_of};
 use super::history_orders::HistoryOrders;
 use super::history_so_far::HistorySoFar;
 use audit_base::names::{Key, Name};
@@ -41,7 +41,7 @@ impl Model for History {
 }
 
 /// The history of the symbol in these records, by a draft that is handed them.
-fn history_of<S: AuditedSymbol>(
+fn history_of<S: SymbolGhost>(
     alloc: Global,
     entries: &[OrderRecord],
     symbol: &Name,

@@ -13,7 +13,7 @@ ghost use Rattle.instruction_history.specs.HistoryDraft.{IsHistoryDraft, ForHand
 ghost use Rattle.log_source.specs.Collectors.{HasPlace};
 
 use super::history::History;
-use super::symbol_history::SymbolHistory;
+use super::history_or_flaw::HistoryOrFlaw;
 use audit_base::faults::NoMemory;
 use audit_base::findings::Finding;
 use audit_base::names::Name;
@@ -27,11 +27,11 @@ use std::marker::{Brand, PhantomData};
 /// one only which records it has been handed, and not which symbol it was made for. So the type of
 /// a draft says that. Whoever makes a draft picks the symbol, at `Brand`, and nothing of it is
 /// there when the program runs.
-pub trait AuditedSymbol {
+pub trait SymbolGhost {
     ghost symbol: { List ℕ };
 }
 
-impl AuditedSymbol for Brand {
+impl SymbolGhost for Brand {
     ghost symbol = { [] };
 }
 
@@ -49,11 +49,11 @@ pub struct HistoryDraft<S> {
     symbol: Name,
     /// How many records of the log there were, of all symbols.
     count: u32,
-    kept: SymbolHistory,
+    kept: HistoryOrFlaw,
     of: PhantomData<S>,
 }
 
-impl<S: AuditedSymbol> HistoryDraft<S> {
+impl<S: SymbolGhost> HistoryDraft<S> {
     /// A draft that has been handed no records, and finds keys by hashes of this
     /// seed. Takes no memory.
     pub fn new(alloc: Global, seed: HashSeed, symbol: Name) -> HistoryDraft<S>
@@ -63,7 +63,7 @@ impl<S: AuditedSymbol> HistoryDraft<S> {
         HistoryDraft {
             symbol,
             count: 0,
-            kept: SymbolHistory::new(alloc, seed),
+            kept: HistoryOrFlaw::new(alloc, seed),
             of: PhantomData,
         }
     }
@@ -94,7 +94,7 @@ impl<S: AuditedSymbol> HistoryDraft<S> {
     }
 }
 
-impl<S: AuditedSymbol> Collector for HistoryDraft<S> {
+impl<S: SymbolGhost> Collector for HistoryDraft<S> {
     ghost use Rattle.audit_base.specs.Orders.{same_name};
 
     type Entry = OrderRecord;
@@ -121,7 +121,7 @@ impl<S: AuditedSymbol> Collector for HistoryDraft<S> {
 }
 
 /// The draft that has been handed these records.
-pub(crate) fn draft_of<S: AuditedSymbol>(
+pub(crate) fn draft_of<S: SymbolGhost>(
     alloc: Global,
     entries: &[OrderRecord],
     symbol: &Name,

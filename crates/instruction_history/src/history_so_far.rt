@@ -8,7 +8,7 @@ ghost use Rattle.audit_base.specs.Histories.{key_of};
 ghost use Rattle.audit_base.specs.declared.orders.Order.{Order};
 ghost use Rattle.instruction_history.specs.Draft as draft;
 ghost use Rattle.instruction_history.specs.Flaws.{flaw_finding, NamesNoOrder};
-ghost use Rattle.order_list.specs.declared.keys.Keys.{Keys as AKeys};
+ghost use Rattle.order_list.specs.declared.keys.Keys.{Keys as KeysSpec};
 ghost use Rattle.order_list.specs.Keys.{record_seen_in, key_in, HasNumber, IsNumbered};
 ghost use Rattle.order_list.specs.Stored.{order_with, orders_of, AreKeysNumbered};
 
@@ -72,9 +72,9 @@ fn target_of(orders: &OrderList<'_>, keys: &Keys, entry: &OrderRecord) -> Option
 /// Ends the order at an index, unless an earlier record did.
 fn end(orders: &mut Vec<StoredOrder>, target: usize, place: u32)
     requires { target < vec_len orders.old }
-    ensures items { (keys : AKeys) → orders_of keys orders.new.items
+    ensures items { (keys : KeysSpec) → orders_of keys orders.new.items
         ≡ draft.with_target_ended (orders_of keys orders.old.items) (Some target) place }
-    ensures numbered { (keys : AKeys) → AreKeysNumbered keys orders.old.items
+    ensures numbered { (keys : KeysSpec) → AreKeysNumbered keys orders.old.items
         → AreKeysNumbered keys orders.new.items }
     ensures len { vec_len orders.new ≡ vec_len orders.old }
 {
@@ -85,9 +85,9 @@ fn end(orders: &mut Vec<StoredOrder>, target: usize, place: u32)
 /// Ends the target.
 fn end_target(orders: &mut Vec<StoredOrder>, target: Option<usize>, place: u32)
     requires { ForSome target (λ t. t < vec_len orders.old) }
-    ensures items { (keys : AKeys) → orders_of keys orders.new.items
+    ensures items { (keys : KeysSpec) → orders_of keys orders.new.items
         ≡ draft.with_target_ended (orders_of keys orders.old.items) target place }
-    ensures numbered { (keys : AKeys) → AreKeysNumbered keys orders.old.items
+    ensures numbered { (keys : KeysSpec) → AreKeysNumbered keys orders.old.items
         → AreKeysNumbered keys orders.new.items }
     ensures len { vec_len orders.new ≡ vec_len orders.old }
 {
@@ -116,11 +116,11 @@ fn own_end(orders: &OrderList<'_>, target: Option<usize>, place: u32) -> Option<
 /// One more order.
 fn push(orders: &mut Vec<StoredOrder>, parts: &OrderParts) -> Result<(), NoMemory>
     requires { IfSome parts.now.target (λ t. t < 4294967295) }
-    ensures items { (keys : AKeys) →
+    ensures items { (keys : KeysSpec) →
         let order = order_with (key_in keys parts.now.number) parts.now in
         OnOk result (orders_of keys orders.new.items
         ≡ orders_of keys orders.old.items ++ order ∷ []) }
-    ensures numbered { (keys : AKeys) → IsNumbered keys parts.now.number
+    ensures numbered { (keys : KeysSpec) → IsNumbered keys parts.now.number
         → AreKeysNumbered keys orders.old.items
         → OnOk result (AreKeysNumbered keys orders.new.items) }
 {
@@ -139,12 +139,13 @@ fn push_order(
     number: KeyNumber,
 ) -> Result<(), NoMemory>
     requires { IfSome target (λ t. t < 4294967295) }
-    ensures items { (keys : AKeys) (before : List Order) → HasNumber keys (key_of entry.now) number
+    ensures items { (keys : KeysSpec) (before : List Order)
+        → HasNumber keys (key_of entry.now) number
         → own_end ≡ draft.own_end before target place →
         let order = draft.order_by_target before entry.now target place in
         OnOk result (orders_of keys orders.new.items
         ≡ draft.orders_with_own (orders_of keys orders.old.items) order) }
-    ensures numbered { (keys : AKeys) → IsNumbered keys number
+    ensures numbered { (keys : KeysSpec) → IsNumbered keys number
         → AreKeysNumbered keys orders.old.items
         → OnOk result (AreKeysNumbered keys orders.new.items) }
 {

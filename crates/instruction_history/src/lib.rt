@@ -16,4 +16,4 @@ pub mod history;
 pub mod history_draft;
 pub mod history_orders;
 mod history_so_far;
-pub mod symbol_history;
+pub mod history_or_flaw;

@@ -15,8 +15,8 @@ use Rattle.log_contents.specs.Contents.{HasCsvRecords, HasKinds, HasRecords}
 use Rattle.log_contents.specs.Kinds.{kinds_of_messages}
 use Rattle.log_contents.specs.MessageFeeds.{HasContents}
 use Rattle.log_contents.specs.Summaries.{IsSummaryOf, log_items}
-use Rattle.log_verdict.specs.declared.reading.Unread.{Unread}
-use Rattle.log_verdict.specs.declared.reading.Unread.TheVariants as unread
+use Rattle.log_verdict.specs.declared.reading.ReadingFault.{ReadingFault}
+use Rattle.log_verdict.specs.declared.reading.ReadingFault.TheVariants as unread
 use Rattle.log_verdict.specs.Collecting.{unread_of_log, IsUnread}
 use Rattle.log_verdict.specs.Steps.{Reading, IsRead, step_of}
 use Rattle.log_contents.specs.DayItems.{csv_items, fix_items}
@@ -52,7 +52,7 @@ fix-unread meaning r log name bytes (fault.Bad bad) read is = record { bytes = b
 fix-unread meaning r log name bytes fault.Memory read is = tt
 
 -- a log that is not read by what it says is not read by what follows of it
-pub unread-on : {R T : Type 0} (meaning : List ℕ → Result R BadPlace) (other : List ℕ → Result T BadPlace) (r : Reading) (log : Which) (name : List ℕ) (why : Unread)
+pub unread-on : {R T : Type 0} (meaning : List ℕ → Result R BadPlace) (other : List ℕ → Result T BadPlace) (r : Reading) (log : Which) (name : List ℕ) (why : ReadingFault)
     → ((bytes : List ℕ) (bad : BadPlace) → meaning bytes ≡ Err bad → other bytes ≡ Err bad) → IsUnread meaning r log name why → IsUnread other r log name why
 unread-on meaning other r log name (unread.Bad bad) on is = record { bytes = is.bytes; read = is.read; holds = on is.bytes bad is.holds }
 unread-on meaning other r log name unread.ReadFault on is = is

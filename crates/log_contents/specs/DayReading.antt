@@ -4,7 +4,7 @@ use Rattle.audit_base.specs.declared.faults.BadPlace.{BadPlace}
 use Rattle.audit_base.specs.declared.terms.Which.{Which}
 use Rattle.log_contents.specs.declared.summaries.Summary.{Summary}
 use Rattle.log_contents.specs.Summaries.{IsSummaryOf, LogItems}
-use Rattle.log_verdict.specs.declared.reading.Unread.{Unread}
+use Rattle.log_verdict.specs.declared.reading.ReadingFault.{ReadingFault}
 use Rattle.log_verdict.specs.Collecting.{IsUnread}
 use Rattle.log_verdict.specs.Steps.{Reading, IsReadAs}
 
@@ -17,7 +17,7 @@ pub record HasSummary (said : Result LogItems BadPlace) (summary : Summary) : Ty
 -- the log of this name was read to its end, and this is told of what it has; or it was not read
 -- into records, for a cause
 abbrev pub GivesSummary : {R : Type 0} → (List ℕ → Result LogItems BadPlace)
-    → (List ℕ → Result R BadPlace) → Reading → Which → List ℕ → Result Summary Unread → Type 0
+    → (List ℕ → Result R BadPlace) → Reading → Which → List ℕ → Result Summary ReadingFault → Type 0
 GivesSummary items_of records_of r log name result =
     MatchResult result
     (λ summary. IsReadAs r log name (λ bytes. HasSummary (items_of bytes) summary))

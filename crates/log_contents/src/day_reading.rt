@@ -24,7 +24,7 @@ use fix_messages::entries::FixRecord;
 use fix_messages::meanings::Report;
 use log_source::pump::pump;
 use log_source::shelf::Shelf;
-use log_verdict::reading::Unread;
+use log_verdict::reading::ReadingFault;
 use log_verdict::sources::Source;
 use std::alloc::Global;
 
@@ -35,7 +35,7 @@ fn read_csv<F: Shelf, R: CsvRecord + KindRecord>(
     shelf: &mut F,
     which: Which,
     source: &Source<'_>,
-) -> Result<Summary, Unread>
+) -> Result<Summary, ReadingFault>
     requires limit { source.now.limit ≤ longest_read }
     ensures logs { KeepsShelfLogs F.Shelf shelf.old shelf.new }
     ensures only { TouchesOnly (reading_by source.now F.Shelf shelf.old shelf.new) which }
@@ -43,7 +43,7 @@ fn read_csv<F: Shelf, R: CsvRecord + KindRecord>(
         let items = csv_items R.symbol_of R.time_of R.kind_of in
         GivesSummary (λ bytes. items (records bytes)) records
         (reading_by source.now F.Shelf shelf.old shelf.new) which source.now.name.now result }
-    ensures within { result ≢ Err Unread.TooLong
+    ensures within { result ≢ Err ReadingFault.TooLong
         → (F.slot shelf.new which).taken ≤ source.now.limit }
 {
     let contents: Contents<R> = Contents::new(alloc, source.seed);
@@ -51,7 +51,7 @@ fn read_csv<F: Shelf, R: CsvRecord + KindRecord>(
     pump(shelf, which, source.name, source.limit, &mut feed)?;
     match feed.close() {
         Ok(contents) => Ok(contents.summary()),
-        Err(fault) => Err(Unread::from(fault)),
+        Err(fault) => Err(ReadingFault::from(fault)),
     }
 }
 
@@ -61,7 +61,7 @@ fn read_fix<F: Shelf, R: FixRecord + TimedRecord>(
     shelf: &mut F,
     which: Which,
     source: &Source<'_>,
-) -> Result<Summary, Unread>
+) -> Result<Summary, ReadingFault>
     requires limit { source.now.limit ≤ longest_read }
     ensures logs { KeepsShelfLogs F.Shelf shelf.old shelf.new }
     ensures only { TouchesOnly (reading_by source.now F.Shelf shelf.old shelf.new) which }
@@ -70,14 +70,14 @@ fn read_fix<F: Shelf, R: FixRecord + TimedRecord>(
         let kinds = kinds_of_messages R.meaning in
         GivesSummary (λ bytes. items (records bytes) (kinds bytes)) records
         (reading_by source.now F.Shelf shelf.old shelf.new) which source.now.name.now result }
-    ensures within { result ≢ Err Unread.TooLong
+    ensures within { result ≢ Err ReadingFault.TooLong
         → (F.slot shelf.new which).taken ≤ source.now.limit }
 {
     let mut feed: MessageFeed<R> = MessageFeed::new(alloc, source.seed);
     pump(shelf, which, source.name, source.limit, &mut feed)?;
     match feed.close() {
         Ok(contents) => Ok(contents.summary()),
-        Err(fault) => Err(Unread::from(fault)),
+        Err(fault) => Err(ReadingFault::from(fault)),
     }
 }
 
@@ -88,7 +88,7 @@ pub fn summary_of_orders<F: Shelf>(
     alloc: Global,
     shelf: &mut F,
     source: &Source<'_>,
-) -> Result<Summary, Unread>
+) -> Result<Summary, ReadingFault>
     requires limit { source.now.limit ≤ longest_read }
     ensures logs { KeepsShelfLogs F.Shelf shelf.old shelf.new }
     ensures only { TouchesOnly (reading_by source.now F.Shelf shelf.old shelf.new) Which.Orders }
@@ -96,7 +96,7 @@ pub fn summary_of_orders<F: Shelf>(
         (records_of_order_log source.now.form)
         (reading_by source.now F.Shelf shelf.old shelf.new) Which.Orders
         source.now.name.now result }
-    ensures within { result ≢ Err Unread.TooLong
+    ensures within { result ≢ Err ReadingFault.TooLong
         → (F.slot shelf.new Which.Orders).taken ≤ source.now.limit }
 {
     match source.form {
@@ -110,14 +110,14 @@ pub fn summary_of_trades<F: Shelf>(
     alloc: Global,
     shelf: &mut F,
     source: &Source<'_>,
-) -> Result<Summary, Unread>
+) -> Result<Summary, ReadingFault>
     requires limit { source.now.limit ≤ longest_read }
     ensures logs { KeepsShelfLogs F.Shelf shelf.old shelf.new }
     ensures only { TouchesOnly (reading_by source.now F.Shelf shelf.old shelf.new) Which.Trades }
     ensures read { GivesSummary (trade_log_items source.now.form) (trade_log_items source.now.form)
         (reading_by source.now F.Shelf shelf.old shelf.new) Which.Trades
         source.now.name.now result }
-    ensures within { result ≢ Err Unread.TooLong
+    ensures within { result ≢ Err ReadingFault.TooLong
         → (F.slot shelf.new Which.Trades).taken ≤ source.now.limit }
 {
     match source.form {

@@ -4,7 +4,7 @@ ghost use Rattle.std.specs.Prelude.{◌≤◌};
 use crate::digest_shelf::DigestShelf;
 use crate::digests::digest_log;
 use crate::digits::read_digest;
-use crate::feeds::{DigestFeed, Digesting};
+use crate::feeds::{DigestFeed, DigestingFeed};
 use crate::lines::digest_text;
 use audit_base::faults::NoMemory;
 use audit_base::terms::Which;
@@ -65,7 +65,7 @@ fn empty_logs(rt: HostRuntime) -> Result<(), Fail> {
 
 #[test]
 fn a_digest_beside_what_another_feed_keeps(rt: HostRuntime) -> Result<(), Fail> {
-    let mut feed = Digesting::over(DigestFeed::new());
+    let mut feed = DigestingFeed::over(DigestFeed::new());
     feed.feed(b"a")?;
     feed.feed(b"bc")?;
     let (digest, other) = feed.end();

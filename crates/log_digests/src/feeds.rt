@@ -65,37 +65,37 @@ impl Feed for DigestFeed {
 /// A feed that keeps the hash of what it is handed beside what another feed keeps of it: each
 /// piece is handed to both.
 #[derive(Drop)]
-pub struct Digesting<D> {
+pub struct DigestingFeed<D> {
     digest: DigestFeed,
     feed: D,
 }
 
-impl<D: Feed> Digesting<D> {
+impl<D: Feed> DigestingFeed<D> {
     /// A feed that has been handed no bytes, over one that has been handed none.
     pub fn over(feed: D) -> Self
         requires { D.stands_for feed [] }
-        ensures { ⟦<Digesting<D> as Feed>⟧.stands_for result [] }
+        ensures { ⟦<DigestingFeed<D> as Feed>⟧.stands_for result [] }
     {
-        Digesting {
+        DigestingFeed {
             digest: DigestFeed::new(),
             feed,
         }
     }
 }
 
-impl<D: Feed + Drop> Digesting<D> {
+impl<D: Feed + Drop> DigestingFeed<D> {
     /// The digest of all that it was handed, and the other feed, which was handed the same.
     pub fn end(self) -> (LogDigest, D)
-        ensures digest { (bytes : List ℕ) → ⟦<Digesting<D> as Feed>⟧.stands_for self bytes
+        ensures digest { (bytes : List ℕ) → ⟦<DigestingFeed<D> as Feed>⟧.stands_for self bytes
             → result.0 ≡ digest_of bytes }
-        ensures feed { (bytes : List ℕ) → ⟦<Digesting<D> as Feed>⟧.stands_for self bytes
+        ensures feed { (bytes : List ℕ) → ⟦<DigestingFeed<D> as Feed>⟧.stands_for self bytes
             → D.stands_for result.1 bytes }
     {
         (self.digest.digest(), self.feed)
     }
 }
 
-impl<D: Feed> Feed for Digesting<D> {
+impl<D: Feed> Feed for DigestingFeed<D> {
     ghost use Rattle.log_digests.specs.Digests.{StandsForBoth};
 
     ghost stands_for = { λ both bytes.

@@ -12,7 +12,7 @@ use std::marker::{Brand, PhantomData};
 
 /// The logs of a shelf, for proofs alone. Whoever takes a shelf picks them, at `Brand`, and nothing
 /// of them is there when the program runs.
-pub trait ShelfLogs {
+pub trait ShelfGhost {
     // Whether the bytes of its logs are known.
     ghost tells: { Bool };
 
@@ -20,7 +20,7 @@ pub trait ShelfLogs {
     ghost log_of: { Which → List ℕ → Option (List ℕ) };
 }
 
-impl ShelfLogs for Brand {
+impl ShelfGhost for Brand {
     ghost tells = { false };
 
     ghost log_of = { λ which name. None };
@@ -28,7 +28,7 @@ impl ShelfLogs for Brand {
 
 /// A shelf that has these logs. To contracts it is the shelf below. It takes no memory.
 #[derive(Drop)]
-pub struct SameLogs<L: ShelfLogs, F: Shelf> {
+pub struct SameLogs<L: ShelfGhost, F: Shelf> {
     shelf: F,
     of: PhantomData<L>,
     ghost tells_stays: { F.tells shelf ≡ L.tells },
@@ -36,7 +36,7 @@ pub struct SameLogs<L: ShelfLogs, F: Shelf> {
         F.log_of shelf which name ≡ L.log_of which name },
 }
 
-impl<L: ShelfLogs, F: Shelf> SameLogs<L, F> {
+impl<L: ShelfGhost, F: Shelf> SameLogs<L, F> {
     /// The shelf, which has these logs now.
     pub fn of(shelf: F) -> SameLogs<L, F>
         requires tells { F.tells shelf ≡ L.tells }
@@ -66,7 +66,7 @@ impl<L: ShelfLogs, F: Shelf> SameLogs<L, F> {
     }
 }
 
-impl<L: ShelfLogs, F: Shelf> Shelf for SameLogs<L, F> {
+impl<L: ShelfGhost, F: Shelf> Shelf for SameLogs<L, F> {
     ghost tells = { λ same. F.tells same.shelf };
 
     ghost log_of = { λ same. F.log_of same.shelf };

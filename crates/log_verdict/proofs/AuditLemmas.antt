@@ -14,8 +14,8 @@ use Rattle.audit_base.specs.Orders.{same_name}
 use Rattle.audit_base.specs.Trades.{deal_of_trade, deals_of_symbol, trades_of_symbol, trades_finding}
 use Rattle.matching_core.specs.declared.deals_draft.ResolvedTrades.{ResolvedTrades}
 use Rattle.record_verdict.specs.declared.before_rule.BeforeRule.TheVariants as before_rule
-use Rattle.log_verdict.specs.declared.reading.Collected.{Collected}
-use Rattle.log_verdict.specs.declared.reading.Collected.TheVariants as collected
+use Rattle.log_verdict.specs.declared.reading.CollectedTrades.{CollectedTrades}
+use Rattle.log_verdict.specs.declared.reading.CollectedTrades.TheVariants as collected
 use Rattle.record_verdict.specs.declared.scopes.Scope.{Scope}
 use Rattle.record_verdict.specs.Scopes.{finding_before_rule_in_scope, unadmitted_order_finding}
 use Rattle.log_verdict.specs.declared.sources.Source.{Source}
@@ -61,7 +61,7 @@ ended_before scope entries ts ended is end = by_finding ended.finding refl
 
 module _ (r : Reading) (scope : Scope) (trades : Source) (entries : List OrderRecord) where
   -- the trade log was read, and whatever it says, this is found
-  pub after_any : {K : Type 0} (has_taken : K → List TradeRecord → Type 0) (kept : Collected K) (finding : Finding)
+  pub after_any : {K : Type 0} (has_taken : K → List TradeRecord → Type 0) (kept : CollectedTrades K) (finding : Finding)
       → ((paired : Result (List TradeRecord) Finding) → finding_before_rule_in_scope scope entries paired ≡ Some finding)
       → IsReadAs r Trades trades.name.now (λ bytes. HasCollected has_taken kept (trades_of_trade_log trades.form bytes)) → ReadsTrades r trades (λ paired. IsBeforeRule scope entries paired (before_rule.Found finding)) (λ bad. ⊥)
   after_any has_taken (collected.Trades collector) finding found is =

@@ -11,8 +11,8 @@ use Rattle.audit_base.specs.declared.terms.Which.TheVariants.{Orders, Trades}
 use Rattle.log_source.specs.declared.shelf.Shelf.{Ghosts as Shelf}
 use Rattle.log_source.specs.Calls.{count_after}
 use Rattle.log_source.specs.Sources.{Slot, RoseOrIsFull}
-use Rattle.log_verdict.specs.declared.reading.Unread.{Unread}
-use Rattle.log_verdict.specs.declared.reading.Unread.TheVariants as unread
+use Rattle.log_verdict.specs.declared.reading.ReadingFault.{ReadingFault}
+use Rattle.log_verdict.specs.declared.reading.ReadingFault.TheVariants as unread
 use Rattle.log_verdict.specs.declared.sources.Source.{Source}
 use Rattle.log_verdict.specs.declared.stops.NoRecords.{NoRecords}
 use Rattle.log_verdict.specs.declared.stops.NoRecords.TheVariants as norecords
@@ -138,7 +138,7 @@ module _ (first second : Reading) (after : Follows first second) where
       (stays (subst (λ (n : ℕ). (second.before Trades).taken ≤ n) (sym after.limit) (subst (λ (s : Slot). s.taken ≤ first.limit) (sym after.trades) (begins Trades))))
 
 -- where the order log was not read into records, after which the trade log is left alone
-pub orders-unread : (r : Reading) (orders trades : Source) (why : Unread) → IsUnread (records_of_order_log orders.form) r Orders orders.name.now why → IsUntouched r Trades
+pub orders-unread : (r : Reading) (orders trades : Source) (why : ReadingFault) → IsUnread (records_of_order_log orders.form) r Orders orders.name.now why → IsUntouched r Trades
     → IsUnreadOfTwoLogs r orders trades (no_records Orders why)
 orders-unread r orders trades (unread.Bad bad) is same = record { bytes = is.bytes; read = is.read; holds = rw is.holds ((refl, refl), same) }
 orders-unread r orders trades unread.ReadFault is same = record { in_turn = same; fault = is }
@@ -146,21 +146,21 @@ orders-unread r orders trades unread.TooLong is same = record { in_turn = same; 
 orders-unread r orders trades unread.Memory is same = tt
 
 -- where the trade log was not
-pub trades-unread : (r : Reading) (trades : Source) (why : Unread) → IsUnread (trades_of_trade_log trades.form) r Trades trades.name.now why → IsUnreadTrades r trades (no_records Trades why)
+pub trades-unread : (r : Reading) (trades : Source) (why : ReadingFault) → IsUnread (trades_of_trade_log trades.form) r Trades trades.name.now why → IsUnreadTrades r trades (no_records Trades why)
 trades-unread r trades (unread.Bad bad) is = (refl, is)
 trades-unread r trades unread.ReadFault is = (refl, is)
 trades-unread r trades unread.TooLong is = (refl, is)
 trades-unread r trades unread.Memory is = tt
 
 -- then the slots stay within the limit, unless a log is too long
-pub orders-within : {T : Type 0} (r : Reading) (why : Unread) (result : Result T NoRecords) → result ≡ Err (no_records Orders why) → ((why ≡ unread.TooLong → ⊥) → (r.after Orders).taken ≤ r.limit)
+pub orders-within : {T : Type 0} (r : Reading) (why : ReadingFault) (result : Result T NoRecords) → result ≡ Err (no_records Orders why) → ((why ≡ unread.TooLong → ⊥) → (r.after Orders).taken ≤ r.limit)
     → IsUntouched r Trades → ReadsWithin r result
 orders-within r (unread.Bad bad) result is within same begins = rw is (inr (ends-within r (within (λ e. cc)) (subst (λ (s : Slot). s.taken ≤ r.limit) (sym same) (begins Trades))))
 orders-within r unread.ReadFault result is within same begins = rw is (inr (ends-within r (within (λ e. cc)) (subst (λ (s : Slot). s.taken ≤ r.limit) (sym same) (begins Trades))))
 orders-within r unread.TooLong result is within same begins = rw is (inl tt)
 orders-within r unread.Memory result is within same begins = rw is (inr (ends-within r (within (λ e. cc)) (subst (λ (s : Slot). s.taken ≤ r.limit) (sym same) (begins Trades))))
 
-pub trades-within : {T : Type 0} (r : Reading) (why : Unread) (result : Result T NoRecords) → result ≡ Err (no_records Trades why) → ((why ≡ unread.TooLong → ⊥) → (r.after Trades).taken ≤ r.limit)
+pub trades-within : {T : Type 0} (r : Reading) (why : ReadingFault) (result : Result T NoRecords) → result ≡ Err (no_records Trades why) → ((why ≡ unread.TooLong → ⊥) → (r.after Trades).taken ≤ r.limit)
     → ReadsWithinAt r Trades result
 trades-within r (unread.Bad bad) result is within = rw is (inr (within (λ e. cc)))
 trades-within r unread.ReadFault result is within = rw is (inr (within (λ e. cc)))

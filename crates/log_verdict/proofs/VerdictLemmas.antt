@@ -4,9 +4,9 @@ use Rattle.std.specs.Prelude.{Result}
 use Rattle.audit_report.specs.declared.verdicts.Verdict.TheVariants.{Malformed}
 use Rattle.record_verdict.specs.declared.before_rule.BeforeRule.{BeforeRule}
 use Rattle.record_verdict.specs.declared.questions.Question.{Question}
-use Rattle.record_verdict.specs.declared.verdicts.Judged.{Judged}
+use Rattle.record_verdict.specs.declared.verdicts.RecordVerdict.{RecordVerdict}
 use Rattle.record_verdict.specs.BeforeRule.{IsBeforeRule}
-use Rattle.record_verdict.specs.Judged.{as_verdict}
+use Rattle.record_verdict.specs.RecordVerdict.{as_verdict}
 use Rattle.record_verdict.specs.RecordVerdicts.{IsRecordVerdict}
 use Rattle.record_verdict.specs.Scopes.{scope_of}
 use Rattle.record_verdict.specs.Stages.{IsVerdictAfterStages}
@@ -18,7 +18,7 @@ use Rattle.log_verdict.specs.Steps.{Reading}
 use Rattle.log_verdict.proofs.JoinLemmas.{reads-bad, reads-good}
 
 -- the verdict on what both logs give is the verdict on both
-pub reads-verdict : (r : Reading) (q : Question) (orders trades : Source) (reached : BeforeRule) (v : Judged)
+pub reads-verdict : (r : Reading) (q : Question) (orders trades : Source) (reached : BeforeRule) (v : RecordVerdict)
     → ReadsLogs r orders trades (λ entries paired. IsBeforeRule (scope_of q) entries paired reached) (λ log bad. ⊥) → IsVerdictAfterStages q reached v → ReadsVerdict r q orders trades (as_verdict v)
 reads-verdict r q orders trades reached v read is =
     reads-good r orders trades (λ entries paired. IsBeforeRule (scope_of q) entries paired reached) (λ entries paired. IsRecordVerdict q entries paired (as_verdict v)) (λ log bad. as_verdict v ≡ Malformed log bad) is.of_records read

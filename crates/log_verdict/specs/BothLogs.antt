@@ -14,8 +14,8 @@ use Rattle.log_verdict.specs.declared.stops.Stop.{Stop}
 use Rattle.log_verdict.specs.declared.stops.Stop.TheVariants as stop
 use Rattle.log_verdict.specs.declared.stops.NoRecords.{NoRecords}
 use Rattle.log_verdict.specs.declared.stops.NoRecords.TheVariants as norecords
-use Rattle.log_verdict.specs.declared.reading.Unread.{Unread}
-use Rattle.log_verdict.specs.declared.reading.Unread.TheVariants as unread
+use Rattle.log_verdict.specs.declared.reading.ReadingFault.{ReadingFault}
+use Rattle.log_verdict.specs.declared.reading.ReadingFault.TheVariants as unread
 use Rattle.record_verdict.specs.declared.questions.Question.{Question}
 use Rattle.log_verdict.specs.declared.sources.Source.{Source}
 use Rattle.log_verdict.specs.LogVerdicts.{records_of_order_log, trades_of_trade_log}
@@ -97,7 +97,7 @@ IsStopOfTwoLogs r orders trades (stop.TooLong log) = StopsAtLength r orders trad
 IsStopOfTwoLogs r orders trades stop.Memory = Unit {0}
 
 -- why two logs were not read into records, where this one was not
-abbrev pub no_records : Which → Unread → NoRecords
+abbrev pub no_records : Which → ReadingFault → NoRecords
 no_records log (unread.Bad bad) = norecords.Malformed log bad
 no_records log unread.ReadFault = norecords.Stopped (stop.ReadFault log)
 no_records log unread.TooLong = norecords.Stopped (stop.TooLong log)

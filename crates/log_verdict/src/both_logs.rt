@@ -15,17 +15,17 @@ ghost use Rattle.log_verdict.specs.Collecting.{TouchesOnly};
 ghost use Rattle.log_verdict.specs.Steps.{reading_by, KeepsShelfLogs, FaultsNeverFall};
 ghost use Rattle.record_verdict.specs.BeforeRule.{IsBeforeRule, IsJudgeable};
 
-use crate::reading::{Collected, collect_orders, collect_trades};
+use crate::reading::{CollectedTrades, collect_orders, collect_trades};
 use crate::sources::Source;
 use crate::stops::NoRecords;
 use audit_base::findings::Finding;
 use audit_base::records::{OrderRecord, TradeRecord};
 use audit_base::terms::Which;
 use instruction_history::history::History;
-use instruction_history::history_draft::{AuditedSymbol, HistoryDraft};
+use instruction_history::history_draft::{SymbolGhost, HistoryDraft};
 use log_source::counter::Counter;
 use log_source::shelf::Shelf;
-use matching_core::deals_draft::{AuditedHistory, DealsDraft};
+use matching_core::deals_draft::{HistoryGhost, DealsDraft};
 use record_verdict::before_rule::BeforeRule;
 use record_verdict::scopes::Scope;
 use std::alloc::Global;
@@ -58,7 +58,7 @@ fn after_finding<F: Shelf>(
 }
 
 /// What is known where the history has no finding: its trades decide.
-fn after_history<M: AuditedHistory, F: Shelf>(
+fn after_history<M: HistoryGhost, F: Shelf>(
     alloc: Global,
     shelf: &mut F,
     scope: &Scope,
@@ -79,14 +79,14 @@ fn after_history<M: AuditedHistory, F: Shelf>(
 {
     let deals = DealsDraft::<M>::new(alloc, trades.seed, scope.symbol, history);
     match collect_trades::<F, DealsDraft<M>>(alloc, shelf, trades, deals) {
-        Ok(Collected::Trades(deals)) => Ok(BeforeRule::of(deals.end())),
-        Ok(Collected::Alone(finding)) => Ok(BeforeRule::Found(finding)),
+        Ok(CollectedTrades::Trades(deals)) => Ok(BeforeRule::of(deals.end())),
+        Ok(CollectedTrades::Alone(finding)) => Ok(BeforeRule::Found(finding)),
         Err(unread) => Err(NoRecords::at(Which::Trades, unread)),
     }
 }
 
 /// What is known where the order log has been read: the trade log is read.
-fn after_orders<S: AuditedSymbol, F: Shelf>(
+fn after_orders<S: SymbolGhost, F: Shelf>(
     alloc: Global,
     shelf: &mut F,
     scope: &Scope,
@@ -118,7 +118,7 @@ fn after_orders<S: AuditedSymbol, F: Shelf>(
 }
 
 /// What two logs give before the rule is looked at, by the history of the symbol.
-fn read_about<S: AuditedSymbol, F: Shelf>(
+fn read_about<S: SymbolGhost, F: Shelf>(
     alloc: Global,
     shelf: &mut F,
     scope: &Scope,

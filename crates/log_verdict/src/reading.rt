@@ -29,7 +29,7 @@ use std::alloc::Global;
 
 /// Why a log was not read into records.
 #[derive(Clone, Copy, Debug, PartialEq, Eq)]
-pub enum Unread {
+pub enum ReadingFault {
     /// The log is not in its grammar, and this is its first bad place.
     Bad(BadPlace),
     /// A start or a read failed.
@@ -39,29 +39,29 @@ pub enum Unread {
     Memory,
 }
 
-impl From<TakeFault> for Unread {
+impl From<TakeFault> for ReadingFault {
     ghost use Rattle.log_verdict.specs.Collecting.{unread_of_take};
 
     ghost from_gives = { λ fault made. made ≡ unread_of_take fault };
 
-    fn from(fault: TakeFault) -> Unread {
+    fn from(fault: TakeFault) -> ReadingFault {
         match fault {
-            TakeFault::Fault => Unread::ReadFault,
-            TakeFault::TooLong => Unread::TooLong,
-            TakeFault::Memory => Unread::Memory,
+            TakeFault::Fault => ReadingFault::ReadFault,
+            TakeFault::TooLong => ReadingFault::TooLong,
+            TakeFault::Memory => ReadingFault::Memory,
         }
     }
 }
 
-impl From<LogFault> for Unread {
+impl From<LogFault> for ReadingFault {
     ghost use Rattle.log_verdict.specs.Collecting.{unread_of_log};
 
     ghost from_gives = { λ fault made. made ≡ unread_of_log fault };
 
-    fn from(fault: LogFault) -> Unread {
+    fn from(fault: LogFault) -> ReadingFault {
         match fault {
-            LogFault::Bad(bad) => Unread::Bad(bad),
-            LogFault::Memory => Unread::Memory,
+            LogFault::Bad(bad) => ReadingFault::Bad(bad),
+            LogFault::Memory => ReadingFault::Memory,
         }
     }
 }
@@ -74,14 +74,14 @@ fn collect_csv<F: Shelf, R: CsvRecord, K: Collector<Entry = R>>(
     which: Which,
     source: &Source<'_>,
     collector: K,
-) -> Result<K, Unread>
+) -> Result<K, ReadingFault>
     requires limit { source.now.limit ≤ longest_read }
     requires fresh { K.has_taken collector [] }
     ensures logs { KeepsShelfLogs F.Shelf shelf.old shelf.new }
     ensures only { TouchesOnly (reading_by source.now F.Shelf shelf.old shelf.new) which }
     ensures read { CollectsLog K.has_taken (read_csv_log R.names R.meaning)
         (reading_by source.now F.Shelf shelf.old shelf.new) which source.now.name.now result }
-    ensures within { result ≢ Err Unread.TooLong
+    ensures within { result ≢ Err ReadingFault.TooLong
         → (F.slot shelf.new which).taken ≤ source.now.limit }
     ensures fits_places { IfOk result (HasPlace K.has_taken) }
 {
@@ -89,7 +89,7 @@ fn collect_csv<F: Shelf, R: CsvRecord, K: Collector<Entry = R>>(
     pump(shelf, which, source.name, source.limit, &mut feed)?;
     match feed.close() {
         Ok(collector) => Ok(collector),
-        Err(fault) => Err(Unread::from(fault)),
+        Err(fault) => Err(ReadingFault::from(fault)),
     }
 }
 
@@ -100,14 +100,14 @@ fn collect_fix<F: Shelf, R: FixRecord, K: Collector<Entry = R>>(
     which: Which,
     source: &Source<'_>,
     collector: K,
-) -> Result<K, Unread>
+) -> Result<K, ReadingFault>
     requires limit { source.now.limit ≤ longest_read }
     requires fresh { K.has_taken collector [] }
     ensures logs { KeepsShelfLogs F.Shelf shelf.old shelf.new }
     ensures only { TouchesOnly (reading_by source.now F.Shelf shelf.old shelf.new) which }
     ensures read { CollectsLog K.has_taken (fix.read_fix_log R.meaning)
         (reading_by source.now F.Shelf shelf.old shelf.new) which source.now.name.now result }
-    ensures within { result ≢ Err Unread.TooLong
+    ensures within { result ≢ Err ReadingFault.TooLong
         → (F.slot shelf.new which).taken ≤ source.now.limit }
     ensures fits_places { IfOk result (HasPlace K.has_taken) }
 {
@@ -115,13 +115,13 @@ fn collect_fix<F: Shelf, R: FixRecord, K: Collector<Entry = R>>(
     pump(shelf, which, source.name, source.limit, &mut feed)?;
     match feed.close() {
         Ok(collector) => Ok(collector),
-        Err(fault) => Err(Unread::from(fault)),
+        Err(fault) => Err(ReadingFault::from(fault)),
     }
 }
 
 /// What came of the trades of a log.
 #[derive(Drop)]
-pub enum Collected<K> {
+pub enum CollectedTrades<K> {
     /// The collector has been handed them.
     Trades(K),
     /// A report has no partner (`unpaired`), and the log has no trades.
@@ -134,7 +134,7 @@ pub fn collect_orders<F: Shelf, K: Collector<Entry = OrderRecord>>(
     shelf: &mut F,
     source: &Source<'_>,
     collector: K,
-) -> Result<K, Unread>
+) -> Result<K, ReadingFault>
     requires limit { source.now.limit ≤ longest_read }
     requires fresh { K.has_taken collector [] }
     ensures logs { KeepsShelfLogs F.Shelf shelf.old shelf.new }
@@ -142,7 +142,7 @@ pub fn collect_orders<F: Shelf, K: Collector<Entry = OrderRecord>>(
     ensures read { CollectsLog K.has_taken (records_of_order_log source.now.form)
         (reading_by source.now F.Shelf shelf.old shelf.new) Which.Orders
         source.now.name.now result }
-    ensures within { result ≢ Err Unread.TooLong
+    ensures within { result ≢ Err ReadingFault.TooLong
         → (F.slot shelf.new Which.Orders).taken ≤ source.now.limit }
     ensures fits_places { IfOk result (HasPlace K.has_taken) }
 {
@@ -170,7 +170,7 @@ fn collect_pairs<F: Shelf, K: Collector<Entry = TradeRecord>>(
     shelf: &mut F,
     source: &Source<'_>,
     collector: K,
-) -> Result<Collected<K>, Unread>
+) -> Result<CollectedTrades<K>, ReadingFault>
     requires limit { source.now.limit ≤ longest_read }
     requires fresh { K.has_taken collector [] }
     ensures logs { KeepsShelfLogs F.Shelf shelf.old shelf.new }
@@ -179,7 +179,7 @@ fn collect_pairs<F: Shelf, K: Collector<Entry = TradeRecord>>(
         (λ bytes. paired_reports (fix.fix_report_records bytes))
         (reading_by source.now F.Shelf shelf.old shelf.new) Which.Trades
         source.now.name.now result }
-    ensures within { result ≢ Err Unread.TooLong
+    ensures within { result ≢ Err ReadingFault.TooLong
         → (F.slot shelf.new Which.Trades).taken ≤ source.now.limit }
     ensures fits_places { IfOk result (HasFewCollected K.has_taken) }
 {
@@ -192,8 +192,8 @@ fn collect_pairs<F: Shelf, K: Collector<Entry = TradeRecord>>(
         draft,
     )?;
     match draft.end() {
-        Ok(collector) => Ok(Collected::Trades(collector)),
-        Err(finding) => Ok(Collected::Alone(finding)),
+        Ok(collector) => Ok(CollectedTrades::Trades(collector)),
+        Err(finding) => Ok(CollectedTrades::Alone(finding)),
     }
 }
 
@@ -203,7 +203,7 @@ pub fn collect_trades<F: Shelf, K: Collector<Entry = TradeRecord>>(
     shelf: &mut F,
     source: &Source<'_>,
     collector: K,
-) -> Result<Collected<K>, Unread>
+) -> Result<CollectedTrades<K>, ReadingFault>
     requires limit { source.now.limit ≤ longest_read }
     requires fresh { K.has_taken collector [] }
     ensures logs { KeepsShelfLogs F.Shelf shelf.old shelf.new }
@@ -211,7 +211,7 @@ pub fn collect_trades<F: Shelf, K: Collector<Entry = TradeRecord>>(
     ensures read { CollectsTrades K.has_taken (trades_of_trade_log source.now.form)
         (reading_by source.now F.Shelf shelf.old shelf.new) Which.Trades
         source.now.name.now result }
-    ensures within { result ≢ Err Unread.TooLong
+    ensures within { result ≢ Err ReadingFault.TooLong
         → (F.slot shelf.new Which.Trades).taken ≤ source.now.limit }
     ensures fits_places { IfOk result (HasFewCollected K.has_taken) }
 {
@@ -224,7 +224,7 @@ pub fn collect_trades<F: Shelf, K: Collector<Entry = TradeRecord>>(
                 source,
                 collector,
             )?;
-            Ok(Collected::Trades(collector))
+            Ok(CollectedTrades::Trades(collector))
         }
         Form::Fix => collect_pairs(alloc, shelf, source, collector),
     }

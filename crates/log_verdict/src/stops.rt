@@ -2,7 +2,7 @@
 ghost use Rattle.std.specs.Prelude.{◌≡◌};
 ghost use Rattle.log_verdict.specs.BothLogs.{no_records};
 
-use crate::reading::Unread;
+use crate::reading::ReadingFault;
 use audit_base::faults::{BadPlace, NoMemory};
 use audit_base::terms::Which;
 
@@ -38,14 +38,14 @@ pub enum NoRecords {
 
 impl NoRecords {
     /// Why two logs were not read into records, where this one was not.
-    pub fn at(log: Which, unread: Unread) -> NoRecords
+    pub fn at(log: Which, unread: ReadingFault) -> NoRecords
         ensures { result ≡ no_records log unread }
     {
         match unread {
-            Unread::Bad(bad) => NoRecords::Malformed { log, bad },
-            Unread::ReadFault => NoRecords::Stopped(Stop::ReadFault(log)),
-            Unread::TooLong => NoRecords::Stopped(Stop::TooLong(log)),
-            Unread::Memory => NoRecords::Stopped(Stop::Memory),
+            ReadingFault::Bad(bad) => NoRecords::Malformed { log, bad },
+            ReadingFault::ReadFault => NoRecords::Stopped(Stop::ReadFault(log)),
+            ReadingFault::TooLong => NoRecords::Stopped(Stop::TooLong(log)),
+            ReadingFault::Memory => NoRecords::Stopped(Stop::Memory),
         }
     }
 }

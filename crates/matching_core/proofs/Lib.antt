@@ -2,4 +2,4 @@ pub mod CheckLemmas
 pub mod ResolveLemmas
 pub mod DraftLemmas
 pub mod RisingLemmas
-pub mod SymbolDealsLemmas
+pub mod DealsOrFlawLemmas

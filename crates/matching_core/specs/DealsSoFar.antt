@@ -14,7 +14,7 @@ use Rattle.audit_base.specs.Trades.{trades_of_symbol, trade_at, trade_place, dup
 use Rattle.instruction_history.specs.Flaws.{finding_at, flaw_finding, NamesNoOrder}
 use Rattle.matching_core.specs.declared.deals_so_far.DealsSoFar.{DealsSoFar}
 use Rattle.matching_core.specs.declared.sound_deals.SoundDeals.{SoundDeals}
-use Rattle.matching_core.specs.declared.symbol_deals.SymbolDeals.{SymbolDeals}
+use Rattle.matching_core.specs.declared.deals_or_flaw.DealsOrFlaw.{DealsOrFlaw}
 use Rattle.matching_core.specs.declared.trade_ids.TradeIds.{TradeIds}
 use Rattle.matching_core.specs.IdOrder.{rising_place_of_id}
 use Rattle.matching_core.specs.MappedIds.{mapped_place_of_id}
@@ -73,36 +73,36 @@ AreTradesKnown orders listed kept (Some finding) = finding_in_trades orders list
 
 -- these are the deals of the symbol between these orders, after exactly these records of the trade
 -- log, of all symbols
-pub record IsSymbolDeals (orders : List Order) (symbol : List ℕ) (kept : SymbolDeals)
+pub record IsDealsOrFlaw (orders : List Order) (symbol : List ℕ) (kept : DealsOrFlaw)
     (trades : List TradeRecord) : Type 0 where
   pub known : AreTradesKnown orders (trades_of_symbol symbol trades) kept.sound
       (flaw_finding kept.flaw)
   pub alone : NamesNoOrder kept.flaw
 
 -- a fact of every symbol and all records whose deals these are
-abbrev pub ForTrades : List Order → SymbolDeals → (List ℕ → List TradeRecord → Type 0) → Type 0
+abbrev pub ForTrades : List Order → DealsOrFlaw → (List ℕ → List TradeRecord → Type 0) → Type 0
 ForTrades orders kept P = (symbol : List ℕ) (trades : List TradeRecord)
-    → IsSymbolDeals orders symbol kept trades → P symbol trades
+    → IsDealsOrFlaw orders symbol kept trades → P symbol trades
 
 -- these are the deals of a symbol after some records, fewer than there are places
-pub record HasFewTrades (orders : List Order) (kept : SymbolDeals) : Type 0 where
+pub record HasFewTrades (orders : List Order) (kept : DealsOrFlaw) : Type 0 where
   pub symbol : List ℕ
   pub trades : List TradeRecord
-  pub is : IsSymbolDeals orders symbol kept trades
+  pub is : IsDealsOrFlaw orders symbol kept trades
   pub fits_places : length trades < 2 ^ 32 - 1
 
 -- of whatever symbol these were the deals, they are those with one trade of the symbol more, at its
 -- place
-abbrev pub TakesOwnTrade : List Order → SymbolDeals → SymbolDeals → ℕ → TradeRecord → Type 0
+abbrev pub TakesOwnTrade : List Order → DealsOrFlaw → DealsOrFlaw → ℕ → TradeRecord → Type 0
 TakesOwnTrade orders old new place trade = ForTrades orders old (λ symbol trades.
     same_name trade.symbol symbol ≡ true → place ≡ length trades + 1
-    → IsSymbolDeals orders symbol new (trades ++ trade ∷ []))
+    → IsDealsOrFlaw orders symbol new (trades ++ trade ∷ []))
 
 -- the symbol's part of exactly these records of the trade log is known
 pub record IsDealsSoFar {M : Type 0} (orders : List Order) (symbol : List ℕ)
     (so_far : DealsSoFar M) (trades : List TradeRecord) : Type 0 where
   pub count : so_far.count ≡ length trades
-  pub kept : IsSymbolDeals orders symbol so_far.kept trades
+  pub kept : IsDealsOrFlaw orders symbol so_far.kept trades
 
 -- whatever records of the trade log were known, they are known with one more
 abbrev pub TakesTrade : {M : Type 0} → List Order → List ℕ → DealsSoFar M → DealsSoFar M

@@ -10,7 +10,7 @@ ghost use Rattle.audit_base.specs.Deals.{IsDealList, DealsInRange};
 ghost use Rattle.matching_core.specs.DealsDraft.{IsDealsDraft, ForHandedTrades, IsFindingOfTrades, AreDealsOf};
 ghost use Rattle.log_source.specs.Collectors.{HasPlace};
 
-pub use super::deals_so_far::AuditedHistory;
+pub use super::deals_so_far::HistoryGhost;
 use super::deals_so_far::DealsSoFar;
 use audit_base::faults::NoMemory;
 use audit_base::findings::Finding;
@@ -44,7 +44,7 @@ pub struct ResolvedTrades {
     pub finding: Option<Finding>,
 }
 
-impl<M: AuditedHistory> DealsDraft<M> {
+impl<M: HistoryGhost> DealsDraft<M> {
     /// A draft that has been handed no records, and finds ids by hashes of this
     /// seed. Takes no memory.
     pub fn new(alloc: Global, seed: HashSeed, symbol: Name, history: History) -> DealsDraft<M>
@@ -81,7 +81,7 @@ impl<M: AuditedHistory> DealsDraft<M> {
     }
 }
 
-impl<M: AuditedHistory> Collector for DealsDraft<M> {
+impl<M: HistoryGhost> Collector for DealsDraft<M> {
     ghost use Rattle.audit_base.specs.Orders.{same_name};
 
     type Entry = TradeRecord;

@@ -6,7 +6,7 @@ ghost use Rattle.audit_base.specs.declared.records.TradeRecord.{TradeRecord};
 ghost use Rattle.log_source.specs.Collectors.{HasPlace};
 ghost use Rattle.matching_core.specs.DealsSoFar.{IsDealsSoFar, TakesTrade};
 
-use super::symbol_deals::SymbolDeals;
+use super::deals_or_flaw::DealsOrFlaw;
 use audit_base::faults::NoMemory;
 use audit_base::names::Name;
 use audit_base::records::TradeRecord;
@@ -19,13 +19,13 @@ use std::marker::{Brand, PhantomData};
 /// collectors of any kind can say of one only which records it has been handed, and not which
 /// history it was made for. So the type of a draft says that. Whoever makes a draft picks both, at
 /// `Brand`, and nothing of them is there when the program runs.
-pub trait AuditedHistory {
+pub trait HistoryGhost {
     ghost symbol: { List ℕ };
 
     ghost orders: { List Order };
 }
 
-impl AuditedHistory for Brand {
+impl HistoryGhost for Brand {
     ghost symbol = { [] };
 
     ghost orders = { [] };
@@ -44,18 +44,18 @@ fn has_symbol(trade: &TradeRecord, symbol: &Name) -> bool
 pub(crate) struct DealsSoFar<M> {
     /// How many records of the log there were, of all symbols.
     pub count: u32,
-    pub kept: SymbolDeals,
+    pub kept: DealsOrFlaw,
     of: PhantomData<M>,
 }
 
-impl<M: AuditedHistory> DealsSoFar<M> {
+impl<M: HistoryGhost> DealsSoFar<M> {
     /// No records.
     pub fn new(alloc: Global, seed: HashSeed) -> DealsSoFar<M>
         ensures { IsDealsSoFar M.orders M.symbol result [] }
     {
         DealsSoFar {
             count: 0,
-            kept: SymbolDeals::new(alloc, seed),
+            kept: DealsOrFlaw::new(alloc, seed),
             of: PhantomData,
         }
     }

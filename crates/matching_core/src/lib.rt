@@ -10,6 +10,6 @@ pub mod outcomes;
 pub mod resolving;
 mod rising_ids;
 mod sound_deals;
-pub mod symbol_deals;
+pub mod deals_or_flaw;
 pub mod totals;
 mod trade_ids;

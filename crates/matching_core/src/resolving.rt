@@ -5,10 +5,10 @@ ghost use Rattle.audit_base.specs.Trades.{SoundTrades, deals_of_symbol, trades_f
 ghost use Rattle.matching_core.specs.Answers.{IfCheckFinding, IsResolveAnswer};
 ghost use Rattle.matching_core.specs.DealsSoFar.{IsDealsSoFar};
 
-use super::deals_so_far::{AuditedHistory, DealsSoFar};
+use super::deals_so_far::{HistoryGhost, DealsSoFar};
 use super::outcomes::CheckFault;
 use super::sound_deals::SoundDeals;
-use super::symbol_deals::SymbolDeals;
+use super::deals_or_flaw::DealsOrFlaw;
 use audit_base::faults::NoMemory;
 use audit_base::names::Name;
 use audit_base::orders::Deal;
@@ -19,7 +19,7 @@ use std::alloc::Global;
 use std::marker::Brand;
 
 /// What is known after all these records.
-fn deals_after<M: AuditedHistory>(
+fn deals_after<M: HistoryGhost>(
     alloc: Global,
     history: &History,
     trades: &[TradeRecord],
@@ -38,7 +38,7 @@ fn deals_after<M: AuditedHistory>(
 }
 
 /// The deals, or the first finding, of all these records.
-fn resolve_all<M: AuditedHistory>(
+fn resolve_all<M: HistoryGhost>(
     alloc: Global,
     history: &History,
     trades: &[TradeRecord],
@@ -50,7 +50,7 @@ fn resolve_all<M: AuditedHistory>(
     ensures { IsResolveAnswer history.now symbol.now trades.now result }
 {
     let DealsSoFar { kept, .. } = deals_after::<M>(alloc, history, trades, symbol)?;
-    let SymbolDeals { sound, flaw } = kept;
+    let DealsOrFlaw { sound, flaw } = kept;
     let SoundDeals { deals, .. } = sound;
     match flaw {
         Some(flaw) => Err(CheckFault::Found(flaw.finding())),

@@ -4,7 +4,7 @@ ghost use Rattle.audit_base.specs.Deals.{IsDealList};
 
 use crate::random_logs::{Numbers, RandomLog};
 use crate::records::{deals_of, found_history};
-use crate::slow_rules::{NOBODY, Told, slow_log};
+use crate::slow_rules::{NOBODY, OffenceRow, slow_log};
 use audit_base::orders::Deal;
 use audit_base::terms::Side;
 use continuous_offences::listing::continuous_offences;
@@ -37,7 +37,7 @@ impl Counts {
     }
 }
 
-fn told(offence: &ListedOffence) -> Told {
+fn told(offence: &ListedOffence) -> OffenceRow {
     match *offence {
         ListedOffence::Inactive { place, order } => (7, place, (order.index, order.traded), NOBODY),
         ListedOffence::Limit { place, bid, ask } => {

@@ -33,7 +33,7 @@ impl Numbers {
 
 /// An order that a log has placed.
 #[derive(Clone, Copy, Debug)]
-struct Placed {
+struct PlacedOrder {
     id: &'static str,
     side: Side,
     limit: u64,
@@ -44,20 +44,20 @@ struct Placed {
 pub(crate) struct RandomLog {
     pub(crate) entries: Vec<OrderRecord>,
     pub(crate) trades: Vec<TradeRecord>,
-    placed: Vec<Placed>,
+    placed: Vec<PlacedOrder>,
     /// Whether its deals mostly conform by themselves.
     is_tame: bool,
 }
 
 /// An order that was placed, if there is one.
-fn pick(numbers: &mut Numbers, placed: &[Placed]) -> Option<Placed> {
+fn pick(numbers: &mut Numbers, placed: &[PlacedOrder]) -> Option<PlacedOrder> {
     if placed.is_empty() {
         return None;
     }
     Some(placed[numbers.below(placed.len())])
 }
 
-fn pick_of_side(numbers: &mut Numbers, placed: &[Placed], side: Side) -> Option<Placed> {
+fn pick_of_side(numbers: &mut Numbers, placed: &[PlacedOrder], side: Side) -> Option<PlacedOrder> {
     match pick(numbers, placed) {
         Some(order) if order.side == side => Some(order),
         _ => None,
@@ -129,7 +129,7 @@ impl RandomLog {
             }
         };
         self.push_entry(rt, record);
-        if self.placed.push(Placed { id, side, limit }).is_err() {
+        if self.placed.push(PlacedOrder { id, side, limit }).is_err() {
             panic!(rt; "out of memory");
         }
     }

@@ -7,13 +7,13 @@ use std::alloc::Global;
 
 /// An offence: the number of its property, the place of its record, and the two orders shown, each
 /// by its index with its number.
-pub(crate) type Told = (u8, u32, (usize, u128), (usize, u128));
+pub(crate) type OffenceRow = (u8, u32, (usize, u128), (usize, u128));
 
 pub(crate) const NOBODY: (usize, u128) = (0, 0);
 
 /// A log, with Entered and Size of each order.
 #[derive(Drop)]
-pub(crate) struct Slow<'a> {
+pub(crate) struct SlowRule<'a> {
     pub(crate) orders: &'a OrderList<'a>,
     pub(crate) deals: &'a [Deal],
     pub(crate) entered: Vec<bool>,
@@ -131,7 +131,7 @@ fn rests_before(
         && traded_before(orders, deals, place, order) < number(sizes, order)
 }
 
-impl<'a> Slow<'a> {
+impl<'a> SlowRule<'a> {
     fn shown_upto(&self, place: u64, upto: usize, order: usize) -> (usize, u128) {
         (
             order,
@@ -208,7 +208,7 @@ impl<'a> Slow<'a> {
         }
     }
 
-    fn conservation(&self, place: u64, index: usize, deal: &Deal) -> Option<Told> {
+    fn conservation(&self, place: u64, index: usize, deal: &Deal) -> Option<OffenceRow> {
         if cause(self.orders, deal) != place {
             return None;
         }
@@ -239,7 +239,7 @@ impl<'a> Slow<'a> {
         None
     }
 
-    fn priority(&self, place: u64, deal: &Deal) -> Option<Told> {
+    fn priority(&self, place: u64, deal: &Deal) -> Option<OffenceRow> {
         if cause(self.orders, deal) != place {
             return None;
         }
@@ -279,7 +279,7 @@ impl<'a> Slow<'a> {
         best
     }
 
-    fn crossing(&self, place: u64, place_u32: u32) -> Option<Told> {
+    fn crossing(&self, place: u64, place_u32: u32) -> Option<OffenceRow> {
         let mut meets = false;
         for bid in 0..self.orders.len() {
             for ask in 0..self.orders.len() {
@@ -308,7 +308,7 @@ impl<'a> Slow<'a> {
         ))
     }
 
-    pub(crate) fn at_order(&self, order: usize) -> Option<Told> {
+    pub(crate) fn at_order(&self, order: usize) -> Option<OffenceRow> {
         let place = place_of(self.orders, order);
         for (index, deal) in self.deals.iter().enumerate() {
             let told = self.conservation(place, index, deal);
@@ -332,7 +332,7 @@ pub(crate) fn slow_log<'a>(
     alloc: Global,
     orders: &'a OrderList<'a>,
     deals: &'a [Deal],
-) -> Option<Slow<'a>> {
+) -> Option<SlowRule<'a>> {
     let mut entered: Vec<bool> = Vec::new(alloc);
     let mut sizes: Vec<u128> = Vec::new(alloc);
     for order in 0..orders.len() {
@@ -353,7 +353,7 @@ pub(crate) fn slow_log<'a>(
             return None;
         }
     }
-    Some(Slow {
+    Some(SlowRule {
         orders,
         deals,
         entered,

@@ -2,7 +2,7 @@
 ghost use Rattle.std.specs.Prelude.{◌≡◌, ◌++◌, IfOk};
 ghost use Rattle.page_parts.specs.TableElements as spec;
 
-use crate::elements::says;
+use crate::elements::attribute;
 use audit_base::faults::NoMemory;
 use audit_base::numbers::Price;
 use audit_base::texts::write_price;
@@ -24,7 +24,7 @@ pub fn with_name(alloc: Global, row: Markup, name: &[u8]) -> Result<Markup, NoMe
     ensures { IfOk result (λ made. made ≡ row ++ spec.name_cell name.now) }
 {
     let text = Markup::new(alloc).with_text(name)?;
-    row.with_element(Tag::Cell, &[says(AttributeName::Class, b"name")], &text)
+    row.with_element(Tag::Cell, &[attribute(AttributeName::Class, b"name")], &text)
 }
 
 /// With a cell of a number behind it.
@@ -33,7 +33,7 @@ pub fn with_number(alloc: Global, row: Markup, number: u128) -> Result<Markup, N
 {
     let mut buffer = Buffer::new();
     let text = Markup::new(alloc).with_text(buffer.format(number).as_bytes())?;
-    row.with_element(Tag::Cell, &[says(AttributeName::Class, b"number")], &text)
+    row.with_element(Tag::Cell, &[attribute(AttributeName::Class, b"number")], &text)
 }
 
 /// With a cell of a price behind it.
@@ -43,7 +43,7 @@ pub fn with_price(alloc: Global, row: Markup, price: Price) -> Result<Markup, No
     let mut words = Vec::new(alloc);
     write_price(alloc, price.units(), &mut words)?;
     let text = Markup::new(alloc).with_text(&words)?;
-    row.with_element(Tag::Cell, &[says(AttributeName::Class, b"number")], &text)
+    row.with_element(Tag::Cell, &[attribute(AttributeName::Class, b"number")], &text)
 }
 
 /// With so many empty cells behind it.
@@ -64,7 +64,7 @@ pub fn with_row_heading(alloc: Global, row: Markup, words: &[u8]) -> Result<Mark
     let text = Markup::new(alloc).with_text(words)?;
     row.with_element(
         Tag::HeaderCell,
-        &[says(AttributeName::Scope, b"row")],
+        &[attribute(AttributeName::Scope, b"row")],
         &text,
     )
 }
@@ -151,8 +151,8 @@ fn with_column(alloc: Global, row: Markup, column: TableColumn) -> Result<Markup
 {
     let text = Markup::new(alloc).with_text(column.words())?;
     let said = [
-        says(AttributeName::Scope, b"col"),
-        says(AttributeName::Class, column.class()),
+        attribute(AttributeName::Scope, b"col"),
+        attribute(AttributeName::Class, column.class()),
     ];
     row.with_element(Tag::HeaderCell, &said, &text)
 }

@@ -3,7 +3,7 @@ ghost use Rattle.std.specs.Prelude.{◌≡◌, IfOk};
 ghost use Rattle.page_markup.specs.Trees.{IsNestedPage};
 ghost use Rattle.page_parts.specs.Documents as spec;
 
-use crate::elements::{says, with_text_element};
+use crate::elements::{attribute, with_text_element};
 use crate::style::style_text;
 use audit_base::faults::NoMemory;
 use page_markup::markup::Markup;
@@ -11,13 +11,13 @@ use page_markup::words::{AttributeName, Tag};
 use std::alloc::Global;
 
 /// The head of a page.
-fn head_of(alloc: Global, style: &[u8], title: &[u8]) -> Result<Markup, NoMemory>
+fn document_head(alloc: Global, style: &[u8], title: &[u8]) -> Result<Markup, NoMemory>
     ensures { IfOk result (λ made. made ≡ spec.head_of_page style.now title.now) }
 {
-    let charset = [says(AttributeName::Charset, b"utf-8")];
+    let charset = [attribute(AttributeName::Charset, b"utf-8")];
     let viewport = [
-        says(AttributeName::Name, b"viewport"),
-        says(
+        attribute(AttributeName::Name, b"viewport"),
+        attribute(
             AttributeName::Content,
             b"width=device-width, initial-scale=1",
         ),
@@ -40,10 +40,10 @@ fn styled_page(
         (λ text. text.items ≡ spec.styled_page style.now title.now main.now) }
     ensures nested { IfOk result (λ text. IsNestedPage text.items) }
 {
-    let head = head_of(alloc, style, title)?;
+    let head = document_head(alloc, style, title)?;
     let chief = Markup::new(alloc).with_element(Tag::Main, &[], main)?;
     let both = head.with_element(Tag::Body, &[], &chief)?;
-    let english = [says(AttributeName::Lang, b"en")];
+    let english = [attribute(AttributeName::Lang, b"en")];
     let root = Markup::new(alloc).with_element(Tag::Html, &english, &both)?;
     root.page(alloc)
 }

@@ -9,7 +9,7 @@ use page_markup::words::{AttributeName, Tag};
 use std::alloc::Global;
 
 /// An attribute with this value.
-pub fn says<'a>(name: AttributeName, value: &'a [u8]) -> Attribute<'a>
+pub fn attribute<'a>(name: AttributeName, value: &'a [u8]) -> Attribute<'a>
     ensures name { result.name ≡ name }
     ensures value { result.value.now ≡ value.now }
 {

@@ -7,7 +7,7 @@ use audit_base::faults::NoMemory;
 use itoa::Buffer;
 use page_markup::markup::Markup;
 use page_markup::words::{AttributeName, Tag};
-use page_parts::elements::{says, with_text_element};
+use page_parts::elements::{attribute, with_text_element};
 use std::alloc::Global;
 
 /// A point of the paper, in units of its coordinates.
@@ -62,11 +62,11 @@ fn with_written_rectangle(
         corner.now.x.now corner.now.y.now width.now height.now) }
 {
     let attributes = [
-        says(AttributeName::Class, class),
-        says(AttributeName::X, corner.x),
-        says(AttributeName::Y, corner.y),
-        says(AttributeName::Width, width),
-        says(AttributeName::Height, height),
+        attribute(AttributeName::Class, class),
+        attribute(AttributeName::X, corner.x),
+        attribute(AttributeName::Y, corner.y),
+        attribute(AttributeName::Width, width),
+        attribute(AttributeName::Height, height),
     ];
     made.with_element(Tag::Rectangle, &attributes, &Markup::new(alloc))
 }
@@ -120,11 +120,11 @@ fn with_written_line(
         from.now.x.now from.now.y.now to.now.x.now to.now.y.now) }
 {
     let attributes = [
-        says(AttributeName::Class, class),
-        says(AttributeName::X1, from.x),
-        says(AttributeName::Y1, from.y),
-        says(AttributeName::X2, to.x),
-        says(AttributeName::Y2, to.y),
+        attribute(AttributeName::Class, class),
+        attribute(AttributeName::X1, from.x),
+        attribute(AttributeName::Y1, from.y),
+        attribute(AttributeName::X2, to.x),
+        attribute(AttributeName::Y2, to.y),
     ];
     made.with_element(Tag::Line, &attributes, &Markup::new(alloc))
 }
@@ -164,10 +164,10 @@ fn with_written_circle(
         centre.now.x.now centre.now.y.now radius.now) }
 {
     let attributes = [
-        says(AttributeName::Class, class),
-        says(AttributeName::CenterX, centre.x),
-        says(AttributeName::CenterY, centre.y),
-        says(AttributeName::Radius, radius),
+        attribute(AttributeName::Class, class),
+        attribute(AttributeName::CenterX, centre.x),
+        attribute(AttributeName::CenterY, centre.y),
+        attribute(AttributeName::Radius, radius),
     ];
     made.with_element(Tag::Circle, &attributes, &Markup::new(alloc))
 }
@@ -203,10 +203,10 @@ fn with_written_label(
         at.now.x.now at.now.y.now anchor.now text.now) }
 {
     let attributes = [
-        says(AttributeName::Class, class),
-        says(AttributeName::X, at.x),
-        says(AttributeName::Y, at.y),
-        says(AttributeName::TextAnchor, anchor),
+        attribute(AttributeName::Class, class),
+        attribute(AttributeName::X, at.x),
+        attribute(AttributeName::Y, at.y),
+        attribute(AttributeName::TextAnchor, anchor),
     ];
     made.with_element(Tag::SvgText, &attributes, text)
 }
@@ -237,8 +237,8 @@ pub fn with_path(alloc: Global, made: Markup, class: &[u8], path: &[u8]) -> Resu
     ensures { IfOk result (λ shape. shape ≡ made ++ spec.path class.now path.now) }
 {
     let attributes = [
-        says(AttributeName::Class, class),
-        says(AttributeName::PathData, path),
+        attribute(AttributeName::Class, class),
+        attribute(AttributeName::PathData, path),
     ];
     made.with_element(Tag::Path, &attributes, &Markup::new(alloc))
 }
@@ -275,8 +275,8 @@ pub fn with_picture(alloc: Global, made: Markup, picture: &Picture<'_>) -> Resul
     let inner = with_text_element(alloc, Markup::new(alloc), Tag::Title, picture.title)?;
     let inner = inner.with_markup(picture.shapes)?;
     let attributes = [
-        says(AttributeName::ViewBox, picture.paper),
-        says(AttributeName::Role, b"img"),
+        attribute(AttributeName::ViewBox, picture.paper),
+        attribute(AttributeName::Role, b"img"),
     ];
     made.with_element(Tag::Svg, &attributes, &inner)
 }

@@ -1,6 +1,6 @@
 //! Feeds of a day that give the plain text of its messages as they are handed its bytes.
 ghost use Rattle.std.specs.Prelude.{◌≡◌, [], ℕ, List, Option, IfOk, IsTrue};
-ghost use Rattle.fix_days.specs.declared.faults.BadMessage.{BadMessage as ABadMessage};
+ghost use Rattle.fix_days.specs.declared.faults.BadMessage.{BadMessage as BadMessageSpec};
 ghost use Rattle.fix_days.specs.Framed.{IsFramedReading};
 ghost use Rattle.fix_days.specs.Fronts.{framed_count, line_count};
 ghost use Rattle.fix_days.specs.Lines.{IsLineReading, is_soh_text};
@@ -8,11 +8,11 @@ ghost use Rattle.plain_logs.specs.DayFeeds.{EndsDay, HasGivenFramed, HasGivenLin
 
 use crate::day_ends::DayEnd;
 use crate::laws::bodies_fit_messages;
-use crate::lines::{PlainLines, Skipped};
+use crate::lines::{PlainLines, SkippedGhost};
 use audit_base::faults::NoMemory;
 use fix_days::framed::FramedFeed;
 use fix_days::laws::{days_have_one_reading, days_on_lines_have_one_reading};
-use fix_days::lines::{LineFeed, SohText};
+use fix_days::lines::{LineFeed, SohGhost};
 use log_source::feed::Feed;
 use std::alloc::Global;
 use std::marker::Brand;
@@ -21,7 +21,7 @@ use std::marker::Brand;
 /// makes whole.
 pub(crate) trait DayFeed: Drop {
     // What is read of a whole day.
-    ghost reads: { List ℕ → List (List ℕ) → Option ABadMessage → Type 0 };
+    ghost reads: { List ℕ → List (List ℕ) → Option BadMessageSpec → Type 0 };
 
     // The feed has been handed this day, has read exactly these bodies of it, and gave their text.
     ghost has_read: { Self → List ℕ → List (List ℕ) → Type 0 };
@@ -47,7 +47,7 @@ pub(crate) fn framed_feed(alloc: Global) -> FramedFeed<PlainLines<Brand>>
     FramedFeed::over(alloc, lines)
 }
 
-fn feed_framed<W: Skipped>(
+fn feed_framed<W: SkippedGhost>(
     alloc: Global,
     feed: &mut FramedFeed<PlainLines<W>>,
     piece: &[u8],
@@ -66,7 +66,7 @@ fn feed_framed<W: Skipped>(
     Ok(lines.text)
 }
 
-fn close_framed<W: Skipped>(feed: FramedFeed<PlainLines<W>>) -> Result<DayEnd, NoMemory>
+fn close_framed<W: SkippedGhost>(feed: FramedFeed<PlainLines<W>>) -> Result<DayEnd, NoMemory>
     requires within { HasReadWithinLimit HasGivenFramed feed }
     requires skipped { W.skipped ≡ framed_count feed }
     ensures { IfOk result (λ end. EndsDay IsFramedReading HasGivenFramed feed end) }
@@ -94,7 +94,7 @@ impl DayFeed for FramedFeed<PlainLines<Brand>> {
 }
 
 /// A feed of a day on lines that has been handed nothing. `soh` is the text that stands for SOH.
-pub(crate) fn line_feed<S: SohText>(alloc: Global, soh: Vec<u8>) -> LineFeed<PlainLines<Brand>, S>
+pub(crate) fn line_feed<S: SohGhost>(alloc: Global, soh: Vec<u8>) -> LineFeed<PlainLines<Brand>, S>
     requires soh { soh.items ≡ S.text }
     requires is { IsTrue (is_soh_text S.text) }
     ensures { HasGivenLines S.text result [] [] }
@@ -103,7 +103,7 @@ pub(crate) fn line_feed<S: SohText>(alloc: Global, soh: Vec<u8>) -> LineFeed<Pla
     LineFeed::over(alloc, soh, lines)
 }
 
-fn feed_lines<W: Skipped, S: SohText>(
+fn feed_lines<W: SkippedGhost, S: SohGhost>(
     alloc: Global,
     feed: &mut LineFeed<PlainLines<W>, S>,
     piece: &[u8],
@@ -121,7 +121,7 @@ fn feed_lines<W: Skipped, S: SohText>(
     Ok(lines.text)
 }
 
-fn close_lines<W: Skipped, S: SohText>(feed: LineFeed<PlainLines<W>, S>) -> Result<DayEnd, NoMemory>
+fn close_lines<W: SkippedGhost, S: SohGhost>(feed: LineFeed<PlainLines<W>, S>) -> Result<DayEnd, NoMemory>
     requires within { HasReadWithinLimit (HasGivenLines S.text) feed }
     requires skipped { W.skipped ≡ line_count feed }
     ensures { IfOk result (λ end. EndsDay (IsLineReading S.text) (HasGivenLines S.text) feed end) }
@@ -134,7 +134,7 @@ fn close_lines<W: Skipped, S: SohText>(feed: LineFeed<PlainLines<W>, S>) -> Resu
     })
 }
 
-impl<S: SohText> DayFeed for LineFeed<PlainLines<Brand>, S> {
+impl<S: SohGhost> DayFeed for LineFeed<PlainLines<Brand>, S> {
     ghost reads = { IsLineReading S.text };
 
     ghost has_read = { HasGivenLines S.text };

@@ -12,11 +12,11 @@ use std::marker::{Brand, PhantomData};
 /// of any taker can say of one only which bodies it has been handed, so the type of a taker says
 /// this. Whoever hands on a piece picks the number, at `Brand`, and nothing of it is there when the
 /// program runs.
-pub(crate) trait Skipped {
+pub(crate) trait SkippedGhost {
     ghost skipped: { ℕ };
 }
 
-impl Skipped for Brand {
+impl SkippedGhost for Brand {
     ghost skipped = { 0 };
 }
 
@@ -30,7 +30,7 @@ pub(crate) struct PlainLines<W> {
     of: PhantomData<W>,
 }
 
-impl<W: Skipped> PlainLines<W> {
+impl<W: SkippedGhost> PlainLines<W> {
     /// No lines, in the memory of this text, which is lost.
     pub(crate) fn in_memory_of(alloc: Global, mut text: Vec<u8>) -> Self
         ensures { result.text.items ≡ [] }
@@ -44,7 +44,7 @@ impl<W: Skipped> PlainLines<W> {
     }
 }
 
-impl<W: Skipped> Bodies for PlainLines<W> {
+impl<W: SkippedGhost> Bodies for PlainLines<W> {
     ghost use Rattle.plain_logs.specs.PlainTexts.{IsTextBehind};
 
     ghost has_taken = { λ lines bodies. IsTextBehind W.skipped bodies lines.text.items };

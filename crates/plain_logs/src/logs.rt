@@ -11,7 +11,7 @@ ghost use Rattle.plain_logs.specs.PlainLogs.{StopsWriting, TakesUpTo, WritesUpTo
 use crate::day_ends::{DayEnd, PlainFault};
 use crate::feeds::{DayFeed, framed_feed, line_feed};
 use audit_base::terms::Which;
-use fix_days::lines::SohText;
+use fix_days::lines::SohGhost;
 use log_source::put::put_all;
 use log_source::shelf::Shelf;
 use log_source::sink::Sink;
@@ -147,7 +147,7 @@ pub fn write_framed<F: Shelf, K: Sink>(
 
 /// The same of a day whose messages stand on lines, after anything. `soh` is the text that stands
 /// for SOH in them.
-pub fn write_on_lines<S: SohText, F: Shelf, K: Sink>(
+pub fn write_on_lines<S: SohGhost, F: Shelf, K: Sink>(
     alloc: Global,
     shelf: &mut F,
     day: &DaySource<'_>,

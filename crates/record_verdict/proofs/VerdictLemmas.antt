@@ -20,9 +20,9 @@ use Rattle.matching_core.specs.declared.deals_draft.ResolvedTrades.{ResolvedTrad
 use Rattle.record_verdict.specs.declared.before_rule.BeforeRule.TheVariants as before_rule
 use Rattle.record_verdict.specs.declared.scopes.Admission.TheVariants as admission
 use Rattle.record_verdict.specs.declared.questions.Question.{Question}
-use Rattle.record_verdict.specs.declared.verdicts.Judged.{Judged}
-use Rattle.record_verdict.specs.declared.verdicts.Judged.TheVariants as judged
-use Rattle.record_verdict.specs.Judged.{as_verdict}
+use Rattle.record_verdict.specs.declared.verdicts.RecordVerdict.{RecordVerdict}
+use Rattle.record_verdict.specs.declared.verdicts.RecordVerdict.TheVariants as judged
+use Rattle.record_verdict.specs.RecordVerdict.{as_verdict}
 use Rattle.record_verdict.specs.BeforeRule.{AreResolvedTradesInRange, IsResolvedWithoutFinding}
 use Rattle.record_verdict.specs.Laws.{SoundTradesHaveVerdict}
 use Rattle.record_verdict.specs.RecordVerdicts.{IsRecordVerdict, IsOutcomeByFinding}
@@ -85,7 +85,7 @@ sound_judged q entries paired resolved v numbers follows sound =
     }
 
 -- the verdict on sound trades is that of the logs
-pub sound_is : (q : Question) (resolved : ResolvedTrades) (v : Judged) → AreResolvedTradesInRange resolved → VerdictFollowsDeals q resolved.history resolved.deals.items resolved.count (as_verdict v) → IsVerdictAfterStages q (before_rule.Sound resolved) v
+pub sound_is : (q : Question) (resolved : ResolvedTrades) (v : RecordVerdict) → AreResolvedTradesInRange resolved → VerdictFollowsDeals q resolved.history resolved.deals.items resolved.count (as_verdict v) → IsVerdictAfterStages q (before_rule.Sound resolved) v
 sound_is q resolved v judgeable follows = record {
   of_finding = λ finding e. absurd (no_finding finding e);
   of_deals = same;

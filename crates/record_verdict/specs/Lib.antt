@@ -1,7 +1,7 @@
 -- What a reader must believe: what is judged of the records of two logs, what of it a reading
 -- needs to know, and the laws.
 pub mod RecordVerdicts
-pub mod Judged
+pub mod RecordVerdict
 pub mod Scopes
 pub mod Laws
 pub mod Existence

@@ -16,9 +16,9 @@ use Rattle.record_verdict.specs.declared.before_rule.BeforeRule.{BeforeRule}
 use Rattle.record_verdict.specs.declared.before_rule.BeforeRule.TheVariants as before_rule
 use Rattle.record_verdict.specs.declared.questions.Question.{Question}
 use Rattle.record_verdict.specs.BeforeRule.{IsBeforeRule}
-use Rattle.record_verdict.specs.declared.verdicts.Judged.{Judged}
-use Rattle.record_verdict.specs.declared.verdicts.Judged.TheVariants as judged
-use Rattle.record_verdict.specs.Judged.{as_verdict}
+use Rattle.record_verdict.specs.declared.verdicts.RecordVerdict.{RecordVerdict}
+use Rattle.record_verdict.specs.declared.verdicts.RecordVerdict.TheVariants as judged
+use Rattle.record_verdict.specs.RecordVerdict.{as_verdict}
 use Rattle.record_verdict.specs.Scopes.{scope_of}
 use Rattle.record_verdict.specs.RecordVerdicts.{IsRecordVerdict, IsOutcomeByFinding}
 
@@ -69,7 +69,7 @@ pub record VerdictFollowsDeals (q : Question) (orders : List Order) (deals : Lis
 
 -- The verdict on what records give before the rule is looked at: the finding, or that of the rule
 -- on sound trades; and so it is that on whatever records give this.
-pub record IsVerdictAfterStages (q : Question) (given : BeforeRule) (the_judged : Judged)
+pub record IsVerdictAfterStages (q : Question) (given : BeforeRule) (the_judged : RecordVerdict)
     : Type 0 where
   pub of_finding : (finding : Finding) → given ≡ before_rule.Found finding
       → the_judged ≡ judged.Rejected finding

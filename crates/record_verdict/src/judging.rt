@@ -6,14 +6,14 @@ ghost use Rattle.audit_base.specs.Verdicts as spec;
 ghost use Rattle.audit_base.specs.Verdicts.{paired_trades};
 ghost use Rattle.audit_report.specs.Texts.{IsVerdictInRange};
 ghost use Rattle.trade_reports.specs.Pairings.{result_of_paired};
-ghost use Rattle.record_verdict.specs.Judged.{as_verdict, IsJudgedInRange};
+ghost use Rattle.record_verdict.specs.RecordVerdict.{as_verdict, IsJudgedInRange};
 ghost use Rattle.record_verdict.specs.RecordVerdicts.{question, IsRecordVerdict};
 ghost use Rattle.record_verdict.specs.Stages.{VerdictFollowsRecords, VerdictFollowsHistory, VerdictFollowsTrades};
 
 use crate::questions::Question;
 use crate::rules::judge_deals;
 use crate::scopes::Admission;
-use crate::verdicts::Judged;
+use crate::verdicts::RecordVerdict;
 use audit_base::faults::NoMemory;
 use audit_base::findings::Finding;
 use audit_base::names::Name;
@@ -53,7 +53,7 @@ fn judge_trades(
     question: &Question,
     history: &History,
     trades: &[TradeRecord],
-) -> Result<Judged, NoMemory>
+) -> Result<RecordVerdict, NoMemory>
     requires fits_places { length trades.now < 2 ^ 32 - 1 }
     ensures { IfOk result (λ judged.
         VerdictFollowsTrades question.now history.now trades.now (as_verdict judged)) }
@@ -66,7 +66,7 @@ fn judge_trades(
             &deals,
             trades.len() as u32,
         ),
-        Err(CheckFault::Found(finding)) => Ok(Judged::Rejected(finding)),
+        Err(CheckFault::Found(finding)) => Ok(RecordVerdict::Rejected(finding)),
         Err(CheckFault::Memory) => Err(NoMemory),
     }
 }
@@ -77,17 +77,17 @@ fn judge_history(
     question: &Question,
     history: &History,
     trades: &Paired,
-) -> Result<Judged, NoMemory>
+) -> Result<RecordVerdict, NoMemory>
     requires fits_places { length (paired_trades (result_of_paired trades.now)) < 2 ^ 32 - 1 }
     ensures { let paired = result_of_paired trades.now in IfOk result (λ judged.
         VerdictFollowsHistory question.now history.now paired (as_verdict judged)) }
 {
     if let Some(finding) = instant_finding_of_rule(question.rule, &history.orders()) {
-        return Ok(Judged::Rejected(finding));
+        return Ok(RecordVerdict::Rejected(finding));
     }
     match trades {
         Paired::Trades(list) => judge_trades(alloc, question, history, list.as_slice()),
-        Paired::Alone(finding) => Ok(Judged::Rejected(*finding)),
+        Paired::Alone(finding) => Ok(RecordVerdict::Rejected(*finding)),
     }
 }
 
@@ -97,7 +97,7 @@ fn judge_records(
     question: &Question,
     entries: &[OrderRecord],
     trades: &Paired,
-) -> Result<Judged, NoMemory>
+) -> Result<RecordVerdict, NoMemory>
     requires entries_fit_places { length entries.now < 2 ^ 32 - 1 }
     requires trades_fit_places { length (paired_trades (result_of_paired trades.now)) < 2 ^ 32 - 1 }
     ensures judged { let paired = result_of_paired trades.now in IfOk result (λ judged.
@@ -106,7 +106,7 @@ fn judge_records(
 {
     match History::build(alloc, entries, &question.symbol) {
         Ok(history) => judge_history(alloc, question, &history, trades),
-        Err(HistoryFault::Found(finding)) => Ok(Judged::Rejected(finding)),
+        Err(HistoryFault::Found(finding)) => Ok(RecordVerdict::Rejected(finding)),
         Err(HistoryFault::Memory) => Err(NoMemory),
     }
 }

@@ -7,13 +7,13 @@ ghost use Rattle.audit_base.specs.Histories.{Regular};
 ghost use Rattle.audit_base.specs.Orders.{IsOrderList};
 ghost use Rattle.audit_base.specs.Deals.{AreTotals, IsDealList};
 ghost use Rattle.call_audit.specs.Audits.{IsCallOutcome};
-ghost use Rattle.record_verdict.specs.Judged.{as_verdict};
+ghost use Rattle.record_verdict.specs.RecordVerdict.{as_verdict};
 ghost use Rattle.record_verdict.specs.Stages.{VerdictFollowsDeals};
 ghost use Rattle.record_verdict.specs.Tables.{accepted_verdict, conforming_outcome, IsCallOutcomeForAnyCount, IsOutcomeOfFault, IsRuleOutcome};
 
 use crate::questions::Question;
 use crate::tables::table_of;
-use crate::verdicts::Judged;
+use crate::verdicts::RecordVerdict;
 use audit_base::faults::NoMemory;
 use audit_base::orders::Deal;
 use audit_base::terms::{CallRule, Rule, VolumeRule};
@@ -141,7 +141,7 @@ fn accept(
     orders: &OrderList<'_>,
     deals: &[Deal],
     conforming: &Reached,
-) -> Result<Judged, NoMemory>
+) -> Result<RecordVerdict, NoMemory>
     requires order_list { IsOrderList orders.now }
     requires deal_list { IsDealList orders.now deals.now }
     requires totals { AreTotals orders.now deals.now conforming.now.traded.0 }
@@ -149,7 +149,7 @@ fn accept(
         ≡ accepted_verdict question.now orders.now deals.now conforming.now) }
 {
     let table = table_of(alloc, question, orders, deals, conforming.traded.as_slice())?;
-    Ok(Judged::Accepted(Accepted {
+    Ok(RecordVerdict::Accepted(Accepted {
         rule: question.rule,
         symbol: question.symbol,
         orders: orders.len() as u32,
@@ -168,7 +168,7 @@ pub fn judge_deals(
     orders: &OrderList<'_>,
     deals: &[Deal],
     count: u32,
-) -> Result<Judged, NoMemory>
+) -> Result<RecordVerdict, NoMemory>
     requires regular { Regular orders.now }
     requires order_list { IsOrderList orders.now }
     requires deal_list { IsDealList orders.now deals.now }
@@ -179,6 +179,6 @@ pub fn judge_deals(
     let outcome = audit(alloc, question.rule, orders, deals, count)?;
     match outcome {
         Outcome::Conforms(conforming) => accept(alloc, question, orders, deals, &conforming),
-        Outcome::Broken(finding) => Ok(Judged::Rejected(finding)),
+        Outcome::Broken(finding) => Ok(RecordVerdict::Rejected(finding)),
     }
 }

@@ -2,7 +2,7 @@
 ghost use Rattle.std.specs.Prelude.{◌≡◌, IfOk};
 ghost use Rattle.audit_report.specs.Statuses.{verdict_status};
 ghost use Rattle.record_verdict.specs.BeforeRule.{IsJudgeable};
-ghost use Rattle.record_verdict.specs.Judged.{as_verdict, IsJudgedInRange};
+ghost use Rattle.record_verdict.specs.RecordVerdict.{as_verdict, IsJudgedInRange};
 ghost use Rattle.record_verdict.specs.Stages.{IsVerdictAfterStages};
 
 use crate::before_rule::BeforeRule;
@@ -16,21 +16,21 @@ use std::alloc::Global;
 
 /// The verdict on the records of two logs. Whether a log has records is settled before.
 #[derive(Debug, Drop)]
-pub enum Judged {
+pub enum RecordVerdict {
     /// The records conform to the rule.
     Accepted(Accepted),
     /// They do not conform, and this is the one finding.
     Rejected(Finding),
 }
 
-impl Judged {
+impl RecordVerdict {
     /// The status of the verdict: `Accepted` or `Rejected`.
     pub fn status(&self) -> Status
         ensures { result ≡ verdict_status (as_verdict self.now) }
     {
         match self {
-            Judged::Accepted(_) => Status::Accepted,
-            Judged::Rejected(_) => Status::Rejected,
+            RecordVerdict::Accepted(_) => Status::Accepted,
+            RecordVerdict::Rejected(_) => Status::Rejected,
         }
     }
 
@@ -39,8 +39,8 @@ impl Judged {
         ensures { result ≡ as_verdict self }
     {
         match self {
-            Judged::Accepted(accepted) => Verdict::Accepted(accepted),
-            Judged::Rejected(finding) => Verdict::Rejected(finding),
+            RecordVerdict::Accepted(accepted) => Verdict::Accepted(accepted),
+            RecordVerdict::Rejected(finding) => Verdict::Rejected(finding),
         }
     }
 }
@@ -51,13 +51,13 @@ pub fn verdict_after(
     alloc: Global,
     question: &Question,
     given: &BeforeRule,
-) -> Result<Judged, NoMemory>
+) -> Result<RecordVerdict, NoMemory>
     requires { IsJudgeable given.now }
     ensures verdict { IfOk result (IsVerdictAfterStages question.now given.now) }
     ensures in_range { IfOk result IsJudgedInRange }
 {
     match given {
-        BeforeRule::Found(finding) => Ok(Judged::Rejected(*finding)),
+        BeforeRule::Found(finding) => Ok(RecordVerdict::Rejected(*finding)),
         BeforeRule::Sound(resolved) => {
             let orders = resolved.history.orders();
             judge_deals(alloc, question, &orders, &resolved.deals, resolved.count)

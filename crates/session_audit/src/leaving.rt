@@ -3,7 +3,7 @@
 //! What a continuous phase leaves is read off the totals of its audit. Where the phase conforms,
 //! what a chain traded before an order's place is what it trades in the whole phase.
 ghost use Rattle.std.specs.Prelude.{◌≡◌, ◌<◌, ◌≤◌, ◌+◌, ◌^◌, ◌&&◌, ℕ, List, IfOk, length, nat_lt};
-ghost use Rattle.audit_base.specs.declared.orders.Deal.{Deal as ADeal};
+ghost use Rattle.audit_base.specs.declared.orders.Deal.{Deal as DealSpec};
 ghost use Rattle.audit_base.specs.Continuous.{uncancelled_before};
 ghost use Rattle.audit_base.specs.Histories.{Regular};
 ghost use Rattle.audit_base.specs.Orders.{IsOrderList};
@@ -104,7 +104,7 @@ fn sizes_of(
     requires before { before.now
         ≡ list_below (total_of_chain orders.now traded.now) (length orders.now) }
     ensures count { IfOk result (λ sizes. length sizes.items ≡ length orders.now) }
-    ensures sizes { IfOk result (λ sizes. (deals : List ADeal)
+    ensures sizes { IfOk result (λ sizes. (deals : List DealSpec)
         → spec.HasContinuousTotals orders.now deals traded.now
         → sizes.items ≡ spec.sizes_below orders.now deals (length orders.now)) }
 {
@@ -140,7 +140,7 @@ pub fn leave_continuous(
     requires regular { Regular orders.now }
     requires counted { length traded.now ≡ length orders.now }
     requires small { AreBoundedTotals traded.now }
-    ensures { IfOk result (λ left. (deals : List ADeal)
+    ensures { IfOk result (λ left. (deals : List DealSpec)
         → spec.HasContinuousTotals orders.now deals traded.now
         → spec.EndsBy orders.now deals last
         → left.items

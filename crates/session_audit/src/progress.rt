@@ -1,8 +1,8 @@
 //! From one phase to the next: the order list of a phase from what the earlier ones leave and
 //! what was traded in them, and what the phase adds to that.
 ghost use Rattle.std.specs.Prelude.{◌≡◌, ◌<◌, ◌≤◌, ◌+◌, ◌-◌, ◌^◌, [], ℕ, IfOk, List, None, Ok, Some, length, replicate, vec_len};
-ghost use Rattle.audit_base.specs.declared.findings.Finding.{Finding as AFinding};
-ghost use Rattle.audit_base.specs.declared.orders.Deal.{Deal as ADeal};
+ghost use Rattle.audit_base.specs.declared.findings.Finding.{Finding as FindingSpec};
+ghost use Rattle.audit_base.specs.declared.orders.Deal.{Deal as DealSpec};
 ghost use Rattle.audit_base.specs.Deals.{IsDealList, traded};
 ghost use Rattle.audit_base.specs.Histories.{Regular};
 ghost use Rattle.audit_base.specs.Orders.{IsOrderList};
@@ -29,7 +29,7 @@ use std::alloc::Global;
 
 /// What is known of the orders after the phases so far.
 #[derive(Debug, Drop)]
-pub struct SoFar {
+pub struct OrdersSoFar {
     /// What each order has traded, by its index.
     pub traded: Vec<u128>,
     /// What is left of each order, by its index; 0 past the end.
@@ -45,12 +45,12 @@ pub struct EndedPhase {
 }
 
 /// Nothing, before the first phase. Err only out of memory.
-pub fn start(alloc: Global, count: usize) -> Result<SoFar, NoMemory>
+pub fn start(alloc: Global, count: usize) -> Result<OrdersSoFar, NoMemory>
     ensures traded { IfOk result (λ so_far. so_far.traded.items ≡ replicate count 0) }
     ensures left { IfOk result (λ so_far. so_far.left.items ≡ []) }
 {
     let traded = zeros(alloc, count)?;
-    Ok(SoFar {
+    Ok(OrdersSoFar {
         traded,
         left: Vec::new(alloc),
     })
@@ -92,7 +92,7 @@ pub fn list_phase<'a>(
     orders: &OrderList<'a>,
     phases: &[Phase],
     index: usize,
-    so_far: &SoFar,
+    so_far: &OrdersSoFar,
 ) -> Result<ChangedOrders<'a>, NoMemory>
     requires order_list { IsOrderList orders.now }
     requires regular { Regular orders.now }
@@ -101,7 +101,7 @@ pub fn list_phase<'a>(
     requires one_total_per_order { length so_far.now.traded.items ≡ length orders.now }
     requires totals_bounded { AreBoundedTotals so_far.now.traded.items }
     requires left_within_quantities { WithinQuantities orders.now so_far.now.left.items }
-    ensures { IfOk result (λ list. (deals : List ADeal)
+    ensures { IfOk result (λ list. (deals : List DealSpec)
         → IsDaySoFar phases.now orders.now deals index so_far.now.traded.items so_far.now.left.items
         → list.orders ≡ phase_list_at phases.now orders.now deals index) }
 {
@@ -125,7 +125,7 @@ pub fn leave_phase(
     requires regular { Regular orders.now }
     requires one_total_per_order { length traded.now ≡ length orders.now }
     requires totals_bounded { AreBoundedTotals traded.now }
-    ensures { IfOk result (λ left. (deals : List ADeal)
+    ensures { IfOk result (λ left. (deals : List DealSpec)
         → HasPhaseTotals kind orders.now deals last traded.now
         → left.items ≡ left_numbers_after_phase kind orders.now deals last) }
 {
@@ -156,7 +156,7 @@ pub fn judge_phase(
     orders: &OrderList<'_>,
     deals: &[Deal],
     count: u32,
-    so_far: &mut SoFar,
+    so_far: &mut OrdersSoFar,
 ) -> Result<Option<Finding>, NoMemory>
     requires order_list { IsOrderList orders.now }
     requires regular { Regular orders.now }
@@ -166,7 +166,7 @@ pub fn judge_phase(
     requires phase_totals_bounded { (i : ℕ) → traded deals.now i ≤ 2 ^ 72 }
     requires old_totals_bounded { AreBoundedTotals so_far.old.traded.items }
     requires one_total_per_order { length orders.now ≤ length so_far.old.traded.items }
-    ensures found { (finding : AFinding) → result ≡ Ok (Some finding)
+    ensures found { (finding : FindingSpec) → result ≡ Ok (Some finding)
         → IsBrokenPhase (spec.rule_of phase.kind) orders.now deals.now count finding }
     ensures passed { result ≡ Ok None → AddsPhase phase.kind orders.now deals.now phase.last
         so_far.old.traded.items so_far.new.traded.items so_far.new.left.items }

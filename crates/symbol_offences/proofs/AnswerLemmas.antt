@@ -31,20 +31,20 @@ use Rattle.further_checks.specs.FurtherTexts.{further_text}
 use Rattle.matching_core.specs.declared.deals_draft.ResolvedTrades.{ResolvedTrades}
 use Rattle.record_verdict.specs.declared.before_rule.BeforeRule.{BeforeRule}
 use Rattle.record_verdict.specs.declared.before_rule.BeforeRule.TheVariants as before_rule
-use Rattle.record_verdict.specs.declared.verdicts.Judged.{Judged}
-use Rattle.record_verdict.specs.declared.verdicts.Judged.TheVariants as judged
-use Rattle.record_verdict.specs.Judged.{as_verdict}
+use Rattle.record_verdict.specs.declared.verdicts.RecordVerdict.{RecordVerdict}
+use Rattle.record_verdict.specs.declared.verdicts.RecordVerdict.TheVariants as judged
+use Rattle.record_verdict.specs.RecordVerdict.{as_verdict}
 use Rattle.record_verdict.specs.BeforeRule.{IsBeforeRule, IsResolvedWithoutFinding}
 use Rattle.record_verdict.specs.RecordVerdicts.{IsRecordVerdict}
 use Rattle.record_verdict.specs.Scopes.{admission_of, finding_before_rule_in_scope, scope_of, unadmitted_order_finding}
 use Rattle.record_verdict.specs.Stages.{IsVerdictAfterStages}
 use Rattle.symbol_offences.specs.declared.questions.OffenceQuestion.{OffenceQuestion}
-use Rattle.symbol_offences.specs.declared.symbol_logs.QuotedRecords.{QuotedRecords}
-use Rattle.symbol_offences.specs.declared.symbol_logs.SymbolLogs.{SymbolLogs}
+use Rattle.symbol_offences.specs.declared.symbol_before_rule.QuotedRecords.{QuotedRecords}
+use Rattle.symbol_offences.specs.declared.symbol_before_rule.SymbolBeforeRule.{SymbolBeforeRule}
 use Rattle.symbol_offences.specs.OffenceAnswers.{is_absent, IsAnswerByAbsence, IsAnswerByVerdict, IsAnswerToAccepted, IsAnswerToRejected, IsOffencesOfRecords}
 use Rattle.symbol_offences.specs.OffenceLines.{failure_lines}
 use Rattle.symbol_offences.specs.Questions.{audit_question, keeping_for, kept_if}
-use Rattle.symbol_offences.specs.SymbolLogs.{IsSymbolLogs, quoted_records}
+use Rattle.symbol_offences.specs.SymbolBeforeRule.{IsSymbolBeforeRule, quoted_records}
 use Rattle.symbol_offences.specs.Telling.{are_none, IsAnswerByDeals, IsAnswerByEmptiness, IsAnswerToLogs}
 use Rattle.symbol_offences.proofs.AbsenceLemmas.{found-present, sound-absent}
 
@@ -116,14 +116,14 @@ by-absence : (absent b : Bool) → absent ≡ b → (q : OffenceQuestion) (entri
 by-absence absent b same q entries paired the_status text is = subst (λ (x : Bool). IsAnswerByAbsence x q entries paired the_status text) (sym same) is
 
 -- a finding before the rule
-pub found-answer : (q : OffenceQuestion) (entries : List OrderRecord) (paired : Result (List TradeRecord) Finding) (logs : SymbolLogs) (finding : Finding) (v : Judged) (the_status : Status) (text : List ℕ)
-    → IsSymbolLogs (scope_of (audit_question q)) (keeping_for q) entries paired logs → logs.given ≡ before_rule.Found finding → v ≡ judged.Rejected finding → IsRecordVerdict (audit_question q) entries paired (as_verdict v)
+pub found-answer : (q : OffenceQuestion) (entries : List OrderRecord) (paired : Result (List TradeRecord) Finding) (logs : SymbolBeforeRule) (finding : Finding) (v : RecordVerdict) (the_status : Status) (text : List ℕ)
+    → IsSymbolBeforeRule (scope_of (audit_question q)) (keeping_for q) entries paired logs → logs.given ≡ before_rule.Found finding → v ≡ judged.Rejected finding → IsRecordVerdict (audit_question q) entries paired (as_verdict v)
     → IsAnswerToRejected logs.quoted [] finding (finding ∷ []) the_status text → IsOffencesOfRecords q entries paired the_status text
 found-answer q entries paired logs finding v the_status text is given rejected has told =
     by-absence (is_absent q.symbol entries paired) false (found-present (scope_of (audit_question q)) entries paired finding in_scope) q entries paired the_status text
     (record {
       the_verdict = verdict.Rejected finding;
-      is = subst (λ (w : Judged). IsRecordVerdict (audit_question q) entries paired (as_verdict w)) rejected has;
+      is = subst (λ (w : RecordVerdict). IsRecordVerdict (audit_question q) entries paired (as_verdict w)) rejected has;
       answer = rw found (subst (λ (r : QuotedRecords). IsAnswerToRejected r [] finding (finding ∷ []) the_status text) is.quoted told);
     })
   where
@@ -144,7 +144,7 @@ module _ (q : OffenceQuestion) (entries : List OrderRecord) (paired : Result (Li
   quoted : QuotedRecords
   quoted = quoted_records q.records q.symbol entries paired
 
-  by-deals : (v : Judged) → IsRecordVerdict (audit_question q) entries paired (as_verdict v)
+  by-deals : (v : RecordVerdict) → IsRecordVerdict (audit_question q) entries paired (as_verdict v)
       → IsAnswerByDeals q (order_list q.symbol entries) (deals_of_symbol (order_list q.symbol entries) q.symbol (paired_trades paired))
       (kept_if (asks_further q.checks) (times_of_symbol q.symbol (paired_trades paired))) (quoted_records q.records q.symbol entries paired) v the_status text
       → IsAnswerByVerdict q entries paired (as_verdict v) the_status text
@@ -153,15 +153,15 @@ module _ (q : OffenceQuestion) (entries : List OrderRecord) (paired : Result (Li
       (kept-times q.checks (order_list q.symbol entries) (deals_of_symbol (order_list q.symbol entries) q.symbol (paired_trades paired)) (times_of_symbol q.symbol (paired_trades paired))) told
   by-deals (judged.Rejected first) has told = rw clean told
 
-  by-some : (b : Bool) (v : Judged) → IsRecordVerdict (audit_question q) entries paired (as_verdict v)
+  by-some : (b : Bool) (v : RecordVerdict) → IsRecordVerdict (audit_question q) entries paired (as_verdict v)
       → IsAnswerByEmptiness b q (order_list q.symbol entries) (deals_of_symbol (order_list q.symbol entries) q.symbol (paired_trades paired))
       (kept_if (asks_further q.checks) (times_of_symbol q.symbol (paired_trades paired))) (quoted_records q.records q.symbol entries paired) v the_status text
       → IsAnswerByAbsence b q entries paired the_status text
   by-some true v has told = told
   by-some false v has told = record { the_verdict = as_verdict v; is = has; answer = by-deals v has told }
 
-pub sound-answer : (q : OffenceQuestion) (entries : List OrderRecord) (paired : Result (List TradeRecord) Finding) (logs : SymbolLogs) (sound : ResolvedTrades) (v : Judged) (the_status : Status) (text : List ℕ)
-    → IsSymbolLogs (scope_of (audit_question q)) (keeping_for q) entries paired logs → logs.given ≡ before_rule.Sound sound → IsRecordVerdict (audit_question q) entries paired (as_verdict v)
+pub sound-answer : (q : OffenceQuestion) (entries : List OrderRecord) (paired : Result (List TradeRecord) Finding) (logs : SymbolBeforeRule) (sound : ResolvedTrades) (v : RecordVerdict) (the_status : Status) (text : List ℕ)
+    → IsSymbolBeforeRule (scope_of (audit_question q)) (keeping_for q) entries paired logs → logs.given ≡ before_rule.Sound sound → IsRecordVerdict (audit_question q) entries paired (as_verdict v)
     → IsAnswerByEmptiness (are_none sound.history sound.deals.items) q sound.history sound.deals.items logs.times.items logs.quoted v the_status text
     → IsOffencesOfRecords q entries paired the_status text
 sound-answer q entries paired logs sound v the_status text is given has told =
@@ -188,7 +188,7 @@ sound-answer q entries paired logs sound v the_status text is given has told =
         (subst (λ (os : List Order). IsAnswerByEmptiness (are_none os sound.deals.items) q os sound.deals.items logs.times.items logs.quoted v the_status text) resolved.orders told)))
 
 -- The answer to what the records of two logs give.
-module _ (q : OffenceQuestion) (logs : SymbolLogs) (v : Judged) (answer : Answer) (stages : IsVerdictAfterStages (audit_question q) logs.given v) where
+module _ (q : OffenceQuestion) (logs : SymbolBeforeRule) (v : RecordVerdict) (answer : Answer) (stages : IsVerdictAfterStages (audit_question q) logs.given v) where
   -- a finding before the rule
   pub found-told : (finding : Finding) → logs.given ≡ before_rule.Found finding → IsAnswerOfKind (IsAnswerToRejected logs.quoted [] finding (finding ∷ [])) answer → IsAnswerToLogs q logs answer
   found-told finding given told entries paired is =

@@ -15,7 +15,7 @@ use Rattle.further_checks.specs.FurtherRules.{times_of_symbol}
 use Rattle.day_records.proofs.NumberedLemmas.{left-more, left-same}
 use Rattle.symbol_offences.specs.OrderLog.{with_entry_if}
 use Rattle.symbol_offences.specs.Questions.{kept_if}
-use Rattle.symbol_offences.specs.SymbolLogs.{ArePlacesRising, kept_history, kept_trades, places_of_records}
+use Rattle.symbol_offences.specs.SymbolBeforeRule.{ArePlacesRising, kept_history, kept_trades, places_of_records}
 use Rattle.symbol_offences.specs.TradeLog.{with_time_if, with_trade_if}
 
 -- a record of the symbol

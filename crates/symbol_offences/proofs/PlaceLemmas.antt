@@ -5,7 +5,7 @@ use Rattle.std.proofs.lemmas.List.{length-map}
 use Rattle.std.proofs.lemmas.Bool.{cases_lt, eq-eqb, ne_eqb}
 use Rattle.audit_base.proofs.LeastLemmas.{with-at, with-found, with-none}
 use Rattle.symbol_offences.specs.Quotes.{index_with_place, record_at}
-use Rattle.symbol_offences.specs.SymbolLogs.{ArePlacesRising, places_of_records}
+use Rattle.symbol_offences.specs.SymbolBeforeRule.{ArePlacesRising, places_of_records}
 
 -- The place is at none of the indices below the first and from the last on.
 pub record IsBetween (places : List ℕ) (place from to : ℕ) : Type 0 where

@@ -10,9 +10,9 @@ use Rattle.audit_base.specs.declared.terms.Which.TheVariants.{Trades}
 use Rattle.audit_base.specs.Histories.{order_list}
 use Rattle.audit_base.specs.Trades.{deal_of_trade, deals_of_symbol, trades_of_symbol}
 use Rattle.audit_base.specs.Verdicts.{paired_trades}
-use Rattle.day_records.specs.declared.symbol_trades.SymbolTrades.{SymbolTrades}
-use Rattle.day_records.specs.declared.symbol_trades.SymbolTrades.TheVariants as known
-use Rattle.day_records.specs.SymbolTrades.{IsSymbolTrades}
+use Rattle.day_records.specs.declared.symbol_during_trades.SymbolDuringTrades.{SymbolDuringTrades}
+use Rattle.day_records.specs.declared.symbol_during_trades.SymbolDuringTrades.TheVariants as known
+use Rattle.day_records.specs.SymbolDuringTrades.{IsSymbolDuringTrades}
 use Rattle.further_checks.specs.FurtherRules.{times_of_symbol}
 use Rattle.day_records.specs.KeptOrders.{KeptEntries}
 use Rattle.day_records.specs.KeptTrades.{KeptDeals}
@@ -28,31 +28,31 @@ use Rattle.record_verdict.specs.declared.scopes.Scope.{Scope}
 use Rattle.record_verdict.specs.BeforeRule.{IsBeforeRule, IsJudgeable}
 use Rattle.record_verdict.specs.Scopes.{finding_before_rule_in_scope, unadmitted_order_finding}
 use Rattle.symbol_offences.specs.declared.order_log.OrdersOfSymbol.{OrdersOfSymbol}
-use Rattle.symbol_offences.specs.declared.questions.Keeping.{Keeping}
-use Rattle.symbol_offences.specs.declared.reading.BegunSymbol.{BegunSymbol}
-use Rattle.symbol_offences.specs.declared.symbol_logs.QuotedRecords.{QuotedRecords}
-use Rattle.symbol_offences.specs.declared.symbol_logs.SymbolLogs.{SymbolLogs}
+use Rattle.symbol_offences.specs.declared.questions.KeepingOptions.{KeepingOptions}
+use Rattle.symbol_offences.specs.declared.reading.SymbolBeforeTrades.{SymbolBeforeTrades}
+use Rattle.symbol_offences.specs.declared.symbol_before_rule.QuotedRecords.{QuotedRecords}
+use Rattle.symbol_offences.specs.declared.symbol_before_rule.SymbolBeforeRule.{SymbolBeforeRule}
 use Rattle.symbol_offences.specs.OrderLog.{IsOrdersOfSymbol}
 use Rattle.symbol_offences.specs.Questions.{kept_if}
-use Rattle.symbol_offences.specs.SymbolLogs.{ArePlacesRising, IsReadyToTell, IsSymbolLogs, kept_history, kept_trades, places_of_records}
+use Rattle.symbol_offences.specs.SymbolBeforeRule.{ArePlacesRising, IsReadyToTell, IsSymbolBeforeRule, kept_history, kept_trades, places_of_records}
 use Rattle.symbol_offences.specs.TradeLog.{IsBegunWith, finding_of_orders}
 use Rattle.symbol_offences.proofs.KeptLemmas.{history-rises, trades-rise, no-trades_kept, no-times_kept}
 
-module _ (r : Reading) (scope : Scope) (keeping : Keeping) (trades : Source) (entries : List OrderRecord) where
+module _ (r : Reading) (scope : Scope) (keeping : KeepingOptions) (trades : Source) (entries : List OrderRecord) where
   -- the trades that were handed on
-  pub trades-ended : (has_taken : List TradeRecord → Type 0) (logs : SymbolLogs)
-      → IsReadAs r Trades trades.name.now (λ bytes. HasLogTrades has_taken (trades_of_trade_log trades.form bytes)) → ((ts : List TradeRecord) → has_taken ts → IsSymbolLogs scope keeping entries (Ok ts) logs)
-      → GivesOfTrades (IsSymbolLogs scope keeping entries) r trades (Ok logs)
+  pub trades-ended : (has_taken : List TradeRecord → Type 0) (logs : SymbolBeforeRule)
+      → IsReadAs r Trades trades.name.now (λ bytes. HasLogTrades has_taken (trades_of_trade_log trades.form bytes)) → ((ts : List TradeRecord) → has_taken ts → IsSymbolBeforeRule scope keeping entries (Ok ts) logs)
+      → GivesOfTrades (IsSymbolBeforeRule scope keeping entries) r trades (Ok logs)
   trades-ended has_taken logs read ends =
       record { bytes = read.bytes; read = read.read; holds = rw read.holds.says (ends read.holds.trades read.holds.has) }
 
   -- a report without its partner
-  pub trades-alone : (finding : Finding) (logs : SymbolLogs) → IsReadAs r Trades trades.name.now (λ bytes. trades_of_trade_log trades.form bytes ≡ Ok (Err finding))
-      → IsSymbolLogs scope keeping entries (Err finding) logs → GivesOfTrades (IsSymbolLogs scope keeping entries) r trades (Ok logs)
+  pub trades-alone : (finding : Finding) (logs : SymbolBeforeRule) → IsReadAs r Trades trades.name.now (λ bytes. trades_of_trade_log trades.form bytes ≡ Ok (Err finding))
+      → IsSymbolBeforeRule scope keeping entries (Err finding) logs → GivesOfTrades (IsSymbolBeforeRule scope keeping entries) r trades (Ok logs)
   trades-alone finding logs read is = record { bytes = read.bytes; read = read.read; holds = rw read.holds is }
 
 -- What is found where a report has no partner: the finding about the orders, or else that.
-alone-found : (scope : Scope) (entries : List OrderRecord) (begun : SymbolTrades) (finding : Finding) → IsSymbolTrades scope.admission entries [] scope.symbol begun
+alone-found : (scope : Scope) (entries : List OrderRecord) (begun : SymbolDuringTrades) (finding : Finding) → IsSymbolDuringTrades scope.admission entries [] scope.symbol begun
     → finding_before_rule_in_scope scope entries (Err finding) ≡ Some (unwrap_or (finding_of_orders begun) finding)
 alone-found scope entries (known.Found of_orders) finding is = is (Err finding)
 alone-found scope entries (known.Sound sound_symbol) finding is =
@@ -64,9 +64,9 @@ abbrev deals_with : List ℕ → List (ℕ × TradeRecord) → KeptDeals
 deals_with symbol trades = record { symbol = symbol; trades = trades }
 
 -- what two logs give where a report has no partner
-pub alone-logs : (scope : Scope) (keeping : Keeping) (entries : List OrderRecord) (begun : BegunSymbol) (finding : Finding) (logs : SymbolLogs) → IsBegunWith scope keeping begun entries
+pub alone-logs : (scope : Scope) (keeping : KeepingOptions) (entries : List OrderRecord) (begun : SymbolBeforeTrades) (finding : Finding) (logs : SymbolBeforeRule) → IsBegunWith scope keeping begun entries
     → logs.given ≡ before_rule.Found (unwrap_or (finding_of_orders begun.known) finding) → logs.times.items ≡ [] → logs.quoted.orders ≡ begun.records → logs.quoted.trades ≡ deals_with begun.records.symbol []
-    → IsSymbolLogs scope keeping entries (Err finding) logs
+    → IsSymbolBeforeRule scope keeping entries (Err finding) logs
 alone-logs scope keeping entries begun finding logs is given times orders trades = record {
   before = subst (λ (b : BeforeRule). IsBeforeRule scope entries (Err finding) b) (sym given) (alone-found scope entries begun.known finding is.known);
   times = times ∙ sym (no-times_kept keeping.times scope.symbol);
@@ -89,7 +89,7 @@ same-count : (orders : List Order) (symbol : List ℕ) (trades : List TradeRecor
 unfolding deals_of_symbol
 same-count orders symbol trades = length-map (trades_of_symbol symbol trades) (λ e. e.1.time) ∙ sym (length-map (trades_of_symbol symbol trades) (deal_of_trade orders))
 
-pub ready-of : (scope : Scope) (keeping : Keeping) (entries : List OrderRecord) (paired : Result (List TradeRecord) Finding) (logs : SymbolLogs) → IsSymbolLogs scope keeping entries paired logs → IsJudgeable logs.given
+pub ready-of : (scope : Scope) (keeping : KeepingOptions) (entries : List OrderRecord) (paired : Result (List TradeRecord) Finding) (logs : SymbolBeforeRule) → IsSymbolBeforeRule scope keeping entries paired logs → IsJudgeable logs.given
     → IsReadyToTell keeping logs
 ready-of scope keeping entries paired logs is judgeable = record {
   judgeable = judgeable;
@@ -108,9 +108,9 @@ ready-of scope keeping entries paired logs is judgeable = record {
         ∙ ap length (sym before.deals)
 
 -- what is known of a symbol after its order log
-pub begun-with : {S : Type 0} (symbol : List ℕ) (keeps : Bool) (scope : Scope) (keeping : Keeping) (orders : OrdersOfSymbol S) (after : SymbolTrades) (entries : List OrderRecord) → scope.symbol ≡ symbol → keeping.records ≡ keeps
-    → IsOrdersOfSymbol symbol keeps orders entries → IsSymbolTrades scope.admission entries [] symbol after → IsBegunWith scope keeping (record { known = after; records = orders.records }) entries
+pub begun-with : {S : Type 0} (symbol : List ℕ) (keeps : Bool) (scope : Scope) (keeping : KeepingOptions) (orders : OrdersOfSymbol S) (after : SymbolDuringTrades) (entries : List OrderRecord) → scope.symbol ≡ symbol → keeping.records ≡ keeps
+    → IsOrdersOfSymbol symbol keeps orders entries → IsSymbolDuringTrades scope.admission entries [] symbol after → IsBegunWith scope keeping (record { known = after; records = orders.records }) entries
 begun-with symbol keeps scope keeping orders after entries symbol_is keeps_is has known_is = record {
-  known = subst (λ (s : List ℕ). IsSymbolTrades scope.admission entries [] s after) (sym symbol_is) known_is;
+  known = subst (λ (s : List ℕ). IsSymbolDuringTrades scope.admission entries [] s after) (sym symbol_is) known_is;
   kept = has.records_are ∙ (λ i. kept_history (sym keeps_is i) (sym symbol_is i) entries);
 }

@@ -5,19 +5,19 @@ use Rattle.audit_base.specs.declared.records.OrderRecord.{OrderRecord}
 use Rattle.audit_base.specs.declared.records.TradeRecord.{TradeRecord}
 use Rattle.audit_base.specs.Histories.{symbol_of}
 use Rattle.audit_base.specs.Orders.{same_name}
-use Rattle.day_records.specs.declared.symbol_trades.SymbolTrades.{SymbolTrades}
-use Rattle.day_records.specs.declared.symbol_trades.SymbolTrades.TheVariants as known
-use Rattle.day_records.specs.SymbolTrades.{IsSymbolTrades, TakesTradeOf}
-use Rattle.instruction_history.specs.declared.symbol_history.SymbolHistory.{SymbolHistory}
-use Rattle.instruction_history.specs.SymbolHistory.{IsSymbolHistory, TakesOwnRecord}
-use Rattle.instruction_history.proofs.SymbolHistoryLemmas.{other-more}
+use Rattle.day_records.specs.declared.symbol_during_trades.SymbolDuringTrades.{SymbolDuringTrades}
+use Rattle.day_records.specs.declared.symbol_during_trades.SymbolDuringTrades.TheVariants as known
+use Rattle.day_records.specs.SymbolDuringTrades.{IsSymbolDuringTrades, TakesTradeOf}
+use Rattle.instruction_history.specs.declared.history_or_flaw.HistoryOrFlaw.{HistoryOrFlaw}
+use Rattle.instruction_history.specs.HistoryOrFlaw.{IsHistoryOrFlaw, TakesOwnRecord}
+use Rattle.instruction_history.proofs.HistoryOrFlawLemmas.{other-more}
 use Rattle.day_records.specs.KeptOrders.{KeptEntries}
 use Rattle.day_records.specs.KeptTrades.{KeptDeals}
-use Rattle.matching_core.proofs.SymbolDealsLemmas.{other-trade as other-deal}
+use Rattle.matching_core.proofs.DealsOrFlawLemmas.{other-trade as other-deal}
 use Rattle.record_verdict.specs.declared.scopes.Admission.{Admission}
 use Rattle.record_verdict.specs.declared.scopes.Scope.{Scope}
 use Rattle.symbol_offences.specs.declared.order_log.OrdersOfSymbol.{OrdersOfSymbol}
-use Rattle.symbol_offences.specs.declared.questions.Keeping.{Keeping}
+use Rattle.symbol_offences.specs.declared.questions.KeepingOptions.{KeepingOptions}
 use Rattle.symbol_offences.specs.declared.trade_log.TradesOfSymbol.{TradesOfSymbol}
 use Rattle.symbol_offences.specs.OrderLog.{IsOrdersOfSymbol, with_entry_if}
 use Rattle.symbol_offences.specs.TradeLog.{IsTradesOfSymbol, with_time_if, with_trade_if}
@@ -41,7 +41,7 @@ module _ {S : Type 0} (symbol : List ℕ) (keeps : Bool) (old new : OrdersOfSymb
       record {
         named = symbol_same ∙ has.named;
         count = counted ∙ count-more old.count entries entry has.count;
-        known = subst (λ (h : SymbolHistory). IsSymbolHistory symbol h (entries ++ entry ∷ [])) (sym history_same) (other-more symbol old.history entries entry not_own has.known);
+        known = subst (λ (h : HistoryOrFlaw). IsHistoryOrFlaw symbol h (entries ++ entry ∷ [])) (sym history_same) (other-more symbol old.history entries entry not_own has.known);
         keeps_so = keeps_same ∙ has.keeps_so;
         records_are = records_same ∙ has.records_are ∙ other-entry keeps symbol entries entry not_own;
       }
@@ -71,8 +71,8 @@ own-symbol symbol keeps old entries entry has same =
 -- The trade log.
 
 -- a trade of another symbol changes nothing that is known
-other-known : (admission : Admission) (entries : List OrderRecord) (trades : List TradeRecord) (trade : TradeRecord) (symbol : List ℕ) (it : SymbolTrades) → same_name trade.symbol symbol ≡ false → IsSymbolTrades admission entries trades symbol it
-    → IsSymbolTrades admission entries (trades ++ trade ∷ []) symbol it
+other-known : (admission : Admission) (entries : List OrderRecord) (trades : List TradeRecord) (trade : TradeRecord) (symbol : List ℕ) (it : SymbolDuringTrades) → same_name trade.symbol symbol ≡ false → IsSymbolDuringTrades admission entries trades symbol it
+    → IsSymbolDuringTrades admission entries (trades ++ trade ∷ []) symbol it
 other-known admission entries trades trade symbol (known.Found finding) other is = is
 other-known admission entries trades trade symbol (known.Sound sound) other is = record {
   well_formed = is.well_formed;
@@ -81,7 +81,7 @@ other-known admission entries trades trade symbol (known.Sound sound) other is =
   deals_are = other-deal sound.history symbol sound.deals trades trade other is.deals_are;
 }
 
-module _ {M : Type 0} (scope : Scope) (keeping : Keeping) (may_have : List OrderRecord → Type 0) (old new : TradesOfSymbol M) (trades : List TradeRecord) (trade : TradeRecord) (has : IsTradesOfSymbol scope keeping may_have old trades) where
+module _ {M : Type 0} (scope : Scope) (keeping : KeepingOptions) (may_have : List OrderRecord → Type 0) (old new : TradesOfSymbol M) (trades : List TradeRecord) (trade : TradeRecord) (has : IsTradesOfSymbol scope keeping may_have old trades) where
   pub other-trade_taken : same_name trade.symbol old.symbol ≡ false → new.symbol ≡ old.symbol → new.count ≡ old.count + 1 → new.known ≡ old.known → new.keeping ≡ old.keeping → new.times.items ≡ old.times.items → new.records ≡ old.records
       → IsTradesOfSymbol scope keeping may_have new (trades ++ trade ∷ [])
   other-trade_taken other symbol_same counted known_same keeping_same times_same records_same =
@@ -90,7 +90,7 @@ module _ {M : Type 0} (scope : Scope) (keeping : Keeping) (may_have : List Order
         named = symbol_same ∙ has.named;
         count = counted ∙ count-more old.count trades trade has.count;
         known_after = λ entries may.
-            subst (λ (it : SymbolTrades). IsSymbolTrades scope.admission entries (trades ++ trade ∷ []) scope.symbol it) (sym known_same)
+            subst (λ (it : SymbolDuringTrades). IsSymbolDuringTrades scope.admission entries (trades ++ trade ∷ []) scope.symbol it) (sym known_same)
             (other-known scope.admission entries trades trade scope.symbol old.known not_own (has.known_after entries may));
         keeps_so = keeping_same ∙ has.keeps_so;
         times_are = times_same ∙ has.times_are ∙ other-time keeping.times scope.symbol trades trade not_own;
@@ -103,8 +103,8 @@ module _ {M : Type 0} (scope : Scope) (keeping : Keeping) (may_have : List Order
   own-trade_taken same symbol_same counted takes keeping_same times_new records_new =
       let own : same_name trade.symbol scope.symbol ≡ true = subst (λ (s : List ℕ). same_name trade.symbol s ≡ true) has.named same in
       let at : old.count + 1 ≡ length trades + 1 = ap (λ (n : ℕ). n + 1) has.count in
-      let records_kept : old.keeping.records ≡ keeping.records = ap (λ (k : Keeping). k.records) has.keeps_so in
-      let times_kept : old.keeping.times ≡ keeping.times = ap (λ (k : Keeping). k.times) has.keeps_so in
+      let records_kept : old.keeping.records ≡ keeping.records = ap (λ (k : KeepingOptions). k.records) has.keeps_so in
+      let times_kept : old.keeping.times ≡ keeping.times = ap (λ (k : KeepingOptions). k.times) has.keeps_so in
       record {
         named = symbol_same ∙ has.named;
         count = counted ∙ count-more old.count trades trade has.count;
@@ -119,7 +119,7 @@ module _ {M : Type 0} (scope : Scope) (keeping : Keeping) (may_have : List Order
       }
 
 -- the trade is of the symbol whose records are kept
-pub own-trade_symbol : {M : Type 0} (scope : Scope) (keeping : Keeping) (may_have : List OrderRecord → Type 0) (old : TradesOfSymbol M) (trades : List TradeRecord) (trade : TradeRecord) → IsTradesOfSymbol scope keeping may_have old trades
+pub own-trade_symbol : {M : Type 0} (scope : Scope) (keeping : KeepingOptions) (may_have : List OrderRecord → Type 0) (old : TradesOfSymbol M) (trades : List TradeRecord) (trade : TradeRecord) → IsTradesOfSymbol scope keeping may_have old trades
     → same_name trade.symbol old.symbol ≡ true → trade.symbol ≡ old.records.symbol
 own-trade_symbol scope keeping may_have old trades trade has same =
     same-text trade.symbol old.symbol same ∙ has.named ∙ sym (ap (λ (k : KeptDeals). k.symbol) has.records_are)

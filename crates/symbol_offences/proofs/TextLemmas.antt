@@ -12,7 +12,7 @@ use Rattle.audit_base.specs.declared.orders.Order.{Order}
 use Rattle.offence_list.specs.declared.offences.ListedOffence.{ListedOffence}
 use Rattle.offence_list.specs.ListedOffences.{finding_of_offence, findings_of_offences}
 use Rattle.offence_list.specs.OffenceTexts.{count_line, offence_line}
-use Rattle.symbol_offences.specs.declared.symbol_logs.QuotedRecords.{QuotedRecords}
+use Rattle.symbol_offences.specs.declared.symbol_before_rule.QuotedRecords.{QuotedRecords}
 use Rattle.symbol_offences.specs.OffenceLines.{offence_lines, quoted_offence}
 use Rattle.symbol_offences.specs.Quotes.{ending_at, ending_place, is_inactive, quotes_with, shown_order_place}
 use Rattle.symbol_offences.specs.Telling.{offences_quoted}

@@ -4,7 +4,7 @@ pub mod OffenceAnswers
 pub mod Laws
 pub mod OffenceLines
 pub mod Quotes
-pub mod SymbolLogs
+pub mod SymbolBeforeRule
 -- What functions pass on to one another.
 pub mod OrderLog
 pub mod TradeLog

@@ -29,10 +29,10 @@ use Rattle.log_verdict.specs.Steps.{Reading}
 use Rattle.offence_list.specs.Offences.{record_offences}
 use Rattle.record_verdict.specs.RecordVerdicts.{IsRecordVerdict}
 use Rattle.symbol_offences.specs.declared.questions.OffenceQuestion.{OffenceQuestion}
-use Rattle.symbol_offences.specs.declared.symbol_logs.QuotedRecords.{QuotedRecords}
+use Rattle.symbol_offences.specs.declared.symbol_before_rule.QuotedRecords.{QuotedRecords}
 use Rattle.symbol_offences.specs.OffenceLines.{absent_line, failure_lines, offence_lines}
 use Rattle.symbol_offences.specs.Questions.{audit_question}
-use Rattle.symbol_offences.specs.SymbolLogs.{quoted_records}
+use Rattle.symbol_offences.specs.SymbolBeforeRule.{quoted_records}
 
 -- a list has no member
 abbrev pub has_none : {A : Type 0} → List A → Bool

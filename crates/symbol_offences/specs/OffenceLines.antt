@@ -8,7 +8,7 @@ use Rattle.audit_report.specs.Lines.{line_text}
 use Rattle.further_checks.specs.declared.findings.FurtherFinding.{FurtherFinding}
 use Rattle.further_checks.specs.FurtherTexts.{further_line}
 use Rattle.offence_list.specs.OffenceTexts.{count_line, offence_line}
-use Rattle.symbol_offences.specs.declared.symbol_logs.QuotedRecords.{QuotedRecords}
+use Rattle.symbol_offences.specs.declared.symbol_before_rule.QuotedRecords.{QuotedRecords}
 use Rattle.symbol_offences.specs.Quotes.{finding_quotes, further_quotes}
 
 -- the line of a finding about these orders, and the records that it quotes

@@ -16,8 +16,8 @@ use Rattle.audit_report.specs.Texts.{line_if_there}
 use Rattle.csv_logs.specs.Written.{order_row, trade_row}
 use Rattle.further_checks.specs.declared.findings.FurtherFinding.{FurtherFinding}
 use Rattle.further_checks.specs.declared.findings.FurtherFinding.TheVariants.{RestingPrice, TradeTime}
-use Rattle.symbol_offences.specs.declared.symbol_logs.QuotedRecords.{QuotedRecords}
-use Rattle.symbol_offences.specs.SymbolLogs.{places_of_records}
+use Rattle.symbol_offences.specs.declared.symbol_before_rule.QuotedRecords.{QuotedRecords}
+use Rattle.symbol_offences.specs.SymbolBeforeRule.{places_of_records}
 
 -- `record,LOG,PLACE,` and the fields of the record
 abbrev pub record_line : Which → ℕ → List (List ℕ) → List ℕ

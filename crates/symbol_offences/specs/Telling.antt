@@ -19,16 +19,16 @@ use Rattle.further_checks.specs.FurtherRules.{further_findings}
 use Rattle.offence_list.specs.declared.offences.ListedOffence.{ListedOffence}
 use Rattle.offence_list.specs.ListedOffences.{finding_of_offence}
 use Rattle.offence_list.specs.Offences.{offences_of}
-use Rattle.record_verdict.specs.declared.verdicts.Judged.{Judged}
-use Rattle.record_verdict.specs.declared.verdicts.Judged.TheVariants as judged
+use Rattle.record_verdict.specs.declared.verdicts.RecordVerdict.{RecordVerdict}
+use Rattle.record_verdict.specs.declared.verdicts.RecordVerdict.TheVariants as judged
 use Rattle.record_verdict.specs.Scopes.{scope_of}
 use Rattle.symbol_offences.specs.declared.questions.OffenceQuestion.{OffenceQuestion}
-use Rattle.symbol_offences.specs.declared.symbol_logs.QuotedRecords.{QuotedRecords}
-use Rattle.symbol_offences.specs.declared.symbol_logs.SymbolLogs.{SymbolLogs}
+use Rattle.symbol_offences.specs.declared.symbol_before_rule.QuotedRecords.{QuotedRecords}
+use Rattle.symbol_offences.specs.declared.symbol_before_rule.SymbolBeforeRule.{SymbolBeforeRule}
 use Rattle.symbol_offences.specs.OffenceAnswers.{has_none, IsAnswerToAccepted, IsAnswerToRejected, IsOffencesOfRecords}
 use Rattle.symbol_offences.specs.OffenceLines.{absent_line, quoted_offence}
 use Rattle.symbol_offences.specs.Questions.{audit_question, keeping_for}
-use Rattle.symbol_offences.specs.SymbolLogs.{IsSymbolLogs}
+use Rattle.symbol_offences.specs.SymbolBeforeRule.{IsSymbolBeforeRule}
 
 -- they are all offences of the deals under the rule
 abbrev pub IsListingUnder : Rule → List Order → List Deal → Finding → Listing → Type 0
@@ -42,7 +42,7 @@ offences_quoted orders quoted found =
 
 -- the answer by the verdict on these orders and deals
 abbrev pub IsAnswerByDeals : OffenceQuestion → List Order → List Deal → List Moment → QuotedRecords
-    → Judged → Status → List ℕ → Type 0
+    → RecordVerdict → Status → List ℕ → Type 0
 IsAnswerByDeals q orders deals times quoted (judged.Accepted accepted) =
     IsAnswerToAccepted quoted accepted (further_findings q.checks orders deals times)
 IsAnswerByDeals q orders deals times quoted (judged.Rejected first) =
@@ -54,7 +54,7 @@ are_none orders deals = has_none orders && has_none deals
 
 -- the answer by whether there is no order and no deal
 abbrev pub IsAnswerByEmptiness : Bool → OffenceQuestion → List Order → List Deal → List Moment
-    → QuotedRecords → Judged → Status → List ℕ → Type 0
+    → QuotedRecords → RecordVerdict → Status → List ℕ → Type 0
 IsAnswerByEmptiness true q orders deals times quoted the_judged =
     IsAnswerWith status.Rejected (absent_line q.symbol)
 IsAnswerByEmptiness false q orders deals times quoted the_judged =
@@ -62,8 +62,8 @@ IsAnswerByEmptiness false q orders deals times quoted the_judged =
 
 -- the answer to what the records of two logs give: of whatever records give this, the answer to
 -- them
-abbrev pub IsAnswerToLogs : OffenceQuestion → SymbolLogs → Answer → Type 0
+abbrev pub IsAnswerToLogs : OffenceQuestion → SymbolBeforeRule → Answer → Type 0
 IsAnswerToLogs q logs answer =
     (entries : List OrderRecord) (paired : Result (List TradeRecord) Finding)
-    → IsSymbolLogs (scope_of (audit_question q)) (keeping_for q) entries paired logs
+    → IsSymbolBeforeRule (scope_of (audit_question q)) (keeping_for q) entries paired logs
     → IsAnswerOfKind (IsOffencesOfRecords q entries paired) answer

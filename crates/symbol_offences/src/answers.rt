@@ -2,7 +2,7 @@
 ghost use Rattle.std.specs.Prelude.{◌≡◌, true, IfOk, length};
 ghost use Rattle.audit_base.specs.Deals.{IsDealList};
 ghost use Rattle.audit_report.specs.declared.statuses.Status.TheVariants as status;
-ghost use Rattle.record_verdict.specs.Judged.{IsJudgedInRange};
+ghost use Rattle.record_verdict.specs.RecordVerdict.{IsJudgedInRange};
 ghost use Rattle.command_run.specs.Deciding.{IsAnswerOfKind};
 ghost use Rattle.command_run.specs.VerdictAnswers.{IsAnswerWith};
 ghost use Rattle.further_checks.specs.FurtherRules.{asks_further};
@@ -11,12 +11,12 @@ ghost use Rattle.log_verdict.specs.Steps.{reading_by, FaultsNeverFall, KeepsShel
 ghost use Rattle.symbol_offences.specs.OffenceAnswers.{GivesOffencesOrStop};
 ghost use Rattle.symbol_offences.specs.OffenceLines.{absent_line};
 ghost use Rattle.symbol_offences.specs.Questions.{keeping_for};
-ghost use Rattle.symbol_offences.specs.SymbolLogs.{AreInLogOrder, IsReadyToTell};
+ghost use Rattle.symbol_offences.specs.SymbolBeforeRule.{AreInLogOrder, IsReadyToTell};
 ghost use Rattle.symbol_offences.specs.Telling.{are_none, IsAnswerByEmptiness, IsAnswerToLogs};
 
 use crate::questions::OffenceQuestion;
 use crate::reading::read_symbol;
-use crate::symbol_logs::{QuotedRecords, SymbolLogs};
+use crate::symbol_before_rule::{QuotedRecords, SymbolBeforeRule};
 use crate::verdict_answers::{answer_before_rule, answer_by_verdict, rejecting};
 use audit_base::faults::NoMemory;
 use audit_base::names::Name;
@@ -28,7 +28,7 @@ use log_verdict::sources::Source;
 use log_verdict::stops::Stop;
 use matching_core::deals_draft::ResolvedTrades;
 use record_verdict::before_rule::BeforeRule;
-use record_verdict::verdicts::{Judged, verdict_after};
+use record_verdict::verdicts::{RecordVerdict, verdict_after};
 use std::alloc::Global;
 
 /// The answer about a symbol that no record of two good logs has, whose reports pair: one line that
@@ -55,7 +55,7 @@ fn answer_sound(
     sound: &ResolvedTrades,
     times: &[Stamp],
     quoted: &QuotedRecords,
-    judged: Judged,
+    judged: RecordVerdict,
 ) -> Result<Answer, NoMemory>
     requires deal_list { IsDealList sound.now.history sound.now.deals.items }
     requires timed { asks_further question.now.checks ≡ true
@@ -76,7 +76,7 @@ fn answer_sound(
 fn answer_after(
     alloc: Global,
     question: &OffenceQuestion,
-    logs: &SymbolLogs,
+    logs: &SymbolBeforeRule,
 ) -> Result<Answer, NoMemory>
     requires { IsReadyToTell (keeping_for question.now) logs.now }
     ensures { IfOk result (IsAnswerToLogs question.now logs.now) }

@@ -3,10 +3,10 @@
 ghost use Rattle.std.specs.Prelude.{◌≡◌, ◌++◌, OnOk};
 ghost use Rattle.std.specs.List.{flat_map};
 ghost use Rattle.symbol_offences.specs.OffenceLines.{failure_lines, quoted_failure};
-ghost use Rattle.symbol_offences.specs.SymbolLogs.{AreInLogOrder};
+ghost use Rattle.symbol_offences.specs.SymbolBeforeRule.{AreInLogOrder};
 
 use crate::quotes::append_further_quotes;
-use crate::symbol_logs::QuotedRecords;
+use crate::symbol_before_rule::QuotedRecords;
 use audit_base::faults::NoMemory;
 use further_checks::findings::FurtherFinding;
 use further_checks::texts::append_further_line;

@@ -20,6 +20,6 @@ pub mod questions;
 mod quotes;
 pub mod reading;
 mod record_lines;
-pub mod symbol_logs;
+pub mod symbol_before_rule;
 pub mod trade_log;
 mod verdict_answers;

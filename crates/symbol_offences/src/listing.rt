@@ -9,11 +9,11 @@ ghost use Rattle.offence_list.specs.Offences.{continuous_offences_of, offence_ki
 ghost use Rattle.offence_list.specs.OffenceTexts.{offence_line};
 ghost use Rattle.symbol_offences.specs.OffenceLines.{offence_lines, quoted_offence};
 ghost use Rattle.symbol_offences.specs.Quotes.{quotes_with};
-ghost use Rattle.symbol_offences.specs.SymbolLogs.{AreInLogOrder};
+ghost use Rattle.symbol_offences.specs.SymbolBeforeRule.{AreInLogOrder};
 ghost use Rattle.symbol_offences.specs.Telling.{IsListingUnder, offences_quoted};
 
 use crate::quotes::{append_quotes, ending_place};
-use crate::symbol_logs::QuotedRecords;
+use crate::symbol_before_rule::QuotedRecords;
 use audit_base::faults::NoMemory;
 use audit_base::findings::Finding;
 use audit_base::orders::Deal;

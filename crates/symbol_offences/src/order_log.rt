@@ -10,7 +10,7 @@ use audit_base::faults::NoMemory;
 use audit_base::names::Name;
 use audit_base::records::{LogRecord, OrderRecord};
 use day_records::kept_orders::KeptOrders;
-use instruction_history::symbol_history::SymbolHistory;
+use instruction_history::history_or_flaw::HistoryOrFlaw;
 use log_source::collector::Collector;
 use seeded_hash::seed::HashSeed;
 use std::alloc::Global;
@@ -20,13 +20,13 @@ use std::marker::{Brand, PhantomData};
 /// records to collectors of any kind can say of one only which records it has been handed, and not
 /// what it was made for. So its type says that. Whoever makes one picks them, at `Brand`, and
 /// nothing of them is there when the program runs.
-pub trait AskedOrders {
+pub trait OrderLogGhost {
     ghost symbol: { List ℕ };
 
     ghost keeps: { Bool };
 }
 
-impl AskedOrders for Brand {
+impl OrderLogGhost for Brand {
     ghost symbol = { [] };
 
     ghost keeps = { false };
@@ -61,14 +61,14 @@ pub struct OrdersOfSymbol<S> {
     symbol: Name,
     /// How many records of the log there were, of all symbols.
     count: u32,
-    pub(crate) history: SymbolHistory,
+    pub(crate) history: HistoryOrFlaw,
     keeps_records: bool,
     /// Those of the symbol, where they are kept.
     pub(crate) records: KeptOrders,
     of: PhantomData<S>,
 }
 
-impl<S: AskedOrders> OrdersOfSymbol<S> {
+impl<S: OrderLogGhost> OrdersOfSymbol<S> {
     /// No records. Keys are found by hashes of this seed. Takes no memory.
     pub fn new(
         alloc: Global,
@@ -83,7 +83,7 @@ impl<S: AskedOrders> OrdersOfSymbol<S> {
         OrdersOfSymbol {
             symbol,
             count: 0,
-            history: SymbolHistory::new(alloc, seed),
+            history: HistoryOrFlaw::new(alloc, seed),
             keeps_records,
             records: KeptOrders::new(alloc, symbol),
             of: PhantomData,
@@ -105,7 +105,7 @@ impl<S: AskedOrders> OrdersOfSymbol<S> {
     }
 }
 
-impl<S: AskedOrders> Collector for OrdersOfSymbol<S> {
+impl<S: OrderLogGhost> Collector for OrdersOfSymbol<S> {
     ghost use Rattle.audit_base.specs.Orders.{same_name};
 
     type Entry = OrderRecord;

@@ -1,14 +1,14 @@
 //! Records and orders, found by their places, which rise: each look-up halves the list.
 ghost use Rattle.std.specs.Prelude.{◌≡◌, ◌<◌, ℕ, List, length, slice_index};
 ghost use Rattle.symbol_offences.specs.Quotes.{index_with_place};
-ghost use Rattle.symbol_offences.specs.SymbolLogs.{ArePlacesRising};
+ghost use Rattle.symbol_offences.specs.SymbolBeforeRule.{ArePlacesRising};
 
 use day_records::kept_orders::KeptOrders;
 use day_records::kept_trades::KeptTrades;
 use order_list::lists::OrderList;
 
 /// A list whose members have places.
-pub(crate) trait Placed {
+pub(crate) trait PlacedList {
     ghost places: { Self → List ℕ };
 
     /// How many members there are.
@@ -21,8 +21,8 @@ pub(crate) trait Placed {
         ensures { result ≡ slice_index (places self.now) index };
 }
 
-impl Placed for KeptOrders {
-    ghost use Rattle.symbol_offences.specs.SymbolLogs.{places_of_records};
+impl PlacedList for KeptOrders {
+    ghost use Rattle.symbol_offences.specs.SymbolBeforeRule.{places_of_records};
 
     ghost places = { λ kept. places_of_records kept.entries };
 
@@ -35,8 +35,8 @@ impl Placed for KeptOrders {
     }
 }
 
-impl Placed for KeptTrades {
-    ghost use Rattle.symbol_offences.specs.SymbolLogs.{places_of_records};
+impl PlacedList for KeptTrades {
+    ghost use Rattle.symbol_offences.specs.SymbolBeforeRule.{places_of_records};
 
     ghost places = { λ kept. places_of_records kept.trades };
 
@@ -49,7 +49,7 @@ impl Placed for KeptTrades {
     }
 }
 
-impl<'a> Placed for OrderList<'a> {
+impl<'a> PlacedList for OrderList<'a> {
     ghost use Rattle.symbol_offences.specs.Quotes.{places_of_orders};
 
     ghost places = { λ orders. places_of_orders orders };
@@ -64,7 +64,7 @@ impl<'a> Placed for OrderList<'a> {
 }
 
 /// The index of the member at this place; None exactly where none is there. Takes no memory.
-pub(crate) fn find_place<P: Placed>(list: &P, place: u32) -> Option<usize>
+pub(crate) fn find_place<P: PlacedList>(list: &P, place: u32) -> Option<usize>
     requires { ArePlacesRising (P.places list.now) }
     ensures { result ≡ index_with_place (P.places list.now) place }
 {

@@ -22,7 +22,7 @@ pub struct OffenceQuestion {
 
 /// What is kept of a symbol beside what its verdict needs.
 #[derive(Clone, Copy, Debug)]
-pub struct Keeping {
+pub struct KeepingOptions {
     /// Its records, of both logs.
     pub records: bool,
     /// The times of its trades.
@@ -42,10 +42,10 @@ impl OffenceQuestion {
     }
 
     /// What is kept for its answer.
-    pub(crate) fn keeping(&self) -> Keeping
+    pub(crate) fn keeping(&self) -> KeepingOptions
         ensures { result ≡ keeping_for self.now }
     {
-        Keeping {
+        KeepingOptions {
             records: self.records,
             times: self.checks.any(),
         }

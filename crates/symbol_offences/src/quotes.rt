@@ -3,11 +3,11 @@ ghost use Rattle.std.specs.Prelude.{◌≡◌, ◌++◌, OnOk, slice_get, option
 ghost use Rattle.audit_base.specs.Orders.{IsOrderList};
 ghost use Rattle.audit_report.specs.Texts.{line_if_there};
 ghost use Rattle.symbol_offences.specs.Quotes as spec;
-ghost use Rattle.symbol_offences.specs.SymbolLogs.{AreInLogOrder};
+ghost use Rattle.symbol_offences.specs.SymbolBeforeRule.{AreInLogOrder};
 
 use crate::places::find_place;
 use crate::record_lines::{append_order_record, append_trade_record};
-use crate::symbol_logs::QuotedRecords;
+use crate::symbol_before_rule::QuotedRecords;
 use audit_base::faults::NoMemory;
 use audit_base::findings::{Finding, Property, Shown};
 use audit_base::terms::Which;

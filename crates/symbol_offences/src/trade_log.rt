@@ -5,40 +5,40 @@
 //! order log gave and not the list.
 ghost use Rattle.std.specs.Prelude.{⊤, ◌≡◌, ◌∷◌, [], false, List, OnOk};
 ghost use Rattle.audit_base.specs.Orders.{same_name};
-ghost use Rattle.audit_base.specs.declared.records.OrderRecord.{OrderRecord as AnEntry};
+ghost use Rattle.audit_base.specs.declared.records.OrderRecord.{OrderRecord as OrderRecordSpec};
 ghost use Rattle.log_source.specs.Collectors.{HasPlace};
 ghost use Rattle.log_source.specs.Handing.{HandsOnMore};
 ghost use Rattle.record_verdict.specs.declared.scopes.Admission.TheVariants.{All as AdmitsAll};
-ghost use Rattle.record_verdict.specs.declared.scopes.Scope.{Scope as AScope};
-ghost use Rattle.symbol_offences.specs.declared.questions.Keeping.{Keeping as AKeeping};
-ghost use Rattle.day_records.specs.SymbolTrades.{IsSymbolTrades};
-ghost use Rattle.symbol_offences.specs.SymbolLogs.{IsReadyToTell, kept_history};
+ghost use Rattle.record_verdict.specs.declared.scopes.Scope.{Scope as ScopeSpec};
+ghost use Rattle.symbol_offences.specs.declared.questions.KeepingOptions.{KeepingOptions as KeepingOptionsSpec};
+ghost use Rattle.day_records.specs.SymbolDuringTrades.{IsSymbolDuringTrades};
+ghost use Rattle.symbol_offences.specs.SymbolBeforeRule.{IsReadyToTell, kept_history};
 ghost use Rattle.symbol_offences.specs.TradeLog.{EndsAsLogs, IsTradesOfSymbol, with_time_if, with_trade_if};
 
-use crate::questions::Keeping;
-use crate::symbol_logs::{QuotedRecords, SymbolLogs};
+use crate::questions::KeepingOptions;
+use crate::symbol_before_rule::{QuotedRecords, SymbolBeforeRule};
 use audit_base::faults::NoMemory;
 use audit_base::names::Name;
 use audit_base::records::TradeRecord;
 use audit_base::stamps::Stamp;
 use day_records::kept_orders::KeptOrders;
 use day_records::kept_trades::KeptTrades;
-use day_records::symbol_trades::SymbolTrades;
+use day_records::symbol_during_trades::SymbolDuringTrades;
 use log_source::collector::Collector;
 use std::alloc::Global;
 use std::marker::{Brand, PhantomData};
 
 /// The symbol of a trade log and which of its orders are admitted, what is kept, and which order
-/// records there may be, for proofs alone, as `AskedOrders` of an order log.
-pub trait AskedTrades {
-    ghost scope: { AScope };
+/// records there may be, for proofs alone, as `OrderLogGhost` of an order log.
+pub trait TradeLogGhost {
+    ghost scope: { ScopeSpec };
 
-    ghost keeping: { AKeeping };
+    ghost keeping: { KeepingOptionsSpec };
 
-    ghost may_have: { List AnEntry → Type 0 };
+    ghost may_have: { List OrderRecordSpec → Type 0 };
 }
 
-impl AskedTrades for Brand {
+impl TradeLogGhost for Brand {
     ghost scope = { record { symbol = []; admission = AdmitsAll } };
 
     ghost keeping = { record { records = false; times = false } };
@@ -86,8 +86,8 @@ pub struct TradesOfSymbol<M> {
     symbol: Name,
     /// How many records of the log there were, of all symbols.
     count: u32,
-    known: SymbolTrades,
-    keeping: Keeping,
+    known: SymbolDuringTrades,
+    keeping: KeepingOptions,
     /// Those of the trades of the symbol, where they are kept.
     times: Vec<Stamp>,
     /// Those of the symbol, where they are kept.
@@ -95,18 +95,18 @@ pub struct TradesOfSymbol<M> {
     of: PhantomData<M>,
 }
 
-impl<M: AskedTrades> TradesOfSymbol<M> {
+impl<M: TradeLogGhost> TradesOfSymbol<M> {
     /// No trades, after orders of which this is known. Takes no memory.
     pub fn new(
         alloc: Global,
         symbol: Name,
-        keeping: Keeping,
-        known: SymbolTrades,
+        keeping: KeepingOptions,
+        known: SymbolDuringTrades,
     ) -> TradesOfSymbol<M>
         requires symbol { symbol ≡ M.scope.symbol }
         requires keeping { keeping ≡ M.keeping }
-        requires known { (entries : List AnEntry) → M.may_have entries
-            → IsSymbolTrades M.scope.admission entries [] M.scope.symbol known }
+        requires known { (entries : List OrderRecordSpec) → M.may_have entries
+            → IsSymbolDuringTrades M.scope.admission entries [] M.scope.symbol known }
         ensures { IsTradesOfSymbol M.scope M.keeping M.may_have result [] }
     {
         TradesOfSymbol {
@@ -136,10 +136,10 @@ impl<M: AskedTrades> TradesOfSymbol<M> {
     }
 
     /// What both logs give, with these records of the order log. Takes no memory.
-    pub fn end(self, records: KeptOrders) -> SymbolLogs
+    pub fn end(self, records: KeptOrders) -> SymbolBeforeRule
         requires place { HasPlace (IsTradesOfSymbol M.scope M.keeping M.may_have) self }
-        requires some { (entries : List AnEntry) × M.may_have entries }
-        requires begun { (entries : List AnEntry) → M.may_have entries
+        requires some { (entries : List OrderRecordSpec) × M.may_have entries }
+        requires begun { (entries : List OrderRecordSpec) → M.may_have entries
             → records ≡ kept_history M.keeping.records M.scope.symbol entries }
         ensures logs { EndsAsLogs M.scope M.keeping M.may_have self records result }
         ensures ready { IsReadyToTell M.keeping result }
@@ -155,7 +155,7 @@ impl<M: AskedTrades> TradesOfSymbol<M> {
             orders: records,
             trades,
         };
-        SymbolLogs {
+        SymbolBeforeRule {
             given: known.end(count),
             times,
             quoted,
@@ -163,7 +163,7 @@ impl<M: AskedTrades> TradesOfSymbol<M> {
     }
 }
 
-impl<M: AskedTrades> Collector for TradesOfSymbol<M> {
+impl<M: TradeLogGhost> Collector for TradesOfSymbol<M> {
     ghost use Rattle.audit_base.specs.Orders.{same_name};
 
     type Entry = TradeRecord;

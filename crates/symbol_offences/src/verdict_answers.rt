@@ -9,15 +9,15 @@ ghost use Rattle.command_run.specs.Deciding.{IsAnswerOfKind};
 ghost use Rattle.command_run.specs.VerdictAnswers.{IsAnswerWith};
 ghost use Rattle.further_checks.specs.FurtherRules.{asks_further, further_findings};
 ghost use Rattle.offence_list.specs.Offences.{offences_of};
-ghost use Rattle.record_verdict.specs.Judged.{IsJudgedInRange};
+ghost use Rattle.record_verdict.specs.RecordVerdict.{IsJudgedInRange};
 ghost use Rattle.symbol_offences.specs.OffenceAnswers.{IsAnswerToAccepted, IsAnswerToRejected};
-ghost use Rattle.symbol_offences.specs.SymbolLogs.{AreInLogOrder};
+ghost use Rattle.symbol_offences.specs.SymbolBeforeRule.{AreInLogOrder};
 ghost use Rattle.symbol_offences.specs.Telling.{IsAnswerByDeals};
 
 use crate::further::append_failures;
 use crate::listing::{all_offences, append_before_rule, append_listing};
 use crate::questions::OffenceQuestion;
-use crate::symbol_logs::QuotedRecords;
+use crate::symbol_before_rule::QuotedRecords;
 use audit_base::faults::NoMemory;
 use audit_base::findings::Finding;
 use audit_base::orders::Deal;
@@ -33,7 +33,7 @@ use further_checks::findings::{FurtherChecks, FurtherFinding};
 use further_checks::texts::append_further_text;
 use matching_core::deals_draft::ResolvedTrades;
 use order_list::lists::OrderList;
-use record_verdict::verdicts::Judged;
+use record_verdict::verdicts::RecordVerdict;
 use std::alloc::Global;
 
 /// The answer that rejects with this text.
@@ -139,7 +139,7 @@ pub(crate) fn answer_by_verdict(
     sound: &ResolvedTrades,
     times: &[Stamp],
     quoted: &QuotedRecords,
-    judged: Judged,
+    judged: RecordVerdict,
 ) -> Result<Answer, NoMemory>
     requires deal_list { IsDealList sound.now.history sound.now.deals.items }
     requires timed { asks_further question.now.checks ≡ true
@@ -150,10 +150,10 @@ pub(crate) fn answer_by_verdict(
         IfOk result (IsAnswerOfKind (told times.now quoted.now judged)) }
 {
     match judged {
-        Judged::Accepted(accepted) => {
+        RecordVerdict::Accepted(accepted) => {
             answer_accepted(alloc, question.checks, sound, times, quoted, accepted)
         }
-        Judged::Rejected(first) => {
+        RecordVerdict::Rejected(first) => {
             let orders = sound.history.orders();
             answer_rejected(alloc, question.rule, &orders, &sound.deals, quoted, &first)
         }

@@ -12,7 +12,7 @@ use audit_base::records::{OrderRecord, TradeRecord};
 use audit_base::terms::{Form, Which};
 use csv_logs::log_text::ConvertedLog;
 use log_source::shelf::Shelf;
-use log_verdict::reading::{Collected, Unread, collect_orders, collect_trades};
+use log_verdict::reading::{CollectedTrades, ReadingFault, collect_orders, collect_trades};
 use log_verdict::sources::Source;
 use std::alloc::Global;
 
@@ -20,7 +20,7 @@ fn orders_as_csv<F: Shelf>(
     alloc: Global,
     shelf: &mut F,
     source: &Source<'_>,
-) -> Result<Vec<u8>, Unread>
+) -> Result<Vec<u8>, ReadingFault>
     requires limit { source.now.limit ≤ longest_read }
     ensures logs { KeepsShelfLogs F.Shelf shelf.old shelf.new }
     ensures only { TouchesOnly (reading_by source.now F.Shelf shelf.old shelf.new) Which.Orders }
@@ -28,17 +28,17 @@ fn orders_as_csv<F: Shelf>(
         (reading_by source.now F.Shelf shelf.old shelf.new) Which.Orders
         source.now.name.now result }
     ensures within { (F.slot shelf.old Which.Orders).taken ≤ source.now.limit
-        → result ≢ Err Unread.TooLong
+        → result ≢ Err ReadingFault.TooLong
         → (F.slot shelf.new Which.Orders).taken ≤ source.now.limit }
 {
     let log = match ConvertedLog::new(alloc) {
         Ok(log) => log,
-        Err(_) => return Err(Unread::Memory),
+        Err(_) => return Err(ReadingFault::Memory),
     };
     match collect_orders::<F, ConvertedLog<OrderRecord>>(alloc, shelf, source, log) {
         Ok(log) => match log.end() {
             Ok(text) => Ok(text),
-            Err(_) => Err(Unread::Memory),
+            Err(_) => Err(ReadingFault::Memory),
         },
         Err(unread) => Err(unread),
     }
@@ -48,14 +48,14 @@ fn orders_as_fix<F: Shelf>(
     alloc: Global,
     shelf: &mut F,
     source: &Source<'_>,
-) -> Result<Vec<u8>, Unread>
+) -> Result<Vec<u8>, ReadingFault>
     requires limit { source.now.limit ≤ longest_read }
     ensures logs { KeepsShelfLogs F.Shelf shelf.old shelf.new }
     ensures only { TouchesOnly (reading_by source.now F.Shelf shelf.old shelf.new) Which.Orders }
     ensures read { CollectsLog (IsMadeOfOrders Form.Fix) (records_of_order_log source.now.form)
         (reading_by source.now F.Shelf shelf.old shelf.new) Which.Orders
         source.now.name.now result }
-    ensures within { result ≢ Err Unread.TooLong
+    ensures within { result ≢ Err ReadingFault.TooLong
         → (F.slot shelf.new Which.Orders).taken ≤ source.now.limit }
 {
     // A law that the text rests on. It computes nothing.
@@ -74,7 +74,7 @@ pub fn convert_orders<F: Shelf>(
     shelf: &mut F,
     source: &Source<'_>,
     form: Form,
-) -> Result<Vec<u8>, Unread>
+) -> Result<Vec<u8>, ReadingFault>
     requires limit { source.now.limit ≤ longest_read }
     ensures logs { KeepsShelfLogs F.Shelf shelf.old shelf.new }
     ensures only { TouchesOnly (reading_by source.now F.Shelf shelf.old shelf.new) Which.Orders }
@@ -82,7 +82,7 @@ pub fn convert_orders<F: Shelf>(
         (reading_by source.now F.Shelf shelf.old shelf.new) Which.Orders
         source.now.name.now result }
     ensures within { (F.slot shelf.old Which.Orders).taken ≤ source.now.limit
-        → result ≢ Err Unread.TooLong
+        → result ≢ Err ReadingFault.TooLong
         → (F.slot shelf.new Which.Orders).taken ≤ source.now.limit }
 {
     match form {
@@ -95,7 +95,7 @@ fn trades_as_csv<F: Shelf>(
     alloc: Global,
     shelf: &mut F,
     source: &Source<'_>,
-) -> Result<Collected<Vec<u8>>, Unread>
+) -> Result<CollectedTrades<Vec<u8>>, ReadingFault>
     requires limit { source.now.limit ≤ longest_read }
     ensures logs { KeepsShelfLogs F.Shelf shelf.old shelf.new }
     ensures only { TouchesOnly (reading_by source.now F.Shelf shelf.old shelf.new) Which.Trades }
@@ -103,19 +103,19 @@ fn trades_as_csv<F: Shelf>(
         (reading_by source.now F.Shelf shelf.old shelf.new) Which.Trades
         source.now.name.now result }
     ensures within { (F.slot shelf.old Which.Trades).taken ≤ source.now.limit
-        → result ≢ Err Unread.TooLong
+        → result ≢ Err ReadingFault.TooLong
         → (F.slot shelf.new Which.Trades).taken ≤ source.now.limit }
 {
     let log = match ConvertedLog::new(alloc) {
         Ok(log) => log,
-        Err(_) => return Err(Unread::Memory),
+        Err(_) => return Err(ReadingFault::Memory),
     };
     match collect_trades::<F, ConvertedLog<TradeRecord>>(alloc, shelf, source, log) {
-        Ok(Collected::Trades(log)) => match log.end() {
-            Ok(text) => Ok(Collected::Trades(text)),
-            Err(_) => Err(Unread::Memory),
+        Ok(CollectedTrades::Trades(log)) => match log.end() {
+            Ok(text) => Ok(CollectedTrades::Trades(text)),
+            Err(_) => Err(ReadingFault::Memory),
         },
-        Ok(Collected::Alone(finding)) => Ok(Collected::Alone(finding)),
+        Ok(CollectedTrades::Alone(finding)) => Ok(CollectedTrades::Alone(finding)),
         Err(unread) => Err(unread),
     }
 }
@@ -124,22 +124,22 @@ fn trades_as_fix<F: Shelf>(
     alloc: Global,
     shelf: &mut F,
     source: &Source<'_>,
-) -> Result<Collected<Vec<u8>>, Unread>
+) -> Result<CollectedTrades<Vec<u8>>, ReadingFault>
     requires limit { source.now.limit ≤ longest_read }
     ensures logs { KeepsShelfLogs F.Shelf shelf.old shelf.new }
     ensures only { TouchesOnly (reading_by source.now F.Shelf shelf.old shelf.new) Which.Trades }
     ensures read { CollectsTrades (IsMadeOfTrades Form.Fix) (trades_of_trade_log source.now.form)
         (reading_by source.now F.Shelf shelf.old shelf.new) Which.Trades
         source.now.name.now result }
-    ensures within { result ≢ Err Unread.TooLong
+    ensures within { result ≢ Err ReadingFault.TooLong
         → (F.slot shelf.new Which.Trades).taken ≤ source.now.limit }
 {
     // A law that the text rests on. It computes nothing.
     written_logs_are_read_again();
     let log = MessageLog::new(alloc);
     match collect_trades::<F, MessageLog<TradeRecord>>(alloc, shelf, source, log) {
-        Ok(Collected::Trades(log)) => Ok(Collected::Trades(log.text)),
-        Ok(Collected::Alone(finding)) => Ok(Collected::Alone(finding)),
+        Ok(CollectedTrades::Trades(log)) => Ok(CollectedTrades::Trades(log.text)),
+        Ok(CollectedTrades::Alone(finding)) => Ok(CollectedTrades::Alone(finding)),
         Err(unread) => Err(unread),
     }
 }
@@ -152,7 +152,7 @@ pub fn convert_trades<F: Shelf>(
     shelf: &mut F,
     source: &Source<'_>,
     form: Form,
-) -> Result<Collected<Vec<u8>>, Unread>
+) -> Result<CollectedTrades<Vec<u8>>, ReadingFault>
     requires limit { source.now.limit ≤ longest_read }
     ensures logs { KeepsShelfLogs F.Shelf shelf.old shelf.new }
     ensures only { TouchesOnly (reading_by source.now F.Shelf shelf.old shelf.new) Which.Trades }
@@ -160,7 +160,7 @@ pub fn convert_trades<F: Shelf>(
         (reading_by source.now F.Shelf shelf.old shelf.new) Which.Trades
         source.now.name.now result }
     ensures within { (F.slot shelf.old Which.Trades).taken ≤ source.now.limit
-        → result ≢ Err Unread.TooLong
+        → result ≢ Err ReadingFault.TooLong
         → (F.slot shelf.new Which.Trades).taken ≤ source.now.limit }
 {
     match form {

@@ -1,6 +1,6 @@
 -- The answer is that of the runtime's command line, over its files, output and databases.
 use Rattle.std.proofs.Common.{ap, ◌∙◌}
-use Rattle.digest_files.specs.FileDigestOpeners.{digest_file_opener_state}
+use Rattle.digest_database_files.specs.FileDigestOpeners.{digest_file_opener_state}
 use Rattle.desk_program.proofs.run_desk_program.Goals as goal
 
 pub returns : goal.returns

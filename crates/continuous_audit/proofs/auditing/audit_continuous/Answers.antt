@@ -3,7 +3,7 @@ use Rattle.audit_base.specs.declared.findings.Finding.{Finding}
 use Rattle.audit_base.specs.Deals.{AreTotals}
 use Rattle.audit_base.specs.ContinuousOffences.{IsContinuousOffence}
 use Rattle.audit_base.proofs.ContinuousOffenceLemmas.{offence-fails}
-use Rattle.continuous_audit.specs.Markets.{IsMarket}
+use Rattle.continuous_audit.specs.IndexedDeals.{IsIndexedDeals}
 use Rattle.continuous_audit.specs.Progress.{IsFirstState}
 use Rattle.continuous_audit.proofs.AuditLemmas.{market-read, ready-first, last-conforms, last-totals}
 use Rattle.continuous_audit.proofs.auditing.audit_continuous.Goals as goal
@@ -24,7 +24,7 @@ pub returns : goal.returns
 returns c =
     let ready = c.in_ok-finding.ensures.done (ap Ok c.in_default.is) in
     let state = c.first_offence.new.self in
-    let market : IsMarket (record { orders = c.args.orders; deals = c.args.deals; incoming_deals = c.deref.result; endings = c.deref-2.result }) = market-read _ c.in_ok-incoming_deals.incoming_deals.items c.in_ok-endings.endings.items c.requires.order_list c.requires.deal_list c.deref.ensures.value c.deref-2.ensures.value c.in_ok-incoming_deals.ensures c.in_ok-endings.ensures in
+    let market : IsIndexedDeals (record { orders = c.args.orders; deals = c.args.deals; incoming_deals = c.deref.result; endings = c.deref-2.result }) = market-read _ c.in_ok-incoming_deals.incoming_deals.items c.in_ok-endings.endings.items c.requires.order_list c.requires.deal_list c.deref.ensures.value c.deref-2.ensures.value c.in_ok-incoming_deals.ensures c.in_ok-endings.ensures in
     let conforms = last-conforms _ market state ready in
     let traded_is : c.in_ok-wide.wide.items ≡ state.numbers.running.traded.items = c.in_ok-wide.ensures ∙ c.deref-3.ensures.value ∙ c.into_traded-traded.ensures in
     record {

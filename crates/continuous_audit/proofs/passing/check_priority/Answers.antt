@@ -4,7 +4,7 @@ use Rattle.audit_base.specs.declared.flaws.Flaw.{Flaw}
 use Rattle.audit_base.specs.Flaws.{IsEvidenceInside, finding_of}
 use Rattle.audit_base.specs.Orders.{order_at}
 use Rattle.audit_base.specs.Priority.{better}
-use Rattle.continuous_audit.specs.Markets.{incoming_deal_at, resting_order_at}
+use Rattle.continuous_audit.specs.IndexedDeals.{incoming_deal_at, resting_order_at}
 use Rattle.continuous_audit.proofs.FlawLemmas.{priority-after, shown-there}
 use Rattle.continuous_audit.proofs.PassLemmas.{pass-none-first, pass-found-first, resting-opposite, resting-upto}
 use Rattle.continuous_audit.proofs.passing.check_priority.Goals as goal

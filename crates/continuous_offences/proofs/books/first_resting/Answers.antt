@@ -2,7 +2,7 @@ use Rattle.std.proofs.Common.{◌≡◌, ◌<◌, ◌∙◌, ap, sym, arith, fal
 use Rattle.order_book.specs.Books.{BookSide}
 use Rattle.order_book.specs.declared.books.Resting.{Resting}
 use Rattle.continuous_offences.specs.Books.{waits_in_book}
-use Rattle.continuous_offences.specs.Dealt.{orders_of}
+use Rattle.continuous_offences.specs.StateAfterDeals.{orders_of}
 use Rattle.continuous_offences.proofs.BookLemmas.{first-holds, first-kept, first-none, first-step, first-stays}
 use Rattle.continuous_offences.proofs.books.first_resting.Goals as goal
 

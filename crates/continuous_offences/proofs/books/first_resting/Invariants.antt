@@ -1,6 +1,6 @@
 use Rattle.std.proofs.Common.{◌≡◌, ◌<◌, All, length}
 use Rattle.continuous_offences.specs.Books.{from_first, waits_in_book}
-use Rattle.continuous_offences.specs.Dealt.{orders_of}
+use Rattle.continuous_offences.specs.StateAfterDeals.{orders_of}
 use Rattle.continuous_offences.proofs.books.first_resting.Given as goal
 
 abbrev pub invariant-loop-best : goal.invariant-loop-best

@@ -1,7 +1,7 @@
 use Rattle.std.proofs.Common.{◌∙◌, ap, sym, subst, ℕ, Option, IfSome}
 use Rattle.call_offences.specs.DealOffences.{IsOrderOnSide}
 use Rattle.continuous_offences.specs.Crossing.{crossing_of}
-use Rattle.continuous_offences.specs.Dealt.{orders_of}
+use Rattle.continuous_offences.specs.StateAfterDeals.{orders_of}
 use Rattle.continuous_offences.specs.Passing.{side_against}
 use Rattle.continuous_offences.proofs.crossing.crossing_offence.Goals as goal
 

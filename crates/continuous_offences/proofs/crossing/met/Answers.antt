@@ -5,7 +5,7 @@ use Rattle.audit_base.specs.Expected.{limits_meet}
 use Rattle.audit_base.specs.Orders.{limit_at, order_at}
 use Rattle.offence_list.specs.declared.offences.ListedOffence.{ListedOffence}
 use Rattle.continuous_offences.specs.Crossing.{best_of_side, spread_of}
-use Rattle.continuous_offences.specs.Dealt.{orders_of, place_of, shown_after}
+use Rattle.continuous_offences.specs.StateAfterDeals.{orders_of, place_of, shown_after}
 use Rattle.continuous_offences.specs.Passing.{own_side}
 use Rattle.continuous_offences.proofs.crossing.met.Goals as goal
 

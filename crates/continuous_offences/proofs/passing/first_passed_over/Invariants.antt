@@ -1,5 +1,5 @@
 use Rattle.audit_base.specs.ContinuousOffences.{resting_priority_finding}
-use Rattle.continuous_offences.specs.Dealt.{deals_of, orders_of, place_of}
+use Rattle.continuous_offences.specs.StateAfterDeals.{deals_of, orders_of, place_of}
 use Rattle.continuous_offences.specs.Scanning.{AreClean}
 use Rattle.continuous_offences.proofs.passing.first_passed_over.Given as goal
 

@@ -5,7 +5,7 @@ use Rattle.audit_base.specs.Continuous.{resting_order}
 use Rattle.audit_base.specs.Orders.{order_at, side_at}
 use Rattle.audit_base.specs.Priority.{better}
 use Rattle.offence_list.specs.declared.offences.ListedOffence.TheVariants.{Priority}
-use Rattle.continuous_offences.specs.Dealt.{orders_of, shown_after}
+use Rattle.continuous_offences.specs.StateAfterDeals.{orders_of, shown_after}
 use Rattle.continuous_offences.proofs.passing.passed_over.Goals as goal
 
 pub better-requires : goal.better-requires

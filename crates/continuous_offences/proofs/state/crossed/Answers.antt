@@ -5,7 +5,7 @@ use Rattle.offence_list.specs.declared.offences.ListedOffence.{ListedOffence}
 use Rattle.offence_list.specs.ContinuousLists.{crossing_finding}
 use Rattle.continuous_offences.specs.Books.{AreBooksOf}
 use Rattle.continuous_offences.specs.DealFacts.{IsOffenceOf}
-use Rattle.continuous_offences.specs.Dealt.{deals_of, orders_of, place_of}
+use Rattle.continuous_offences.specs.StateAfterDeals.{deals_of, orders_of, place_of}
 use Rattle.continuous_offences.specs.Passing.{best_waiting, own_side, side_against}
 use Rattle.order_arrivals.specs.Resting.{has_left_with}
 use Rattle.continuous_offences.proofs.CrossingLemmas.{none-stands, stands}

@@ -1,6 +1,6 @@
 use Rattle.std.proofs.Common.{◌≡◌, ◌+◌, ◌∙◌, ap, add-one, sym, suc, ℕ, false, arith}
 use Rattle.continuous_offences.specs.Books.{waits}
-use Rattle.continuous_offences.specs.Dealt.{deals_of, orders_of, place_of}
+use Rattle.continuous_offences.specs.StateAfterDeals.{deals_of, orders_of, place_of}
 use Rattle.continuous_offences.proofs.EnterLemmas.{books-skipped, waits-left}
 use Rattle.continuous_offences.proofs.state.enter.Goals as goal
 

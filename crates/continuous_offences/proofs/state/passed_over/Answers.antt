@@ -1,7 +1,7 @@
 use Rattle.std.proofs.Common.{◌≡◌, ◌∙◌, ap, sym, subst, suc, ℕ, None}
 use Rattle.audit_base.specs.Orders.{other_side}
 use Rattle.continuous_offences.specs.Books.{AreBooksOf}
-use Rattle.continuous_offences.specs.Dealt.{deals_of, orders_of, place_of}
+use Rattle.continuous_offences.specs.StateAfterDeals.{deals_of, orders_of, place_of}
 use Rattle.continuous_offences.specs.Passing.{best_waiting, side_against}
 use Rattle.continuous_offences.proofs.PassedLemmas.{none-waits}
 use Rattle.continuous_offences.proofs.state.passed_over.Goals as goal

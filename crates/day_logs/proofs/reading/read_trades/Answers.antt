@@ -9,8 +9,8 @@ use Rattle.day_logs.proofs.reading.read_trades.Goals as goal
 pub returns-in-Ok-Trades-clause-decides : goal.returns-in-Ok-Trades-clause-decides
 returns-in-Ok-Trades-clause-decides g c = λ entries may.
     let read = rw c.in-Ok-Trades.field-0-is at c.in-Ok-Trades.ensures.read in
-    day-ended (reading_by c.args.trades.now g.F.Shelf c.args.shelf.now c.collect_trades.new.shelf) g.M.AuditedDay.share g.M.AuditedDay.admission c.args.trades.now entries
-    (IsDayTrades g.M.AuditedDay.share g.M.AuditedDay.admission g.M.AuditedDay.may_have c.in-Ok-Trades.day) c.end.result read (λ ts has. c.end.ensures entries ts may has)
+    day-ended (reading_by c.args.trades.now g.F.Shelf c.args.shelf.now c.collect_trades.new.shelf) g.M.DayGhost.share g.M.DayGhost.admission c.args.trades.now entries
+    (IsDayTrades g.M.DayGhost.share g.M.DayGhost.admission g.M.DayGhost.may_have c.in-Ok-Trades.day) c.end.result read (λ ts has. c.end.ensures entries ts may has)
 
 pub returns-in-Ok-Trades-clause-fits_places : goal.returns-in-Ok-Trades-clause-fits_places
 returns-in-Ok-Trades-clause-fits_places g c =
@@ -20,7 +20,7 @@ returns-in-Ok-Trades-clause-fits_places g c =
 pub returns-in-Ok-Alone-clause-decides : goal.returns-in-Ok-Alone-clause-decides
 returns-in-Ok-Alone-clause-decides g c = λ entries may.
     let read = rw c.in-Ok-Alone.field-0-is at c.in-Ok-Alone.ensures.read in
-    day-unpaired (reading_by c.args.trades.now g.F.Shelf c.args.shelf.now c.collect_trades.new.shelf) g.M.AuditedDay.share g.M.AuditedDay.admission c.args.trades.now entries c.in-Ok-Alone.finding read
+    day-unpaired (reading_by c.args.trades.now g.F.Shelf c.args.shelf.now c.collect_trades.new.shelf) g.M.DayGhost.share g.M.DayGhost.admission c.args.trades.now entries c.in-Ok-Alone.finding read
 
 pub returns-in-Err-clause-decides : goal.returns-in-Err-clause-decides
 returns-in-Err-clause-decides g c = λ entries may.

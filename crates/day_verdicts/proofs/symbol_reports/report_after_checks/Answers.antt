@@ -2,7 +2,7 @@ use Rattle.std.proofs.Common.{◌∙◌, sym}
 use Rattle.std.specs.Prelude.{slice_get}
 use Rattle.std.proofs.lemmas.Result.{IfOk-weaker}
 use Rattle.further_checks.specs.FurtherRules.{further_findings}
-use Rattle.day_verdicts.specs.ToldSymbols.{told_by}
+use Rattle.day_verdicts.specs.SymbolAnswers.{told_by}
 use Rattle.day_verdicts.proofs.CheckLemmas.{accepted-found, false-of-not, none-found, rejected-stays, true-of-not, unasked-stays}
 use Rattle.day_verdicts.proofs.symbol_reports.report_after_checks.Goals as goal
 

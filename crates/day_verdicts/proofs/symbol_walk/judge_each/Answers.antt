@@ -1,5 +1,5 @@
 use Rattle.std.proofs.Common.{◌≡◌, ◌∙◌, ap, length, arith}
-use Rattle.day_records.specs.SymbolRecords.{times_if}
+use Rattle.day_records.specs.KeptRecords.{times_if}
 use Rattle.day_verdicts.proofs.WalkSteps.{few-of-symbol, few-records, goes-on, next-at, walked-all, walked-on}
 use Rattle.day_verdicts.proofs.symbol_walk.judge_each.Goals as goal
 

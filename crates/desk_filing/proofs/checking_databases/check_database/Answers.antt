@@ -3,7 +3,7 @@ use Rattle.desk_filing.proofs.CheckLemmas.{good_both}
 use Rattle.desk_filing.proofs.FilingLemmas.{decides_checked, decides_unopened}
 use Rattle.desk_filing.proofs.WritingLemmas.{ends_at}
 use Rattle.desk_filing.specs.Runs.{missing_database}
-use Rattle.desk_filing.specs.declared.opener.Missing.TheVariants.{Refuse}
+use Rattle.desk_filing.specs.declared.opener.MissingDatabase.TheVariants.{Refuse}
 use Rattle.desk_filing.proofs.checking_databases.check_database.Goals as goal
 
 pub returns-in-Ok-clause-runs : goal.returns-in-Ok-clause-runs

@@ -1,6 +1,6 @@
 use Rattle.std.proofs.Common.{ap, Err}
 use Rattle.desk_filing.proofs.FilingLemmas.{decides_filed, decides_unopened, needs_to_file}
-use Rattle.desk_filing.specs.declared.opener.Missing.TheVariants.{Make}
+use Rattle.desk_filing.specs.declared.opener.MissingDatabase.TheVariants.{Make}
 use Rattle.desk_filing.proofs.databases.file_with_text.Goals as goal
 
 pub returns-in-Ok-clause-runs : goal.returns-in-Ok-clause-runs

@@ -13,9 +13,9 @@ returns-in-Ok-Trades-clause-decides g c = λ entries is.
     let read = rw c.in-Ok-Trades.field-0-is at c.in-Ok-Trades.ensures.read in
     rw c.of.ensures.found
     (after_ended (reading_by c.args.trades.now g.F.Shelf c.args.shelf.now c.collect_trades.new.shelf) c.args.scope.now c.args.trades.now entries
-    (IsDealsDraft g.M.AuditedHistory.symbol g.M.AuditedHistory.orders c.in-Ok-Trades.deals) c.end.result
+    (IsDealsDraft g.M.HistoryGhost.symbol g.M.HistoryGhost.orders c.in-Ok-Trades.deals) c.end.result
     (subst (λ (os : List Order). IsAdmitted c.args.scope.now entries os) (c.requires.orders ∙ sym c.end.ensures.history) is) read
-    (λ ts has. ends_as c.args.scope.now g.M.AuditedHistory.symbol g.M.AuditedHistory.orders ts c.end.result c.requires.symbol c.end.ensures.history
+    (λ ts has. ends_as c.args.scope.now g.M.HistoryGhost.symbol g.M.HistoryGhost.orders ts c.end.result c.requires.symbol c.end.ensures.history
     (c.end.ensures.count ts has) (c.end.ensures.finding ts has) (c.end.ensures.deals ts has)))
 
 pub returns-in-Ok-Alone-clause-decides : goal.returns-in-Ok-Alone-clause-decides
@@ -28,7 +28,7 @@ pub of-requires-clause-counted : goal.of-requires-clause-counted
 of-requires-clause-counted g c = λ none.
     let place = rw c.in-Ok-Trades.field-0-is at c.in-Ok-Trades.ensures.fits_places in
     rw (c.end.ensures.deals place.entries place.has none, c.end.ensures.count place.entries place.has)
-    (deals_counted g.M.AuditedHistory.orders g.M.AuditedHistory.symbol place.entries)
+    (deals_counted g.M.HistoryGhost.orders g.M.HistoryGhost.symbol place.entries)
 
 pub of-requires-clause-fits_places : goal.of-requires-clause-fits_places
 of-requires-clause-fits_places g c =

@@ -7,9 +7,9 @@ use Rattle.matching_core.proofs.resolving.resolve_all.Goals as goal
 pub returns-in-Some : goal.returns-in-Some
 returns-in-Some g c =
     rw (c.requires.orders, c.requires.symbol)
-    (resolved-found g.M.AuditedHistory.orders g.M.AuditedHistory.symbol c.args.trades.now c.in_ok-kept.field-0.kept.sound (flaw_finding c.in_ok-kept.field-0.kept.flaw) c.finding.result (ap flaw_finding c.in-Some.is ∙ ap (λ (f : Finding). Some f) (sym c.finding.ensures)) c.in_ok-kept.ensures.kept.known)
+    (resolved-found g.M.HistoryGhost.orders g.M.HistoryGhost.symbol c.args.trades.now c.in_ok-kept.field-0.kept.sound (flaw_finding c.in_ok-kept.field-0.kept.flaw) c.finding.result (ap flaw_finding c.in-Some.is ∙ ap (λ (f : Finding). Some f) (sym c.finding.ensures)) c.in_ok-kept.ensures.kept.known)
 
 pub returns : goal.returns
 returns g c =
     rw (c.requires.orders, c.requires.symbol)
-    (resolved-deals g.M.AuditedHistory.orders g.M.AuditedHistory.symbol c.args.trades.now c.in_ok-kept.field-0.kept.sound (flaw_finding c.in_ok-kept.field-0.kept.flaw) c.requires.fits_places (ap flaw_finding c.in-None.is) c.in_ok-kept.ensures.kept.known)
+    (resolved-deals g.M.HistoryGhost.orders g.M.HistoryGhost.symbol c.args.trades.now c.in_ok-kept.field-0.kept.sound (flaw_finding c.in_ok-kept.field-0.kept.flaw) c.requires.fits_places (ap flaw_finding c.in-None.is) c.in_ok-kept.ensures.kept.known)

@@ -6,5 +6,5 @@ use Rattle.page_plots.proofs.ShapeLemmas.{four-said}
 use Rattle.page_plots.proofs.shapes.with_written_circle.Goals as goal
 
 pub returns : goal.returns
-returns c = IfOk-weaker c.with_element-2.result _ _ (λ x e. e ∙ ap (λ (z : List ℕ). c.args.made ++ z) (four-said tag.Circle c.says.result c.says-2.result c.says-3.result c.says-4.result name.Class name.CenterX name.CenterY name.Radius _ _ _ _
-    (record { name = c.says.ensures.name; value = c.says.ensures.value }) (record { name = c.says-2.ensures.name; value = c.says-2.ensures.value }) (record { name = c.says-3.ensures.name; value = c.says-3.ensures.value }) (record { name = c.says-4.ensures.name; value = c.says-4.ensures.value }) _ _ c.new.ensures)) c.with_element-2.ensures
+returns c = IfOk-weaker c.with_element-2.result _ _ (λ x e. e ∙ ap (λ (z : List ℕ). c.args.made ++ z) (four-said tag.Circle c.attribute.result c.attribute-2.result c.attribute-3.result c.attribute-4.result name.Class name.CenterX name.CenterY name.Radius _ _ _ _
+    (record { name = c.attribute.ensures.name; value = c.attribute.ensures.value }) (record { name = c.attribute-2.ensures.name; value = c.attribute-2.ensures.value }) (record { name = c.attribute-3.ensures.name; value = c.attribute-3.ensures.value }) (record { name = c.attribute-4.ensures.name; value = c.attribute-4.ensures.value }) _ _ c.new.ensures)) c.with_element-2.ensures

@@ -4,10 +4,10 @@ use Rattle.plain_logs.proofs.FeedLemmas.{framed-on, framed-room}
 use Rattle.plain_logs.proofs.feeds.feed_framed.Goals as goal
 
 pub feed-requires : goal.feed-requires
-feed-requires g c = framed-room g.W.Skipped.skipped c.args.feed.now c.args.piece.now c.requires.skipped c.requires.room
+feed-requires g c = framed-room g.W.SkippedGhost.skipped c.args.feed.now c.args.piece.now c.requires.skipped c.requires.room
 
 pub returns : goal.returns
 returns g c =
     rw c.replace-lines.ensures.taken
-    (framed-on g.W.Skipped.skipped c.args.feed.now c.feed.new.self c.replace-lines.new.self c.args.piece.now c.bodies_fit_messages.ensures.framed c.days_have_one_reading.ensures.framed c.requires.skipped c.in_ok-feed.ensures c.replace-lines.ensures.kept
+    (framed-on g.W.SkippedGhost.skipped c.args.feed.now c.feed.new.self c.replace-lines.new.self c.args.piece.now c.bodies_fit_messages.ensures.framed c.days_have_one_reading.ensures.framed c.requires.skipped c.in_ok-feed.ensures c.replace-lines.ensures.kept
     (ap (λ (lines : PlainLines _). lines.text.items) c.replace-lines.ensures.placed ∙ c.in_memory_of.ensures))

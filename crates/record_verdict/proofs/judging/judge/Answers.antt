@@ -1,4 +1,4 @@
-use Rattle.record_verdict.specs.Judged.{as_verdict}
+use Rattle.record_verdict.specs.RecordVerdict.{as_verdict}
 use Rattle.record_verdict.specs.RecordVerdicts.{question}
 use Rattle.record_verdict.proofs.JudgeLemmas.{judged_once}
 use Rattle.record_verdict.proofs.judging.judge.Goals as goal

@@ -1,5 +1,5 @@
 use Rattle.std.proofs.Common.{◌∙◌, ap, Err}
-use Rattle.record_verdict.specs.Judged.{as_verdict}
+use Rattle.record_verdict.specs.RecordVerdict.{as_verdict}
 use Rattle.record_verdict.proofs.JudgeLemmas.{ok-then, trades_unsound, trades_sound}
 use Rattle.record_verdict.proofs.judging.judge_trades.Goals as goal
 

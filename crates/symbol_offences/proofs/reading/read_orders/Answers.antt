@@ -1,7 +1,7 @@
 use Rattle.std.proofs.Common.{ap, sym, Err}
-use Rattle.symbol_offences.specs.declared.symbol_logs.SymbolLogs.{SymbolLogs}
+use Rattle.symbol_offences.specs.declared.symbol_before_rule.SymbolBeforeRule.{SymbolBeforeRule}
 use Rattle.log_verdict.specs.Steps.{reading_by}
-use Rattle.symbol_offences.specs.SymbolLogs.{IsSymbolLogs}
+use Rattle.symbol_offences.specs.SymbolBeforeRule.{IsSymbolBeforeRule}
 use Rattle.log_verdict.proofs.JoinLemmas.{gives-after, keeps-both, later-after, orders-unread, orders-within, stays-within}
 use Rattle.symbol_offences.proofs.reading.read_orders.Goals as goal
 
@@ -14,7 +14,7 @@ returns-in-Ok-clause-decides g c =
     let is = c.in-Ok.ensures.read in
     gives-after (reading_by c.args.orders.now g.F.Shelf c.args.shelf.now c.collect_orders.new.shelf) (reading_by c.args.trades.now g.F.Shelf c.collect_orders.new.shelf c.after_orders.new.shelf)
     (record { limit = sym c.requires.limit.same; tells = c.in-Ok.ensures.logs.tells; logs = c.in-Ok.ensures.logs.logs; trades = c.in-Ok.ensures.only.other; orders = c.after_orders.ensures.only.other })
-    (IsSymbolLogs c.args.scope.now c.args.keeping) c.args.orders.now c.args.trades.now is.holds.entries c.after_orders.result
+    (IsSymbolBeforeRule c.args.scope.now c.args.keeping) c.args.orders.now c.args.trades.now is.holds.entries c.after_orders.result
     (record { bytes = is.bytes; read = is.read; holds = is.holds.reads })
     (c.after_orders.ensures.decides is.holds.entries is.holds.has)
 
@@ -37,5 +37,5 @@ returns-in-Err-clause-decides g c =
 
 pub returns-in-Err-clause-within : goal.returns-in-Err-clause-within
 returns-in-Err-clause-within g c =
-    orders-within {T = SymbolLogs} (reading_by c.args.orders.now g.F.Shelf c.args.shelf.now c.collect_orders.new.shelf) c.in-Err.unread (Err c.at.result) (ap Err c.at.ensures)
+    orders-within {T = SymbolBeforeRule} (reading_by c.args.orders.now g.F.Shelf c.args.shelf.now c.collect_orders.new.shelf) c.in-Err.unread (Err c.at.result) (ap Err c.at.ensures)
     (λ other. c.in-Err.ensures.within (λ e. other (cc))) c.in-Err.ensures.only.other

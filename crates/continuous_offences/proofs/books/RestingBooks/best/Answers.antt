@@ -1,7 +1,7 @@
 use Rattle.std.proofs.Common.{◌∙◌, ap, sym}
 use Rattle.audit_base.specs.declared.terms.Side.{Side}
 use Rattle.audit_base.specs.declared.terms.Side.TheVariants.{Buy, Sell}
-use Rattle.continuous_offences.specs.Dealt.{deals_of, orders_of}
+use Rattle.continuous_offences.specs.StateAfterDeals.{deals_of, orders_of}
 use Rattle.continuous_offences.specs.Passing.{best_waiting}
 use Rattle.continuous_offences.proofs.BookLemmas.{book-inside}
 use Rattle.continuous_offences.proofs.StateLemmas.{best-read}

@@ -3,7 +3,7 @@ use Rattle.std.proofs.lemmas.Result.{on_ok_weaker}
 use Rattle.audit_base.specs.declared.orders.Order.{Order}
 use Rattle.audit_base.specs.declared.terms.Side.TheVariants.{Buy, Sell}
 use Rattle.audit_base.specs.Orders.{limit_at, order_at, side_at}
-use Rattle.continuous_offences.specs.Dealt.{deals_of, orders_of, place_of}
+use Rattle.continuous_offences.specs.StateAfterDeals.{deals_of, orders_of, place_of}
 use Rattle.continuous_offences.proofs.BookLemmas.{book-below}
 use Rattle.continuous_offences.proofs.EnterLemmas.{books-ask, books-bid}
 use Rattle.continuous_offences.proofs.books.RestingBooks.enter.Goals as goal

@@ -13,7 +13,7 @@ returns g c = record {
         admits = c.requires.admission;
         count = refl;
         symbols_are = orders.symbols_are ∙ sym (no-trades entries);
-        records_are = begun-all g.M.AuditedDay.share c.args.orders.kept.items entries c.in_ok-kept.kept.items orders.histories_are c.in_ok-kept.ensures;
+        records_are = begun-all g.M.DayGhost.share c.args.orders.kept.items entries c.in_ok-kept.kept.items orders.histories_are c.in_ok-kept.ensures;
         fits_indices = orders.fits_indices;
       };
 }

@@ -1,5 +1,5 @@
 use Rattle.std.proofs.lemmas.Result.{on_ok_weaker}
-use Rattle.day_records.specs.SymbolTrades.{scope_by}
+use Rattle.day_records.specs.SymbolDuringTrades.{scope_by}
 use Rattle.record_verdict.specs.Scopes.{admission_of}
 use Rattle.day_verdicts.specs.DayVerdicts.{told_of_symbol}
 use Rattle.day_verdicts.proofs.CheckLemmas.{has-times}

@@ -1,6 +1,6 @@
 use Rattle.std.proofs.Common.{sym, ◌∙◌}
 use Rattle.std.proofs.lemmas.Result.{on_ok_weaker}
-use Rattle.record_verdict.specs.Judged.{as_verdict}
+use Rattle.record_verdict.specs.RecordVerdict.{as_verdict}
 use Rattle.desk_filing.proofs.DayCaseLemmas.{day_passes, day_takes}
 use Rattle.desk_filing.proofs.days.DayCasesVerdictList.take.Goals as goal
 

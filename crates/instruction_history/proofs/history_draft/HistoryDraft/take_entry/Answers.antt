@@ -3,12 +3,12 @@ use Rattle.std.proofs.lemmas.Result.{on_ok_weaker}
 use Rattle.audit_base.specs.Histories.{symbol_of}
 use Rattle.audit_base.specs.Orders.{same_name}
 use Rattle.instruction_history.proofs.DraftLemmas.{size-more}
-use Rattle.instruction_history.proofs.SymbolHistoryLemmas.{other-more}
+use Rattle.instruction_history.proofs.HistoryOrFlawLemmas.{other-more}
 use Rattle.instruction_history.proofs.history_draft.HistoryDraft.take_entry.Goals as goal
 
 pub take-requires : goal.take-requires
 take-requires g c = record {
-  symbol = g.S.AuditedSymbol.symbol;
+  symbol = g.S.SymbolGhost.symbol;
   entries = c.requires.entries;
   is = c.requires.has.kept;
   fits_indices = omega (arith, c.requires.fits_places);
@@ -20,7 +20,7 @@ returns-then-not-has_symbol g c = λ entries has.
     record {
       named = has.named;
       count = size-more c.args.self.now.count entries c.args.entry.now has.count;
-      kept = other-more g.S.AuditedSymbol.symbol c.args.self.now.kept entries c.args.entry.now (subst (λ (s : _). same_name (symbol_of c.args.entry.now) s ≡ false) has.named other) has.kept;
+      kept = other-more g.S.SymbolGhost.symbol c.args.self.now.kept entries c.args.entry.now (subst (λ (s : _). same_name (symbol_of c.args.entry.now) s ≡ false) has.named other) has.kept;
     }
 
 pub returns : goal.returns
@@ -30,6 +30,6 @@ returns g c =
     (λ takes entries has. record {
       named = has.named;
       count = size-more c.args.self.now.count entries c.args.entry.now has.count;
-      kept = takes g.S.AuditedSymbol.symbol entries has.kept (subst (λ (s : _). same_name (symbol_of c.args.entry.now) s ≡ true) has.named own) (ap (λ (n : ℕ). n + 1) has.count);
+      kept = takes g.S.SymbolGhost.symbol entries has.kept (subst (λ (s : _). same_name (symbol_of c.args.entry.now) s ≡ true) has.named own) (ap (λ (n : ℕ). n + 1) has.count);
     })
     c.take.ensures

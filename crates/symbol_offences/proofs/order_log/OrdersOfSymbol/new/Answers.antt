@@ -6,9 +6,9 @@ pub returns : goal.returns
 returns g c = record {
   named = c.requires.symbol;
   count = refl;
-  known = c.new.ensures g.S.AskedOrders.symbol;
+  known = c.new.ensures g.S.OrderLogGhost.symbol;
   keeps_so = c.requires.keeps;
   records_are = c.new-2.ensures
       ∙ ap (λ (s : List ℕ). record { symbol = s; entries = [] }) c.requires.symbol
-      ∙ ap (λ (l : List _). record { symbol = g.S.AskedOrders.symbol; entries = l }) (sym (none-kept g.S.AskedOrders.keeps [] refl));
+      ∙ ap (λ (l : List _). record { symbol = g.S.OrderLogGhost.symbol; entries = l }) (sym (none-kept g.S.OrderLogGhost.keeps [] refl));
 }

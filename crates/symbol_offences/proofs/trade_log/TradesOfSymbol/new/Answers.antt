@@ -8,8 +8,8 @@ returns g c = record {
   count = refl;
   known_after = c.requires.known;
   keeps_so = c.requires.keeping;
-  times_are = c.new.ensures.items ∙ sym (no-times_kept g.M.AskedTrades.keeping.times g.M.AskedTrades.scope.symbol);
+  times_are = c.new.ensures.items ∙ sym (no-times_kept g.M.TradeLogGhost.keeping.times g.M.TradeLogGhost.scope.symbol);
   records_are = c.new-2.ensures
       ∙ ap (λ (s : List ℕ). record { symbol = s; trades = [] }) c.requires.symbol
-      ∙ sym (no-trades_kept g.M.AskedTrades.keeping.records g.M.AskedTrades.scope.symbol);
+      ∙ sym (no-trades_kept g.M.TradeLogGhost.keeping.records g.M.TradeLogGhost.scope.symbol);
 }

@@ -1,7 +1,0 @@
-use Rattle.std.proofs.Common.{take}
-use Rattle.day_records.specs.SymbolRecords.{KnowsHistory}
-use Rattle.day_records.proofs.symbol_records.history_of.Given as goal
-
--- the history is known after the records so far
-abbrev pub invariant-loop-index : goal.invariant-loop-index
-invariant-loop-index l = KnowsHistory (take l.index l.fn.orders.entries) l.history

@@ -1,5 +1,0 @@
-use Rattle.matching_core.proofs.DraftLemmas.{known-none}
-use Rattle.matching_core.proofs.symbol_deals.SymbolDeals.new.Goals as goal
-
-pub returns : goal.returns
-returns c = λ orders symbol. record { known = known-none orders symbol c.new.result (c.new.ensures orders); alone = tt }
