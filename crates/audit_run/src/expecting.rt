@@ -33,7 +33,7 @@ use command_run::answers::{Answer, done_answer, finding_answer, unread_answer};
 use continuous_audit::expecting::continuous_matching;
 use continuous_laws::laws::continuous_uniqueness;
 use csv_logs::writers::write_trades;
-use instruction_history::history_draft::{SymbolGhost, HistoryDraft};
+use instruction_history::history_draft::{HistoryDraft, SymbolGhost};
 use log_source::shelf::Shelf;
 use log_verdict::reading::collect_orders;
 use log_verdict::sources::Source;

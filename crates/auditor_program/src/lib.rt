@@ -27,15 +27,15 @@ use log_source::shelf::Shelf;
 use log_source::sink::Sink;
 use log_source::std_sink::StdSink;
 use log_verdict::stops::NoRecords;
-use std::io;
-use std::process::ExitCode;
-use std::random::RandomSource;
 use program_ends::command_line::{CommandLine, words_of};
+use program_ends::ends::{ProgramEnd, UsedEnds, exit_code, fresh_output, noted_files};
 use program_ends::log_notes::print_end;
 use program_ends::noted_shelf::NotedShelf;
 use program_ends::notes::Notes;
-use program_ends::ends::{ProgramEnd, UsedEnds, exit_code, fresh_output, noted_files};
 use program_ends::usage_notes::print_auditor_usage;
+use std::io;
+use std::process::ExitCode;
+use std::random::RandomSource;
 
 /// Says on standard error why a run of these words ended above 1.
 fn tell<N: Notes, F: Shelf>(

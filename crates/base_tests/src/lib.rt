@@ -1,7 +1,7 @@
 //! Tests of what all else is built on: values and their texts, reports of bad places, the fields of
 //! FIX bodies, the reading and writing of logs, seeds of hashes, and casebooks in memory. They stand
 //! in a crate of their own, so that no crate that they try is proved once more with its tests. A test
-//! costs about seven seconds of proof whatever it does, so one goes through many rows.
+//! is proved as all code is, so one goes through many rows.
 //!
 //! `values` has names, numbers, prices and times, `bodies` bodies of FIX messages with their fields.
 //! `taking` reads logs from shelves, `opening` reads them from the files in memory of `stored_files`,

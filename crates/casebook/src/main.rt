@@ -2,12 +2,8 @@
 //! and shows them.
 //!
 //! What it does is `run_casebook` of `casebook_program`, which the gate runs a second time with a
-//! label that is known (`casebook_knows`). The tests are of casebooks in memory, whose keeper, sink
-//! or shelf fails.
+//! label that is known (`casebook_knows`).
 #![tactic(auto)]
-
-#[cfg(test)]
-mod case_tests;
 
 use casebook_program::program::run_casebook;
 use std::process::ExitCode;

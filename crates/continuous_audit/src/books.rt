@@ -10,8 +10,8 @@ ghost use Rattle.continuous_audit.specs.Books.{AreBooksAfter, AreBooksAfterDeals
 ghost use Rattle.continuous_audit.specs.Books.{resting_count, books_with_fills};
 ghost use Rattle.continuous_audit.specs.Holding.{IsWithinBook};
 
-use super::endings::OrderEnd;
 use super::book_fills::fill_best;
+use super::endings::OrderEnd;
 use audit_base::faults::NoMemory;
 use audit_base::numbers::Price;
 use audit_base::terms::Side;

@@ -6,8 +6,8 @@ ghost use Rattle.continuous_audit.specs.Progress.{AreNumbersAtStart, AreNumbersF
 ghost use Rattle.continuous_audit.specs.Records.{conservation_at};
 
 use super::arrival::arrive_order;
-use super::leaving::{left_at, refresh_left, set_amount};
 use super::indexed_deals::IndexedDeals;
+use super::leaving::{left_at, refresh_left, set_amount};
 use super::order_numbers::OrderNumbers;
 use super::scanning::{RunningTotals, check_deals};
 use audit_base::faults::NoMemory;

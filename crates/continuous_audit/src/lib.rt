@@ -3,18 +3,18 @@
 
 mod arrival;
 pub mod auditing;
+mod book_fills;
 mod books;
 mod chains;
 mod checking;
+mod dealing_state;
 mod endings;
+mod expected_trades;
 pub mod expecting;
-mod book_fills;
 mod fills;
 pub mod incoming_deals;
-mod leaving;
 mod indexed_deals;
-mod expected_trades;
-mod dealing_state;
+mod leaving;
 mod order_numbers;
 mod pairs;
 mod passing;

@@ -12,9 +12,9 @@ ghost use Rattle.continuous_audit.specs.Progress.{HasDealt};
 ghost use Rattle.continuous_audit.specs.Records.{priority_at};
 
 use super::books::Books;
+use super::dealing_state::DealingState;
 use super::incoming_deals::resting_of;
 use super::indexed_deals::IndexedDeals;
-use super::dealing_state::DealingState;
 use audit_base::flaws::{Evidence, Flaw};
 use order_book::books::Resting;
 use rank_order::comparing::better;

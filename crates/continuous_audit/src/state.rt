@@ -6,8 +6,8 @@ ghost use Rattle.continuous_audit.specs.IndexedDeals.{IsIndexedDeals};
 ghost use Rattle.continuous_audit.specs.Progress.{IsAfterDeals, IsFirstState, IsReadyFor, IsReadyNext};
 
 use super::books::BooksSoFar;
-use super::indexed_deals::IndexedDeals;
 use super::dealing_state::DealingState;
+use super::indexed_deals::IndexedDeals;
 use super::passing::pass_deals;
 use super::spreading::{enter_own, spread_flaw, spread_of};
 use audit_base::faults::NoMemory;
@@ -57,7 +57,11 @@ impl TradingState {
 
     /// The record of the order at `order`: its first flaw, if it has one, and else what is known
     /// before the next order.
-    fn audit_record(&mut self, market: &IndexedDeals<'_>, order: usize) -> Result<Option<Flaw>, NoMemory>
+    fn audit_record(
+        &mut self,
+        market: &IndexedDeals<'_>,
+        order: usize,
+    ) -> Result<Option<Flaw>, NoMemory>
         requires market { IsIndexedDeals market.now }
         requires order { order < length market.now.orders.now }
         requires ready { IsReadyFor market.now order self.old }

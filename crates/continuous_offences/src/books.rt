@@ -77,7 +77,11 @@ impl RestingBooks {
     }
 
     /// Adds the order to the book of its side, with what is left of it.
-    pub(crate) fn enter(&mut self, dealt: &StateAfterDeals<'_, '_, '_>, left: u64) -> Result<(), NoMemory>
+    pub(crate) fn enter(
+        &mut self,
+        dealt: &StateAfterDeals<'_, '_, '_>,
+        left: u64,
+    ) -> Result<(), NoMemory>
         requires dealt { IsDealt dealt.now }
         requires some { 0 < left }
         requires books { AreBooksOf (orders_of dealt.now) (deals_of dealt.now) dealt.now.order

@@ -63,7 +63,11 @@ fn spread_of(side: Side, place: u32, own: TradedOrder, other: TradedOrder) -> Li
 }
 
 /// The offence where the order at hand meets the best of the other side.
-fn met(dealt: &StateAfterDeals<'_, '_, '_>, same: Option<usize>, other: usize) -> Option<ListedOffence>
+fn met(
+    dealt: &StateAfterDeals<'_, '_, '_>,
+    same: Option<usize>,
+    other: usize,
+) -> Option<ListedOffence>
     requires dealt { IsDealt dealt.now }
     requires own { IfSome same (IsOrderOnSide (orders_of dealt.now) (own_side dealt.now)) }
     requires other { other < length (orders_of dealt.now) }

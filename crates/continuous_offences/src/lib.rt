@@ -13,8 +13,8 @@
 mod books;
 mod crossing;
 mod deal_offence;
-mod state_after_deals;
 pub mod listing;
 mod passing;
 mod scanning;
 mod state;
+mod state_after_deals;

@@ -15,7 +15,11 @@ use offence_list::offences::ListedOffence;
 use rank_order::comparing::better;
 
 /// The offence of a deal whose resting order the order at `best` outranks.
-fn passed_over(dealt: &StateAfterDeals<'_, '_, '_>, best: usize, deal: &Deal) -> Option<ListedOffence>
+fn passed_over(
+    dealt: &StateAfterDeals<'_, '_, '_>,
+    best: usize,
+    deal: &Deal,
+) -> Option<ListedOffence>
     requires dealt { IsDealt dealt.now }
     requires best { best < length (orders_of dealt.now) }
     requires named { NamesOrders (orders_of dealt.now) deal.now }

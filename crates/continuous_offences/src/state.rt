@@ -13,9 +13,9 @@ ghost use Rattle.continuous_offences.specs.States.{IsReady};
 
 use super::books::RestingBooks;
 use super::crossing::crossing_offence;
-use super::state_after_deals::StateAfterDeals;
 use super::passing::first_passed_over;
 use super::scanning::{first_deal_offence, first_of};
+use super::state_after_deals::StateAfterDeals;
 use audit_base::faults::NoMemory;
 use offence_list::offences::ListedOffence;
 use order_arrivals::arrivals::Arrivals;

@@ -13,7 +13,7 @@ ghost use Rattle.day_logs.specs.DayBeforeRule.{IsDayBeforeRule, IsDayWithFewTrad
 
 use crate::before_rule::DayBeforeRule;
 use audit_base::terms::Which;
-use day_records::day_orders::{ShareGhost, DayOrders, DayOrderLog};
+use day_records::day_orders::{DayOrderLog, DayOrders, ShareGhost};
 use day_records::day_trades::{DayGhost, DayTrades};
 use day_symbols::shares::DayShare;
 use log_source::shelf::Shelf;

@@ -56,7 +56,11 @@ fn with_digits(alloc: Global, row: Markup, digits: &[u8]) -> Result<Markup, NoMe
     ensures { IfOk result (λ more. more ≡ row ++ spec.digits_cell digits.now) }
 {
     let text = Markup::new(alloc).with_text(digits)?;
-    row.with_element(Tag::Cell, &[attribute(AttributeName::Class, b"number")], &text)
+    row.with_element(
+        Tag::Cell,
+        &[attribute(AttributeName::Class, b"number")],
+        &text,
+    )
 }
 
 /// With the cells of the totals behind it.

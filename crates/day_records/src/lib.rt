@@ -15,7 +15,7 @@
 pub mod day_orders;
 pub mod day_trades;
 pub mod kept_orders;
+pub mod kept_records;
 pub mod kept_trades;
 mod name_rows;
-pub mod kept_records;
 pub mod symbol_during_trades;

@@ -92,7 +92,12 @@ impl DayCases {
     }
 
     /// One case more, under this label; or this symbol, where its label is too long.
-    fn keep(&mut self, label: Option<Name>, symbol: &Name, judged: &RecordVerdict) -> Result<(), NoMemory>
+    fn keep(
+        &mut self,
+        label: Option<Name>,
+        symbol: &Name,
+        judged: &RecordVerdict,
+    ) -> Result<(), NoMemory>
         requires { self.old.long ≡ None }
         ensures { OnOk result
             (KeepsCase self.old self.new label symbol.now (as_verdict judged.now)) }

@@ -32,11 +32,7 @@ fn is_listed(number: u64, fails: &[u32]) -> bool
 }
 
 /// A keeper that has these cases on file, and fails at these calls.
-fn keeper_of(
-    alloc: Global,
-    kept: &[KeptCase],
-    fails: &[u32],
-) -> Result<MapDigestKeeper, NoMemory>
+fn keeper_of(alloc: Global, kept: &[KeptCase], fails: &[u32]) -> Result<MapDigestKeeper, NoMemory>
     requires { KeptLabelsDiffer kept.now }
     ensures { IfOk result (λ keeper.
         memory_keeper_state keeper ≡ record { kept = Some kept.now; faults = 0 }) }
@@ -76,7 +72,11 @@ impl DigestOpener for MapDigestOpener {
 
     ghost state = { memory_opener_state };
 
-    fn open(&mut self, _path: &str, missing: MissingDatabase) -> Result<MapDigestKeeper, KeepFault> {
+    fn open(
+        &mut self,
+        _path: &str,
+        missing: MissingDatabase,
+    ) -> Result<MapDigestKeeper, KeepFault> {
         self.calls = self.calls.saturating_add(1);
         if is_listed(self.calls, &self.fails) {
             self.faults = self.faults.saturating_add(1);

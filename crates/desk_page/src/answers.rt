@@ -15,7 +15,7 @@ ghost use Rattle.symbol_offences.specs.Telling.{are_none};
 
 use crate::drawings::Drawing;
 use crate::page_logs::{digits_of, named_logs};
-use crate::pages::{verdict_finding, page_before_rule, page_of_market};
+use crate::pages::{page_before_rule, page_of_market, verdict_finding};
 use crate::requests::PageRequest;
 use audit_base::faults::NoMemory;
 use audit_base::findings::Finding;

@@ -15,8 +15,6 @@ mod answers;
 pub mod drawings;
 pub mod laws;
 pub mod page_logs;
-#[cfg(test)]
-mod page_rows;
 mod pages;
 pub mod program;
 pub mod requests;

@@ -1,7 +1,7 @@
 //! Tests of `desk` that no example can say, since a file cannot: what a row of a whole call is and
 //! what checks it (`checks`), and the rows: every cut in every piece, every call that fails, each
-//! dress, logs over the ends of blocks and of the greatest length, and many deals that offend. The
-//! other rows are the examples of `desk_examples`.
+//! dress, logs over the ends of blocks and of the greatest length, many deals that offend, and pages
+//! without a picture. The other rows are the examples of `desk_examples`.
 #![tactic(auto)]
 
 #[cfg(test)]
@@ -19,6 +19,8 @@ mod long_rows;
 pub mod long_shelf;
 #[cfg(test)]
 mod many_deals;
+#[cfg(test)]
+mod page_rows;
 #[cfg(test)]
 mod plain_cuts;
 #[cfg(test)]

@@ -93,7 +93,11 @@ impl<S: Alter + Drop, D: DatabaseSystem<Connection = Connection<S>>> DigestOpene
 
     ghost state = { digest_file_opener_state };
 
-    fn open(&mut self, path: &str, missing: MissingDatabase) -> Result<SqlDigestKeeper<S>, KeepFault>
+    fn open(
+        &mut self,
+        path: &str,
+        missing: MissingDatabase,
+    ) -> Result<SqlDigestKeeper<S>, KeepFault>
         ensures opens { OpensDatabase sql_digest_state (digest_file_opener_state self.old)
             (digest_file_opener_state self.new) path.now missing result }
         // A path that is empty or begins with `-` is refused, and counted as a fault.

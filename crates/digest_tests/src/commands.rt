@@ -1,5 +1,5 @@
 //! Commands over a connection to a database, over any store.
-use crate::calls::{FilingEnd, CommandAnswer, file_by_desk, said_nothing, say_over_keeper};
+use crate::calls::{CommandAnswer, FilingEnd, file_by_desk, said_nothing, say_over_keeper};
 use crate::connection_opener::ConnectionOpener;
 use crate::keepers::say_together;
 use crate::tables::{append_rows, digest_rows, put_case};
@@ -28,7 +28,11 @@ pub(crate) enum Command {
 /// What a command says, and the connection.
 pub(crate) type AnswerAndConnection<S> = (Result<CommandAnswer, NoMemory>, Connection<S>);
 
-fn by_casebook<S: Alter>(alloc: Global, line: &str, connection: Connection<S>) -> AnswerAndConnection<S> {
+fn by_casebook<S: Alter>(
+    alloc: Global,
+    line: &str,
+    connection: Connection<S>,
+) -> AnswerAndConnection<S> {
     let (said, keeper) = say_over_keeper(alloc, line, SqlKeeper::new(alloc, connection));
     (said, keeper.into_connection())
 }
@@ -50,7 +54,11 @@ fn together<S: Alter>(alloc: Global, connection: Connection<S>) -> AnswerAndConn
 }
 
 /// Says with status 0 that the row was put into the table, and with 1 that it was not.
-fn put<S: Alter>(alloc: Global, columns: &str, mut connection: Connection<S>) -> AnswerAndConnection<S> {
+fn put<S: Alter>(
+    alloc: Global,
+    columns: &str,
+    mut connection: Connection<S>,
+) -> AnswerAndConnection<S> {
     let said = match put_case(alloc, &mut connection, columns) {
         Ok(()) => said_nothing(alloc, 0),
         Err(_) => said_nothing(alloc, 1),

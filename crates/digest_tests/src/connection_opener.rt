@@ -48,7 +48,11 @@ impl<S: Alter + Drop> DigestOpener for ConnectionOpener<S> {
     ghost state = { λ opener.
         record { tells = false; kept = (λ path. None); faults = opener.faults } };
 
-    fn open(&mut self, _path: &str, _missing: MissingDatabase) -> Result<SqlDigestKeeper<S>, KeepFault> {
+    fn open(
+        &mut self,
+        _path: &str,
+        _missing: MissingDatabase,
+    ) -> Result<SqlDigestKeeper<S>, KeepFault> {
         match self.connection.take() {
             Some(connection) => Ok(SqlDigestKeeper::new(self.alloc, connection)),
             None => {

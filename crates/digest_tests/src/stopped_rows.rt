@@ -72,7 +72,10 @@ fn is_done(said: &CommandAnswer) -> bool {
 }
 
 /// What is on file in files as a crash leaves them.
-fn show_after_crash<R: AllocGlobal + Abort>(rt: &R, files: Disks) -> Result<CommandAnswer, NoMemory> {
+fn show_after_crash<R: AllocGlobal + Abort>(
+    rt: &R,
+    files: Disks,
+) -> Result<CommandAnswer, NoMemory> {
     let CommandEnd {
         said,
         closed: _,

@@ -124,7 +124,7 @@ impl From<NoMemory> for CallFault {
 }
 
 /// The words of a command line, split at spaces.
-fn split_words(alloc: Global, line: &str) -> Result<Vec<String>, NoMemory> {
+pub(crate) fn split_words(alloc: Global, line: &str) -> Result<Vec<String>, NoMemory> {
     let mut words = Vec::new(alloc);
     for word in line.split(' ') {
         if !word.is_empty() {
@@ -135,7 +135,7 @@ fn split_words(alloc: Global, line: &str) -> Result<Vec<String>, NoMemory> {
 }
 
 /// A shelf that has the logs, and whose call of this number fails.
-fn shelf_of(alloc: Global, fails: u32) -> Result<MemoryShelf, NoMemory>
+pub(crate) fn shelf_of(alloc: Global, fails: u32) -> Result<MemoryShelf, NoMemory>
     ensures fresh { IfOk result (λ shelf.
         (which : Which) → (memory_slot shelf which).started ≡ false) }
 {

@@ -14,6 +14,6 @@ pub mod faults;
 mod findings;
 pub mod history;
 pub mod history_draft;
+pub mod history_or_flaw;
 pub mod history_orders;
 mod history_so_far;
-pub mod history_or_flaw;

@@ -7,8 +7,6 @@
 //! that is handed back with the logs that it had. `digits` and `lines` write digests.
 #![tactic(auto)]
 
-#[cfg(test)]
-mod digest_rows;
 pub mod digest_shelf;
 pub mod digests;
 pub mod digits;

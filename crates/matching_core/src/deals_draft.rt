@@ -10,8 +10,8 @@ ghost use Rattle.audit_base.specs.Deals.{IsDealList, DealsInRange};
 ghost use Rattle.matching_core.specs.DealsDraft.{IsDealsDraft, ForHandedTrades, IsFindingOfTrades, AreDealsOf};
 ghost use Rattle.log_source.specs.Collectors.{HasPlace};
 
-pub use super::deals_so_far::HistoryGhost;
 use super::deals_so_far::DealsSoFar;
+pub use super::deals_so_far::HistoryGhost;
 use audit_base::faults::NoMemory;
 use audit_base::findings::Finding;
 use audit_base::names::Name;

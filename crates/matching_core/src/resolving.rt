@@ -5,10 +5,10 @@ ghost use Rattle.audit_base.specs.Trades.{SoundTrades, deals_of_symbol, trades_f
 ghost use Rattle.matching_core.specs.Answers.{IfCheckFinding, IsResolveAnswer};
 ghost use Rattle.matching_core.specs.DealsSoFar.{IsDealsSoFar};
 
-use super::deals_so_far::{HistoryGhost, DealsSoFar};
+use super::deals_or_flaw::DealsOrFlaw;
+use super::deals_so_far::{DealsSoFar, HistoryGhost};
 use super::outcomes::CheckFault;
 use super::sound_deals::SoundDeals;
-use super::deals_or_flaw::DealsOrFlaw;
 use audit_base::faults::NoMemory;
 use audit_base::names::Name;
 use audit_base::orders::Deal;

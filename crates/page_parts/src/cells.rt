@@ -24,7 +24,11 @@ pub fn with_name(alloc: Global, row: Markup, name: &[u8]) -> Result<Markup, NoMe
     ensures { IfOk result (λ made. made ≡ row ++ spec.name_cell name.now) }
 {
     let text = Markup::new(alloc).with_text(name)?;
-    row.with_element(Tag::Cell, &[attribute(AttributeName::Class, b"name")], &text)
+    row.with_element(
+        Tag::Cell,
+        &[attribute(AttributeName::Class, b"name")],
+        &text,
+    )
 }
 
 /// With a cell of a number behind it.
@@ -33,7 +37,11 @@ pub fn with_number(alloc: Global, row: Markup, number: u128) -> Result<Markup, N
 {
     let mut buffer = Buffer::new();
     let text = Markup::new(alloc).with_text(buffer.format(number).as_bytes())?;
-    row.with_element(Tag::Cell, &[attribute(AttributeName::Class, b"number")], &text)
+    row.with_element(
+        Tag::Cell,
+        &[attribute(AttributeName::Class, b"number")],
+        &text,
+    )
 }
 
 /// With a cell of a price behind it.
@@ -43,7 +51,11 @@ pub fn with_price(alloc: Global, row: Markup, price: Price) -> Result<Markup, No
     let mut words = Vec::new(alloc);
     write_price(alloc, price.units(), &mut words)?;
     let text = Markup::new(alloc).with_text(&words)?;
-    row.with_element(Tag::Cell, &[attribute(AttributeName::Class, b"number")], &text)
+    row.with_element(
+        Tag::Cell,
+        &[attribute(AttributeName::Class, b"number")],
+        &text,
+    )
 }
 
 /// With so many empty cells behind it.

@@ -121,7 +121,9 @@ fn feed_lines<W: SkippedGhost, S: SohGhost>(
     Ok(lines.text)
 }
 
-fn close_lines<W: SkippedGhost, S: SohGhost>(feed: LineFeed<PlainLines<W>, S>) -> Result<DayEnd, NoMemory>
+fn close_lines<W: SkippedGhost, S: SohGhost>(
+    feed: LineFeed<PlainLines<W>, S>,
+) -> Result<DayEnd, NoMemory>
     requires within { HasReadWithinLimit (HasGivenLines S.text) feed }
     requires skipped { W.skipped ≡ line_count feed }
     ensures { IfOk result (λ end. EndsDay (IsLineReading S.text) (HasGivenLines S.text) feed end) }

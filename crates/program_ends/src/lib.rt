@@ -11,9 +11,9 @@
 
 pub mod command_line;
 pub mod database_notes;
+pub mod ends;
 pub mod log_notes;
 pub mod noted_shelf;
 pub mod notes;
-pub mod ends;
 pub mod usage_notes;
 mod word_parts;

@@ -1,13 +1,13 @@
 //! Digests that FIPS 180-4 gives, of logs that come in pieces; and logs that have none.
 ghost use Rattle.std.specs.Prelude.{◌≤◌};
 
-use crate::digest_shelf::DigestShelf;
-use crate::digests::digest_log;
-use crate::digits::read_digest;
-use crate::feeds::{DigestFeed, DigestingFeed};
-use crate::lines::digest_text;
 use audit_base::faults::NoMemory;
 use audit_base::terms::Which;
+use log_digests::digest_shelf::DigestShelf;
+use log_digests::digests::digest_log;
+use log_digests::digits::read_digest;
+use log_digests::feeds::{DigestFeed, Digesting};
+use log_digests::lines::digest_text;
 use log_source::feed::Feed;
 use log_source::memory_shelf::MemoryShelf;
 use log_source::quiet_shelf::QuietShelf;
@@ -30,7 +30,7 @@ const MESSAGE_TEXT: &[u8] =
       sha256,trades,248d6a61d20638b8e5c026930c3e6039a33ce45964ff2167f6ecedd419db06c1\n";
 
 // Two logs that come in pieces of this size.
-fn shelf_of(alloc: Global, orders: &str, trades: &str, piece: usize) -> Result<QuietShelf, NoMemory>
+fn logs_of(alloc: Global, orders: &str, trades: &str, piece: usize) -> Result<QuietShelf, NoMemory>
     requires { 1 ≤ piece }
 {
     let orders = Vec::from_slice(alloc, orders.as_bytes())?;
@@ -48,7 +48,7 @@ fn text_of(alloc: Global, shelf: &mut QuietShelf) -> Result<Vec<u8>, TakeFault> 
 #[test]
 fn messages_of_the_standard_in_pieces(rt: HostRuntime) -> Result<(), Fail> {
     for piece in 1..=64 {
-        let mut shelf = shelf_of(rt.alloc(), "abc", TWO_BLOCKS, piece)?;
+        let mut shelf = logs_of(rt.alloc(), "abc", TWO_BLOCKS, piece)?;
         let text = text_of(rt.alloc(), &mut shelf)?;
         assert!(rt; text.as_slice() == MESSAGE_TEXT, "pieces of {piece}");
     }
@@ -57,7 +57,7 @@ fn messages_of_the_standard_in_pieces(rt: HostRuntime) -> Result<(), Fail> {
 
 #[test]
 fn empty_logs(rt: HostRuntime) -> Result<(), Fail> {
-    let mut shelf = shelf_of(rt.alloc(), "", "", 1)?;
+    let mut shelf = logs_of(rt.alloc(), "", "", 1)?;
     let text = text_of(rt.alloc(), &mut shelf)?;
     assert!(rt; text.as_slice() == EMPTY_TEXT);
     Ok(())
@@ -65,11 +65,11 @@ fn empty_logs(rt: HostRuntime) -> Result<(), Fail> {
 
 #[test]
 fn a_digest_beside_what_another_feed_keeps(rt: HostRuntime) -> Result<(), Fail> {
-    let mut feed = DigestingFeed::over(DigestFeed::new());
+    let mut feed = Digesting::over(DigestFeed::new());
     feed.feed(b"a")?;
     feed.feed(b"bc")?;
     let (digest, other) = feed.end();
-    let expected = text_of(rt.alloc(), &mut shelf_of(rt.alloc(), "abc", "abc", 2)?)?;
+    let expected = text_of(rt.alloc(), &mut logs_of(rt.alloc(), "abc", "abc", 2)?)?;
     let text = digest_text(rt.alloc(), &digest, &other.digest())?;
     assert!(rt; text == expected);
     Ok(())
@@ -102,7 +102,7 @@ fn digits_are_read_in_lower_case_alone(rt: HostRuntime) -> Result<(), Fail> {
 
 #[test]
 fn a_log_that_is_one_byte_too_long(rt: HostRuntime) -> Result<(), Fail> {
-    let mut shelf = shelf_of(rt.alloc(), "abc", "", 2)?;
+    let mut shelf = logs_of(rt.alloc(), "abc", "", 2)?;
     let digest = digest_log(&mut shelf, Which::Orders, "orders", 2);
     assert!(rt; matches!(digest, Err(TakeFault::TooLong)));
     assert!(rt; digest_log(&mut shelf, Which::Orders, "orders", 3).is_ok());

@@ -1,4 +1,6 @@
-//! Runs of commands over a casebook in memory: the words, and the status and the lines.
+//! Runs of commands of `casebook` over a casebook in memory, whose keeper, sink or shelf fails: the
+//! words, and the status and the lines.
+use crate::calls::{shelf_of, split_words};
 use audit_base::names::read_name;
 use case_keeper::casebook::Casebook;
 use case_keeper::keeper::Keeper;
@@ -7,56 +9,14 @@ use case_run::books::run_book;
 use case_run::map_opener::MapOpener;
 use case_run::running::run_case;
 use case_run::statuses::CaseStatus;
-use log_source::memory_shelf::MemoryShelf;
 use log_source::memory_sink::MemorySink;
 use std::alloc::Global;
 use std::process::Abort;
 use std::test::Fail;
 
-/// The logs of the tests, by their names: those of one trade, and a log that is in no grammar.
-const LOGS: [(&str, &str); 3] = [
-    (
-        "o",
-        "kind,firm,id,time,symbol,side,quantity,price,target
-N,A,b1,20240102-09:00:00,Z,B,100,10,
-N,B,s1,20240102-09:00:00,Z,S,100,9,
-",
-    ),
-    (
-        "t",
-        "trade,time,symbol,buy_firm,buy_id,sell_firm,sell_id,quantity,price
-T1,20240102-09:00:01,Z,A,b1,B,s1,100,9.5
-",
-    ),
-    ("x", "no header\n"),
-];
-
 const USAGE: &str =
     "usage: DATABASE file LABEL RULE SYMBOL FORM ORDERS TRADES | list [SYMBOL [RESULT]] | show LABEL, joined by then
 ";
-
-/// The words of a command line, split at spaces.
-fn split_words(alloc: Global, line: &str) -> Result<Vec<String>, Fail> {
-    let mut words = Vec::new(alloc);
-    for word in line.split(' ') {
-        if !word.is_empty() {
-            words.push(String::from_str(alloc, word)?)?;
-        }
-    }
-    Ok(words)
-}
-
-/// A shelf that has the logs, and whose call of this number fails.
-fn shelf_of(alloc: Global, fails: u32) -> Result<MemoryShelf, Fail> {
-    let mut shelf = MemoryShelf::new(alloc, 64, Vec::from_slice(alloc, &[fails])?);
-    for &(name, log) in &LOGS {
-        shelf.put(
-            String::from_str(alloc, name)?,
-            Vec::from_slice(alloc, log.as_bytes())?,
-        )?;
-    }
-    Ok(shelf)
-}
 
 /// A casebook in memory of no cases, whose keeper's call of this number fails.
 fn casebook_over(alloc: Global, fails: u32) -> Result<Casebook<MapKeeper>, Fail> {

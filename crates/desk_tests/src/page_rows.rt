@@ -3,13 +3,14 @@ ghost use Rattle.std.specs.Prelude.{◌≡◌, false, IfOk};
 ghost use Rattle.audit_base.specs.declared.terms.Which.{Which};
 ghost use Rattle.log_source.specs.MemoryShelves.{memory_slot};
 
-use crate::drawings::Drawing;
-use crate::running::run_page;
+use crate::checks::inputs::words_of;
 use audit_base::faults::NoMemory;
 use audit_base::findings::Finding;
 use audit_base::orders::Deal;
 use audit_base::terms::Rule;
 use audit_report::statuses::Status;
+use desk_page::drawings::Drawing;
+use desk_page::running::run_page;
 use desk_words::texts::desk_usage_text;
 use log_source::memory_shelf::MemoryShelf;
 use log_source::memory_sink::MemorySink;
@@ -61,15 +62,6 @@ T1,20240102-09:00:01,Z,A,b1,B,s1,100,8
     ("x", "no header\n"),
 ];
 
-/// The words of a command line, split at spaces.
-fn split_words(alloc: Global, line: &str) -> Result<Vec<String>, NoMemory> {
-    let mut words = Vec::new(alloc);
-    for word in line.split(' ') {
-        words.push(String::from_str(alloc, word)?)?;
-    }
-    Ok(words)
-}
-
 /// A shelf that has the logs.
 fn shelf_of(alloc: Global) -> Result<MemoryShelf, NoMemory>
     ensures fresh { IfOk result (λ shelf.
@@ -87,7 +79,7 @@ fn shelf_of(alloc: Global) -> Result<MemoryShelf, NoMemory>
 
 /// What a call comes to.
 fn make_call(alloc: Global, line: &str) -> Result<(Status, MemorySink), NoMemory> {
-    let words = split_words(alloc, line)?;
+    let words = words_of(alloc, line)?;
     let mut out = MemorySink::new(alloc, 65536, 4096, Vec::new(alloc))?;
     let shelf = shelf_of(alloc)?;
     let ran = run_page::<NoPicture, MemoryShelf, MemorySink>(alloc, &words, shelf, &mut out);

@@ -1,7 +1,7 @@
 use Rattle.std.proofs.Common.{◌≡◌, false}
 use Rattle.audit_base.specs.declared.terms.Which.{Which}
 use Rattle.log_source.specs.MemoryShelves.{memory_slot}
-use Rattle.desk_page.proofs.page_rows.shelf_of.Given as goal
+use Rattle.desk_tests.proofs.page_rows.shelf_of.Given as goal
 
 -- to put a log starts nothing
 abbrev pub invariant-logs : goal.invariant-logs
