@@ -87,5 +87,11 @@ pub fn judge_sessions(
     ensures { let q = question.now in
         IfOk result (AreJudgedSessionsOfShare q.phases.now q.table q.checks q.share ended) }
 {
-    judge_each(alloc, question, question.share, ended, JudgedSymbols::none(alloc))
+    judge_each(
+        alloc,
+        question,
+        question.share,
+        ended,
+        JudgedSymbols::none(alloc),
+    )
 }

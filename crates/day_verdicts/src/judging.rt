@@ -113,13 +113,13 @@ impl JudgedSymbols {
 /// A rule as the judge of the symbols of a day, with the checks behind it that are asked for.
 /// `table` asks for the tables of accepted symbols.
 #[derive(Clone, Copy)]
-struct CheckedRule {
+struct RuleWithChecks {
     rule: Rule,
     table: bool,
     checks: FurtherChecks,
 }
 
-impl SymbolJudge<JudgedSymbols> for CheckedRule {
+impl SymbolJudge<JudgedSymbols> for RuleWithChecks {
     ghost use Rattle.further_checks.specs.FurtherRules.{asks_further};
     ghost use Rattle.record_verdict.specs.Scopes.{admission_of};
 
@@ -169,7 +169,7 @@ pub fn judge_day(
     requires { day.RuleTradesFitPlaces rule share ended }
     ensures { IfOk result (day.IsJudgedShare rule table checks share ended) }
 {
-    let judge = CheckedRule {
+    let judge = RuleWithChecks {
         rule,
         table,
         checks,

@@ -5,7 +5,7 @@ use Rattle.day_verdicts.specs.DayVerdicts.{told_of_symbol}
 use Rattle.day_verdicts.proofs.CheckLemmas.{has-times}
 use Rattle.day_verdicts.proofs.TellLemmas.{room-for-one}
 use Rattle.day_verdicts.proofs.VerdictSteps.{judged-more}
-use Rattle.day_verdicts.proofs.judging.CheckedRuleSymbolJudgeJudgedSymbols.judge.Goals as goal
+use Rattle.day_verdicts.proofs.judging.RuleWithChecksSymbolJudgeJudgedSymbols.judge.Goals as goal
 
 pub report_of-requires-clause-timed : goal.report_of-requires-clause-timed
 report_of-requires-clause-timed c =
