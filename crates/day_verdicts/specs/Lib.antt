@@ -2,8 +2,9 @@
 -- further checks behind it, and the text of the day.
 pub mod SymbolAnswers
 pub mod CheckedSymbols
-pub mod SymbolWalks
 pub mod DayVerdicts
 pub mod VerdictLists
 pub mod ShareTelling
 pub mod Laws
+-- What functions pass on to one another.
+pub mod SymbolWalks
