@@ -25,7 +25,7 @@ use Rattle.further_checks.specs.Laws.{NothingIsFoundUnasked}
 use Rattle.record_verdict.specs.declared.before_rule.BeforeRule.{BeforeRule}
 use Rattle.record_verdict.specs.declared.verdicts.RecordVerdict.{RecordVerdict}
 use Rattle.record_verdict.specs.RecordVerdict.{as_verdict}
-use Rattle.record_verdict.specs.RecordVerdicts.{IsRecordVerdict, question}
+use Rattle.record_verdict.specs.RecordVerdicts.{question}
 use Rattle.record_verdict.specs.Scopes.{admission_of}
 use Rattle.record_verdict.specs.Stages.{IsVerdictAfterStages}
 
