@@ -1,5 +1,5 @@
 use Rattle.std.proofs.lemmas.Result.{IfOk-weaker}
-use Rattle.day_sessions.proofs.symbol_sessions.session_report.Goals as goal
+use Rattle.day_sessions.proofs.judged_sessions.session_report.Goals as goal
 
 pub returns : goal.returns
 returns c = IfOk-weaker c.report_after.result _ _
