@@ -28,18 +28,18 @@ use log_source::shelf::Shelf;
 use log_source::sink::Sink;
 use log_source::std_sink::StdSink;
 use log_verdict::stops::NoRecords;
-use std::io;
-use std::process::ExitCode;
-use std::random::RandomSource;
 use program_ends::command_line::{CommandLine, words_of};
 use program_ends::database_notes::{
     is_database_missing, print_database_fault, print_listed_symbols, print_made_database,
 };
+use program_ends::ends::{ProgramEnd, UsedEnds, fresh_output, noted_files};
 use program_ends::log_notes::print_stop;
 use program_ends::noted_shelf::NotedShelf;
 use program_ends::notes::Notes;
-use program_ends::ends::{ProgramEnd, UsedEnds, fresh_output, noted_files};
 use program_ends::usage_notes::print_casebook_usage;
+use std::io;
+use std::process::ExitCode;
+use std::random::RandomSource;
 
 /// Says on standard error why a run ended above 1, or of which symbol a list is that may be
 /// meant otherwise.

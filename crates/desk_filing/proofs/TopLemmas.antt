@@ -81,13 +81,13 @@ files_memory shelf old request opener sink = record {
   before = λ log. (shelf.slot old log).gave;
   after = λ log. (shelf.slot old log).gave;
   is = files_request (filing_call (filing_reading shelf request.logs old old) opener opener None) refl request sink sink status.Memory
-    (record {
-      decided = status.Memory;
-      text = [];
-      answers = inr (record { why = halt.Memory; read = one_pass request.command (λ pass. ReadsLogsUpTo pass request.logs halt.Memory) (filing_reading shelf request.logs old old) request.logs tt; by = λ e. cc; status_is = refl; text_is = refl });
-      writes = inl (record { answer_is = refl; wrote = Appends-nil sink.wrote });
-    })
-    (λ begins. inl begins) (λ log. omega arith);
+      (record {
+        decided = status.Memory;
+        text = [];
+        answers = inr (record { why = halt.Memory; read = one_pass request.command (λ pass. ReadsLogsUpTo pass request.logs halt.Memory) (filing_reading shelf request.logs old old) request.logs tt; by = λ e. cc; status_is = refl; text_is = refl });
+        writes = inl (record { answer_is = refl; wrote = Appends-nil sink.wrote });
+      })
+      (λ begins. inl begins) (λ log. omega arith);
 }
 
 -- the fault of a refusal

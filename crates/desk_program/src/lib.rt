@@ -35,13 +35,13 @@ use log_source::output::Output;
 use log_source::shelf::Shelf;
 use log_source::sink::Sink;
 use log_source::std_sink::StdSink;
+use program_ends::command_line::{CommandLine, words_of};
+use program_ends::ends::{ProgramEnd, UsedEnds, fresh_output, noted_files};
+use program_ends::noted_shelf::NotedShelf;
+use program_ends::notes::Notes;
 use std::io;
 use std::process::ExitCode;
 use std::random::RandomSource;
-use program_ends::command_line::{CommandLine, words_of};
-use program_ends::noted_shelf::NotedShelf;
-use program_ends::notes::Notes;
-use program_ends::ends::{ProgramEnd, UsedEnds, fresh_output, noted_files};
 
 /// How a run ended, and the shelf that its logs were read from.
 #[derive(Drop)]

@@ -1,11 +1,10 @@
 -- What is written for a text has no byte of markup, and is read back.
-use Rattle.std.proofs.Common.{◌≡◌, ℕ, Bool, true, false, List, [], ◌∷◌, ◌++◌, drop, get_or, Option, Some, None, refl, sym, ap, ◌∙◌}
-use Rattle.std.specs.Prelude.{◌==◌, ◌&&◌, if◌then◌else◌, unwrap_or}
+use Rattle.std.proofs.Common.{◌≡◌, ◌≤◌, ℕ, zero, suc, ◌+◌, Bool, true, false, List, [], ◌∷◌, ◌++◌, length, length-append, refl, ap, ◌∙◌, arith}
+use Rattle.std.specs.Prelude.{◌==◌, ◌&&◌, if◌then◌else◌}
 use Rattle.std.specs.List.{list_all}
 use Rattle.std.proofs.lemmas.Bool.{eqb-true}
 use Rattle.std.proofs.lemmas.List.Folds.{list_all-append}
-use Rattle.std.proofs.lemmas.Option.{none-some}
-use Rattle.page_markup.specs.Escapes.{escape_of, escaped, is_byte_of_text}
+use Rattle.page_markup.specs.Escapes.{escape_of, escaped, is_byte_of_text, unescaped, unescaped_within}
 
 -- what holds of one text where a test holds, and else of another, holds of what the test picks
 pick : (P : List ℕ → Type 0) (test : Bool) (one other : List ℕ) → (test ≡ true → P one) → (test ≡ false → P other)
@@ -38,43 +37,31 @@ escaped-plain (byte ∷ rest) =
     ∙ ap (λ (t : Bool). t && list_all is_byte_of_text (escaped rest)) (escape-plain byte)
     ∙ escaped-plain rest
 
--- which byte an entity stands for, by what follows its `&`, and what follows it
-abbrev entity_read : List ℕ → Option (ℕ × List ℕ)
-entity_read rest =
-    if get_or rest 0 0 == 97 then Some (38, drop 4 rest)
-    else (if get_or rest 0 0 == 108 then Some (60, drop 3 rest)
-    else (if get_or rest 0 0 == 103 then Some (62, drop 3 rest)
-    else (if get_or rest 0 0 == 113 then Some (34, drop 5 rest)
-    else Some (39, drop 4 rest))))
-
--- the byte for which the front of a text is written, and what follows
-abbrev byte_read : List ℕ → Option (ℕ × List ℕ)
-byte_read [] = None
-byte_read (first ∷ rest) = if first == 38 then entity_read rest else Some (first, rest)
-
-read-escape : (more : List ℕ) (byte : ℕ) → byte_read (escape_of byte ++ more) ≡ Some (byte, more)
-read-escape more = of-each (λ byte text. byte_read (text ++ more) ≡ Some (byte, more)) refl refl refl refl refl
+-- what is written for a byte is read as that byte
+read-escape : (n : ℕ) (more : List ℕ) (byte : ℕ) → unescaped_within (suc n) (escape_of byte ++ more) ≡ byte ∷ unescaped_within n more
+read-escape n more = of-each (λ byte text. unescaped_within (suc n) (text ++ more) ≡ byte ∷ unescaped_within n more) refl refl refl refl refl
     (λ byte a b c d f. rw a refl)
 
--- a byte and what was written for the text behind it
-abbrev was_read : ℕ → List ℕ → Option (ℕ × List ℕ)
-was_read byte text = Some (byte, escaped text)
+nothing-read : (n : ℕ) → unescaped_within n [] ≡ []
+nothing-read zero = refl
+nothing-read (suc n) = refl
 
-same_byte : (x y : ℕ) (xs ys : List ℕ) → escaped (x ∷ xs) ≡ escaped (y ∷ ys) → was_read x xs ≡ was_read y ys
-same_byte x y xs ys e = sym (read-escape (escaped xs) x) ∙ ap byte_read e ∙ read-escape (escaped ys) y
+read-within : (n : ℕ) (text : List ℕ) → length text ≤ n → unescaped_within n (escaped text) ≡ text
+read-within n [] few = nothing-read n
+read-within zero (byte ∷ rest) few = absurd (omega arith)
+read-within (suc n) (byte ∷ rest) few = read-escape n (escaped rest) byte ∙ ap (λ (t : List ℕ). byte ∷ t) (read-within n rest (omega (arith, few)))
 
--- no text but the empty one is written as nothing
-nothing-read : (y : ℕ) (ys : List ℕ) → [] ≡ escaped (y ∷ ys) → ⊥
-nothing-read y ys e =
-    let read : None ≡ was_read y ys = ap byte_read e ∙ read-escape (escaped ys) y in
-    none-some (y, escaped ys) read
+-- nothing is written for no byte
+one-written : (byte : ℕ) → 1 ≤ length (escape_of byte)
+one-written = of-each (λ byte text. 1 ≤ length text) (omega arith) (omega arith) (omega arith) (omega arith) (omega arith) (λ byte a b c d f. omega arith)
 
-pub read-back : (text other : List ℕ) → escaped text ≡ escaped other → text ≡ other
-read-back [] [] e = refl
-read-back [] (y ∷ ys) e = absurd (nothing-read y ys e)
-read-back (x ∷ xs) [] e = absurd (nothing-read x xs (sym e))
-read-back (x ∷ xs) (y ∷ ys) e =
-    let both = same_byte x y xs ys e in
-    let first : x ≡ y = ap (λ (o : Option (ℕ × List ℕ)). (unwrap_or o (0, [])).0) both in
-    let rest : escaped xs ≡ escaped ys = ap (λ (o : Option (ℕ × List ℕ)). (unwrap_or o (0, [])).1) both in
-    rw (first, read-back xs ys rest) refl
+as-many : (text : List ℕ) → length text ≤ length (escaped text)
+as-many [] = omega arith
+as-many (byte ∷ rest) =
+    let one = one-written byte in
+    let more = as-many rest in
+    let both = length-append (escape_of byte) (escaped rest) in
+    omega (arith, one, more, both)
+
+pub read-back : (text : List ℕ) → unescaped (escaped text) ≡ text
+read-back text = read-within (length (escaped text)) text (as-many text)

@@ -4,16 +4,16 @@ use Rattle.std.specs.Cmp.Lexicographic.{pointwise}
 use Rattle.std.specs.List.{list_all, list_any}
 use Rattle.page_markup.specs.declared.words.AttributeName.{AttributeName}
 use Rattle.page_markup.specs.declared.words.Tag.{Tag}
-use Rattle.page_markup.specs.Escapes.{escaped, is_byte_of_text}
+use Rattle.page_markup.specs.Escapes.{escaped, is_byte_of_text, unescaped}
 use Rattle.page_markup.specs.Words.{attribute_word, tag_word}
 
 -- no text, whoever chose it, writes a byte that begins or ends an element or a value
 abbrev pub NoTextIsMarkup : Type 0
 NoTextIsMarkup = (text : List ℕ) → IsTrue (list_all is_byte_of_text (escaped text))
 
--- a text is read back from how it is written: no other text is written so
+-- a text is read back from how it is written; so no two texts are written alike
 abbrev pub TextIsReadBack : Type 0
-TextIsReadBack = (text other : List ℕ) → escaped text ≡ escaped other → text ≡ other
+TextIsReadBack = (text : List ℕ) → unescaped (escaped text) ≡ text
 
 -- an attribute of this name makes a browser look at something outside, or may hold a style or a
 -- script (HTML Living Standard; SVG 2)
