@@ -7,19 +7,19 @@ use std::alloc::Global;
 
 /// The bodies, each with `;` after it.
 #[derive(Drop)]
-pub(crate) struct Joined {
+pub(crate) struct JoinedBodies {
     pub(crate) text: Vec<u8>,
 }
 
-impl Joined {
+impl JoinedBodies {
     pub(crate) fn new(alloc: Global) -> Self {
-        Joined {
+        JoinedBodies {
             text: Vec::new(alloc),
         }
     }
 }
 
-impl Bodies for Joined {
+impl Bodies for JoinedBodies {
     ghost use Rattle.std.specs.Prelude.{⊤};
 
     ghost has_taken = { λ _ _. ⊤ };
@@ -33,7 +33,7 @@ impl Bodies for Joined {
 
 /// Whether a day was read as these bodies and this first bad message.
 pub(crate) fn is_read(
-    read: &Result<ReadDay<Joined>, NoMemory>,
+    read: &Result<ReadDay<JoinedBodies>, NoMemory>,
     text: &[u8],
     bad: Option<BadMessage>,
 ) -> bool {
