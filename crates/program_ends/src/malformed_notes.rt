@@ -151,10 +151,20 @@ impl fmt::Display for Help {
         match self {
             Help::Nothing => Ok(()),
             Help::Swap => f.write_str(": the logs seem swapped"),
-            Help::Option(Which::Orders, form) => write!(f, ": is it to be --orders-form {form}?"),
-            Help::Option(Which::Trades, form) => write!(f, ": is it to be --trades-form {form}?"),
-            Help::Word(form) => write!(f, ": is the form to be {form}?"),
-            Help::Dress => f.write_str(": desk plain makes a log of other messages"),
+            Help::Option(Which::Orders, form) => {
+                write!(
+                    f,
+                    ": its form seems to be {form}: give --orders-form {form}"
+                )
+            }
+            Help::Option(Which::Trades, form) => {
+                write!(
+                    f,
+                    ": its form seems to be {form}: give --trades-form {form}"
+                )
+            }
+            Help::Word(form) => write!(f, ": its form seems to be {form}"),
+            Help::Dress => f.write_str(": desk plain writes other messages as a log"),
         }
     }
 }
