@@ -35,9 +35,8 @@ pub fn print_database_fault<N: Notes>(notes: &N, program: &str, path: &str, may_
                 "{program}: {path}: it could not be made: its folder may not be written, or the disk is full"
             )
         }
-        DatabaseFault::Missing | DatabaseFault::NotMade => {
-            eprintln!(notes; "{program}: {path}: it is not there")
-        }
+        DatabaseFault::NotMade => eprintln!(notes; "{program}: {path}: it is not there"),
+        DatabaseFault::Missing => eprintln!(notes; "{program}: {path}: its folder is not there"),
         DatabaseFault::Refused(error) => eprintln!(notes; "{program}: {path}: {error}"),
         DatabaseFault::Unusual => eprintln!(notes; "{program}: {path}: it is no file"),
         DatabaseFault::OtherName => {
