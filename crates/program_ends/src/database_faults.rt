@@ -29,6 +29,8 @@ pub(crate) enum DatabaseFault {
     Unwritable(io::Error),
     /// Another process has it open.
     InUse,
+    /// SQLite left a journal beside it.
+    Journal,
     /// The file is no database of SQLite.
     NoDatabase,
     /// It has no table of cases, and could not be given one.
@@ -46,8 +48,11 @@ const MAGIC: &[u8] = b"SQLite format 3\0";
 /// What the making of the table of cases says, which stands among the first bytes of a database.
 const TABLE: &[u8] = b"cases (number INTEGER PRIMARY KEY AUTOINCREMENT, label TEXT";
 
-/// Whether bytes stand among others.
+/// Whether bytes, of which there are some, stand among others.
 fn has_text(bytes: &[u8], text: &[u8]) -> bool {
+    if text.is_empty() {
+        return false;
+    }
     bytes.windows(text.len()).any(|window| window == text)
 }
 
@@ -79,6 +84,9 @@ fn fault_of_file<N: Notes>(notes: &N, path: &str) -> DatabaseFault {
     }
     if notes.is_in_use(path) {
         return DatabaseFault::InUse;
+    }
+    if notes.has_journal(path) {
+        return DatabaseFault::Journal;
     }
     match fault_in_bytes(notes, path) {
         Ok(fault) => fault,

@@ -46,6 +46,11 @@ pub fn print_database_fault<N: Notes>(notes: &N, program: &str, path: &str, may_
             eprintln!(notes; "{program}: {path}: it may not be written: {error}")
         }
         DatabaseFault::InUse => eprintln!(notes; "{program}: {path}: another process has it open"),
+        DatabaseFault::Journal => {
+            eprintln!(notes;
+                "{program}: {path}: {path}-journal is there: open it with sqlite3 first"
+            )
+        }
         DatabaseFault::NoDatabase => eprintln!(notes;
             "{program}: {path}: it is no database of SQLite"
         ),

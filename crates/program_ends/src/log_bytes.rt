@@ -8,6 +8,7 @@ ghost use Rattle.std.specs.Char.{is_ascii_graphic};
 
 use crate::notes::Notes;
 use std::io::{Read, Seek, SeekFrom};
+use std::os::unix::fs::FileTypeExt;
 use std::{fmt, fs};
 
 /// How many bytes of a log are shown at most.
@@ -24,11 +25,10 @@ pub(crate) fn is_plain_file<N: Notes>(notes: &N, path: &str) -> bool {
     }
 }
 
-/// Whether something is under a path that is no file and no folder, as a pipe, whose bytes come
-/// once.
+/// Whether a pipe is under a path, or a socket, whose bytes come once.
 pub(crate) fn is_pipe<N: Notes>(notes: &N, path: &str) -> bool {
     match fs::metadata(notes, path) {
-        Ok(found) => !found.is_file() && !found.is_dir(),
+        Ok(found) => found.file_type().is_fifo() || found.file_type().is_socket(),
         Err(_) => false,
     }
 }

@@ -14,7 +14,6 @@ use log_source::shelf::Shelf;
 use log_verdict::stops::{NoRecords, Stop};
 use std::fs;
 use std::io::{self, Read};
-use std::os::unix::fs::FileTypeExt;
 
 /// Why the system does not let a file be read, as it says itself when it is asked once more.
 /// What may wait for its bytes, as a pipe, is not asked.
@@ -130,13 +129,8 @@ fn print_stop<N: Notes, F: Shelf>(
     }
 }
 
-/// Whether standard output goes to a reader, which may have closed it because it had enough.
-fn has_reader<N: Notes>(notes: &N) -> bool {
-    match fs::metadata(notes, "/dev/stdout") {
-        Ok(found) => found.file_type().is_fifo() || found.file_type().is_socket(),
-        Err(_) => false,
-    }
-}
+/// Standard output, as a path.
+const OUTPUT: &str = "/dev/stdout";
 
 /// Says why a run of well-formed words ended above 1, if not with a keeper's fault: which log is at
 /// fault; or that memory or the output was, unless a reader had enough of that.
@@ -151,7 +145,8 @@ pub fn print_end<N: Notes, F: Shelf>(
     match status {
         Status::Memory => print_memory(notes, asked.program),
         Status::WriteFault => {
-            if !has_reader(notes) {
+            // A write to a pipe fails where its reader has closed it.
+            if !is_pipe(notes, OUTPUT) {
                 let _written = eprintln!(notes; "{program}: standard output could not be written");
             }
         }

@@ -1,6 +1,6 @@
 //! Where notes go, and of whom it is asked why.
 use os::RangeLock;
-use std::fs::OpenOptions;
+use std::fs::{self, OpenOptions};
 use std::io::Eprint;
 use std::os::fd::AsRawFd;
 use std::rt::Files;
@@ -18,6 +18,9 @@ pub trait Notes: Eprint + Files {
     /// Whether another process has the database open that is under a path. To know it, the database
     /// is locked for the moment of the question, so that no other process can open it then.
     fn is_in_use(&self, path: &str) -> bool;
+
+    /// Whether a journal stands beside the database under a path, which SQLite alone can play back.
+    fn has_journal(&self, path: &str) -> bool;
 }
 
 impl Notes for HostRuntime {
@@ -27,6 +30,13 @@ impl Notes for HostRuntime {
                 let descriptor = file.as_raw_fd();
                 os::try_lock_range(descriptor, RangeLock::Exclusive, LOCKED_FROM, LOCKED_BYTES) != 0
             }
+            Err(_) => false,
+        }
+    }
+
+    fn has_journal(&self, path: &str) -> bool {
+        match format!(in self.alloc(); "{path}-journal") {
+            Ok(journal) => fs::metadata(self, journal.as_str()).is_ok(),
             Err(_) => false,
         }
     }

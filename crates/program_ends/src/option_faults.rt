@@ -107,11 +107,10 @@ fn rule_fault<'a>(
 
 /// What is wrong with an option beside the others.
 fn pair_fault<'a>(known: &[OptionPart], words: &'a [String]) -> Option<OptionFault<'a>> {
-    let gives = |option: OptionPart| is_given(known, words, option);
-    if gives(OptionPart::Table) && gives(OptionPart::Page) {
+    if is_given(known, words, OptionPart::Table) && is_given(known, words, OptionPart::Page) {
         return Some(OptionFault::Both(OptionPart::Table, OptionPart::Page));
     }
-    if gives(OptionPart::Soh) && !gives(OptionPart::Lines) {
+    if is_given(known, words, OptionPart::Soh) && !is_given(known, words, OptionPart::Lines) {
         return Some(OptionFault::Alone(OptionPart::Soh, OptionPart::Lines));
     }
     None
