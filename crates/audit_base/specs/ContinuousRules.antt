@@ -19,14 +19,14 @@ pub record Conservation (orders : List Order) (deals : List Deal) (place : ℕ) 
 
 -- Priority at a place: each order that rests before the place and is better than the resting order
 -- of a deal of this cause has nothing left after the place
-abbrev pub Priority : List Order → List Deal → ℕ → Type 0
+abbrev pub Priority : (orders : List Order) (deals : List Deal) (place : ℕ) → Type 0
 Priority orders deals place = All (λ d. cause orders d ≡ place
     → EachIndex orders (λ order. IsTrue (rests_before orders deals place order)
     → Better orders order (resting_order orders d) → left_after orders deals place order ≡ 0)) deals
 
 -- Spread at a place: no bid and ask that are both active after the place have a bid limit
 -- of at least the ask limit
-abbrev pub Spread : List Order → List Deal → ℕ → Type 0
+abbrev pub Spread : (orders : List Order) (deals : List Deal) (place : ℕ) → Type 0
 Spread orders deals place = (bid ask : ℕ) → bid < length orders → ask < length orders
     → side_at orders bid ≡ Buy → side_at orders ask ≡ Sell
     → IsTrue (active_after orders deals place bid) → IsTrue (active_after orders deals place ask)

@@ -7,19 +7,19 @@ use Rattle.audit_base.specs.Orders.{limit_at, side_at}
 use Rattle.audit_base.specs.Numbers.{AreInRange}
 
 -- the deal names the order at this index
-abbrev pub names_order : ℕ → Deal → Bool
+abbrev pub names_order : (order : ℕ) (d : Deal) → Bool
 names_order order d = (d.bid == order) || (d.ask == order)
 
 -- the quantity of a deal that belongs to this order
-abbrev pub quantity_traded_by : ℕ → Deal → ℕ
+abbrev pub quantity_traded_by : (order : ℕ) (d : Deal) → ℕ
 quantity_traded_by order d = if names_order order d then d.quantity else 0
 
 -- Traded: the quantities of the deals that name an order, added
-abbrev pub traded : List Deal → ℕ → ℕ
+abbrev pub traded : (deals : List Deal) (order : ℕ) → ℕ
 traded deals order = sum_by (quantity_traded_by order) deals
 
 -- of a list with a number for each order: the number at an index, or 0 past its end
-abbrev pub number_at : List ℕ → ℕ → ℕ
+abbrev pub number_at : (numbers : List ℕ) (order : ℕ) → ℕ
 number_at numbers order = slice_index_or numbers order 0
 
 -- the numbers are what each order of the list trades in these deals
@@ -28,18 +28,18 @@ pub record AreTotals (orders : List Order) (deals : List Deal) (totals : List �
   pub each : (order : ℕ) → order < length orders → slice_index totals order ≡ traded deals order
 
 -- Pair: the quantities of the deals that name both a bid and an ask, added
-abbrev pub pair : List Deal → ℕ → ℕ → ℕ
+abbrev pub pair : (deals : List Deal) (bid ask : ℕ) → ℕ
 pair deals bid ask = sum_by (λ d. if (d.bid == bid) && (d.ask == ask) then d.quantity else 0) deals
 
 -- Volume: the quantities of all deals, added
-abbrev pub volume : List Deal → ℕ
+abbrev pub volume : (deals : List Deal) → ℕ
 volume deals = sum_by (λ d. d.quantity) deals
 
 -- what is read past the end of a list of deals, and the deal at an index
 abbrev pub deal_past_end : Deal
 deal_past_end = record { place = 0; bid = 0; ask = 0; quantity = 0; price = 0 }
 
-abbrev pub deal_at : List Deal → ℕ → Deal
+abbrev pub deal_at : (deals : List Deal) (deal : ℕ) → Deal
 deal_at deals deal = slice_index_or deals deal deal_past_end
 
 -- a deal keeps both limits: its price is from that of its ask to that of its bid
@@ -48,7 +48,7 @@ pub record KeepsLimits (orders : List Order) (d : Deal) : Type 0 where
   pub most : d.price ≤ limit_at orders d.bid
 
 -- the same as a test of its bid and its ask
-abbrev pub is_price_within : Order → Order → Deal → Bool
+abbrev pub is_price_within : (bid ask : Order) (d : Deal) → Bool
 is_price_within bid ask d = nat_le ask.limit d.price && nat_le d.price bid.limit
 
 -- the deal names a bid and an ask of the order list
@@ -66,9 +66,9 @@ pub record IsDealList (orders : List Order) (deals : List Deal) : Type 0 where
   pub fits_indices : length deals < 2 ^ 32
 
 -- its numbers are a quantity and a price
-abbrev pub DealInRange : Deal → Type 0
+abbrev pub DealInRange : (d : Deal) → Type 0
 DealInRange d = AreInRange d.quantity d.price
 
 -- each deal of the list has such numbers
-abbrev pub DealsInRange : List Deal → Type 0
+abbrev pub DealsInRange : (deals : List Deal) → Type 0
 DealsInRange deals = All DealInRange deals

@@ -43,17 +43,27 @@ pub enum Evidence {
     /// 7: the order is not there to trade.
     Inactive(TradedOrder),
     /// 8: the price is outside a limit, of this bid or this ask.
-    Limit(TradedOrder, TradedOrder),
+    Limit {
+        bid: TradedOrder,
+        ask: TradedOrder,
+    },
     /// 9: the price is not that of the first trade, which is at this place.
     UniformPrice(u32),
     /// 10 and 11: the order, of this side, trades more than it asks for.
     Quantity(Side, TradedOrder),
-    /// 12 and 13: the first order, of this side, is passed over by a trade of the second.
-    Priority(Side, TradedOrder, TradedOrder),
+    /// 12 and 13: the order ahead, of this side, is passed over by a trade of its own order.
+    Priority {
+        side: Side,
+        ahead: TradedOrder,
+        own: TradedOrder,
+    },
     /// 14: the volume is below the greatest; the best short bid and the best short ask.
     Volume(Short, Option<DueOrder>, Option<DueOrder>),
     /// 15: this bid and this ask meet.
-    Spread(TradedOrder, TradedOrder),
+    Spread {
+        bid: TradedOrder,
+        ask: TradedOrder,
+    },
     /// 16: the order does not rest, and the rule is one of a call.
     InstantOrder,
 }
@@ -125,12 +135,12 @@ impl Evidence {
             Evidence::DuplicateTrade(_) => Property::DuplicateTrade,
             Evidence::UnknownOrder(_, _) => Property::UnknownOrder,
             Evidence::Inactive(_) => Property::Inactive,
-            Evidence::Limit(_, _) => Property::Limit,
+            Evidence::Limit { .. } => Property::Limit,
             Evidence::UniformPrice(_) => Property::UniformPrice,
             Evidence::Quantity(side, _) => quantity_of(side),
-            Evidence::Priority(side, _, _) => priority_property(side),
+            Evidence::Priority { side, .. } => priority_property(side),
             Evidence::Volume(_, _, _) => Property::Volume,
-            Evidence::Spread(_, _) => Property::Spread,
+            Evidence::Spread { .. } => Property::Spread,
             Evidence::InstantOrder => Property::InstantOrder,
         }
     }
@@ -143,9 +153,17 @@ impl Evidence {
             Evidence::DuplicateId(_)
             | Evidence::TimeBack(_)
             | Evidence::UnknownTarget
-            | Evidence::Spread(_, _)
+            | Evidence::Spread { .. }
             | Evidence::InstantOrder => Which::Orders,
-            _ => Which::Trades,
+            Evidence::Unpaired(_)
+            | Evidence::DuplicateTrade(_)
+            | Evidence::UnknownOrder(_, _)
+            | Evidence::Inactive(_)
+            | Evidence::Limit { .. }
+            | Evidence::UniformPrice(_)
+            | Evidence::Quantity(_, _)
+            | Evidence::Priority { .. }
+            | Evidence::Volume(_, _, _) => Which::Trades,
         }
     }
 
@@ -164,10 +182,10 @@ impl Evidence {
             }
             Evidence::UnknownOrder(side, key) => Some(Shown::Unknown { side, key }),
             Evidence::Inactive(order)
-            | Evidence::Limit(order, _)
+            | Evidence::Limit { bid: order, .. }
             | Evidence::Quantity(_, order)
-            | Evidence::Priority(_, order, _)
-            | Evidence::Spread(order, _) => show_traded(orders, order),
+            | Evidence::Priority { ahead: order, .. }
+            | Evidence::Spread { bid: order, .. } => show_traded(orders, order),
             Evidence::Volume(_, bid, _) => show_due(orders, bid),
             Evidence::UnknownTarget | Evidence::InstantOrder => None,
         }
@@ -179,11 +197,20 @@ impl Evidence {
         ensures { result ≡ spec.second_shown (L.orders orders.now) self }
     {
         match self {
-            Evidence::Limit(_, order)
-            | Evidence::Priority(_, _, order)
-            | Evidence::Spread(_, order) => show_traded(orders, order),
+            Evidence::Limit { ask: order, .. }
+            | Evidence::Priority { own: order, .. }
+            | Evidence::Spread { ask: order, .. } => show_traded(orders, order),
             Evidence::Volume(_, _, ask) => show_due(orders, ask),
-            _ => None,
+            Evidence::DuplicateId(_)
+            | Evidence::TimeBack(_)
+            | Evidence::UnknownTarget
+            | Evidence::Unpaired(_)
+            | Evidence::DuplicateTrade(_)
+            | Evidence::UnknownOrder(_, _)
+            | Evidence::Inactive(_)
+            | Evidence::UniformPrice(_)
+            | Evidence::Quantity(_, _)
+            | Evidence::InstantOrder => None,
         }
     }
 

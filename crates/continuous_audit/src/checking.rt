@@ -112,7 +112,10 @@ pub fn deal_evidence(
         return Some(Evidence::Inactive(incoming_account(bid, ask, known).shown));
     }
     if !is_within(deal, bid, ask) {
-        return Some(Evidence::Limit(known.bid.shown, known.ask.shown));
+        return Some(Evidence::Limit {
+            bid: known.bid.shown,
+            ask: known.ask.shown,
+        });
     }
     if known.bid.is_over_size() {
         return Some(Evidence::Quantity(Side::Buy, known.bid.shown));

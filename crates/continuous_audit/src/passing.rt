@@ -54,7 +54,11 @@ fn priority_flaw(market: &IndexedDeals<'_>, numbers: &DealingState, over: usize,
     );
     Flaw {
         place: deal.place,
-        evidence: Evidence::Priority(side, first, second),
+        evidence: Evidence::Priority {
+            side,
+            ahead: first,
+            own: second,
+        },
     }
 }
 

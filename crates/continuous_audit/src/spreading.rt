@@ -87,8 +87,14 @@ fn spread_evidence(side: Side, own: TradedOrder, other: TradedOrder) -> Evidence
     ensures { result ≡ spread_evidence side own other }
 {
     match side {
-        Side::Buy => Evidence::Spread(own, other),
-        Side::Sell => Evidence::Spread(other, own),
+        Side::Buy => Evidence::Spread {
+            bid: own,
+            ask: other,
+        },
+        Side::Sell => Evidence::Spread {
+            bid: other,
+            ask: own,
+        },
     }
 }
 

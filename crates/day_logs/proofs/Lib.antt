@@ -1,3 +1,2 @@
-mod TradeLogLemmas
 pub mod AnswerLemmas
 pub mod LawLemmas

@@ -53,7 +53,11 @@ fn outranked_flaw(
         let own = traded_order(traded, own);
         Some(Flaw {
             place: deal.place,
-            evidence: Evidence::Priority(side, short, own),
+            evidence: Evidence::Priority {
+                side,
+                ahead: short,
+                own,
+            },
         })
     } else {
         None

@@ -14,16 +14,18 @@ use Rattle.audit_base.specs.Orders.{same_name}
 use Rattle.audit_base.specs.Trades.{deal_of_trade, deals_of_symbol, trades_of_symbol, trades_finding}
 use Rattle.matching_core.specs.declared.deals_draft.ResolvedTrades.{ResolvedTrades}
 use Rattle.record_verdict.specs.declared.before_rule.BeforeRule.TheVariants as before_rule
+use Rattle.log_verdict.specs.declared.both.Both.{Both}
 use Rattle.log_verdict.specs.declared.reading.CollectedTrades.{CollectedTrades}
 use Rattle.log_verdict.specs.declared.reading.CollectedTrades.TheVariants as collected
 use Rattle.record_verdict.specs.declared.scopes.Scope.{Scope}
 use Rattle.record_verdict.specs.Scopes.{finding_before_rule_in_scope, unadmitted_order_finding}
 use Rattle.log_verdict.specs.declared.sources.Source.{Source}
-use Rattle.log_verdict.specs.BothLogs.{ReadsTrades, IsAdmitted, AreResolvedTrades}
+use Rattle.log_verdict.specs.BothLogs.{ReadsTrades, AreLogsBeforeRule, IsAdmitted, AreResolvedTrades}
 use Rattle.log_verdict.specs.Collecting.{HasCollected, HasLogTrades}
 use Rattle.log_verdict.specs.LogVerdicts.{trades_of_trade_log}
 use Rattle.log_verdict.specs.Steps.{Reading, IsReadAs}
 use Rattle.record_verdict.specs.BeforeRule.{finding_or_sound, IsBeforeRule}
+use Rattle.log_verdict.proofs.JoinLemmas.{reads-collected}
 
 -- What is found of records, after an order list that the rule admits.
 
@@ -59,31 +61,36 @@ ended_before scope entries ts ended is end = by_finding ended.finding refl
     }
     by_finding (Some f) e = trades_found scope entries ts ended.history (Some f) is (end.finding ∙ e)
 
-module _ (r : Reading) (scope : Scope) (trades : Source) (entries : List OrderRecord) where
+module _ {X Y : Type 0} (r : Reading) (scope : Scope) (trades : Source) (of_orders : X → List OrderRecord → Type 0) (of_trades : Y → List TradeRecord → Type 0) (entries : List OrderRecord) (orders : X) (taken : of_orders orders entries) where
   -- the trade log was read, and whatever it says, this is found
-  pub after_any : {K : Type 0} (has_taken : K → List TradeRecord → Type 0) (kept : CollectedTrades K) (finding : Finding)
-      → ((paired : Result (List TradeRecord) Finding) → finding_before_rule_in_scope scope entries paired ≡ Some finding)
-      → IsReadAs r Trades trades.name.now (λ bytes. HasCollected has_taken kept (trades_of_trade_log trades.form bytes)) → ReadsTrades r trades (λ paired. IsBeforeRule scope entries paired (before_rule.Found finding)) (λ bad. ⊥)
-  after_any has_taken (collected.Trades collector) finding found is =
-      record { bytes = is.bytes; read = is.read; holds = rw is.holds.says (found (Ok is.holds.trades)) }
-  after_any has_taken (collected.Alone other) finding found is =
-      record { bytes = is.bytes; read = is.read; holds = rw is.holds (found (Err other)) }
+  pub after_any : (kept : CollectedTrades Y) (finding : Finding) → ((paired : Result (List TradeRecord) Finding) → finding_before_rule_in_scope scope entries paired ≡ Some finding)
+      → IsReadAs r Trades trades.name.now (λ bytes. HasCollected of_trades kept (trades_of_trade_log trades.form bytes))
+      → ReadsTrades r trades (λ paired. AreLogsBeforeRule scope of_orders of_trades entries paired (record { given = before_rule.Found finding; orders = orders; trades = kept })) (λ bad. ⊥)
+  after_any kept finding found is =
+      reads-collected r trades of_trades kept _ (λ paired has. record { before = found paired; orders = taken; trades = has }) is
 
   -- a report without its partner is found
-  pub after_alone : (finding : Finding) (history : List Order) → IsAdmitted scope entries history
-      → IsReadAs r Trades trades.name.now (λ bytes. trades_of_trade_log trades.form bytes ≡ Ok (Err finding)) → ReadsTrades r trades (λ paired. IsBeforeRule scope entries paired (before_rule.Found finding)) (λ bad. ⊥)
+  pub after_alone : (finding : Finding) (history : List Order) → IsAdmitted scope entries history → IsReadAs r Trades trades.name.now (λ bytes. trades_of_trade_log trades.form bytes ≡ Ok (Err finding))
+      → ReadsTrades r trades (λ paired. AreLogsBeforeRule scope of_orders of_trades entries paired (record { given = before_rule.Found finding; orders = orders; trades = collected.Alone finding })) (λ bad. ⊥)
   after_alone finding history is read =
-      record { bytes = read.bytes; read = read.read; holds = rw read.holds (alone_found scope entries history finding is) }
+      record { bytes = read.bytes; read = read.read; holds = rw read.holds (record { before = alone_found scope entries history finding is; orders = taken; trades = refl }) }
 
-  -- what the trades give that were handed to a collector
-  pub after_ended : (has_taken : List TradeRecord → Type 0) (ended : ResolvedTrades) → IsAdmitted scope entries ended.history
-      → IsReadAs r Trades trades.name.now (λ bytes. HasLogTrades has_taken (trades_of_trade_log trades.form bytes)) → ((ts : List TradeRecord) → has_taken ts → AreResolvedTrades scope ts ended)
-      → ReadsTrades r trades (λ paired. IsBeforeRule scope entries paired (finding_or_sound ended ended.finding)) (λ bad. ⊥)
-  after_ended has_taken ended is read ends = record {
-    bytes = read.bytes;
-    read = read.read;
-    holds = rw read.holds.says (ended_before scope entries read.holds.trades ended is (ends read.holds.trades read.holds.has));
-  }
+  -- what the trades give that were handed to a collector, beside another
+  pub after_ended : {K : Type 0} (of_deals : K → List TradeRecord → Type 0) (both : Both K Y) (ended : ResolvedTrades) → IsAdmitted scope entries ended.history
+      → IsReadAs r Trades trades.name.now (λ bytes. HasLogTrades (λ ts. of_deals both.first ts × of_trades both.second ts) (trades_of_trade_log trades.form bytes))
+      → ((ts : List TradeRecord) → of_deals both.first ts → AreResolvedTrades scope ts ended)
+      → ReadsTrades r trades (λ paired. AreLogsBeforeRule scope of_orders of_trades entries paired (record { given = finding_or_sound ended ended.finding; orders = orders; trades = collected.Trades both.second })) (λ bad. ⊥)
+  after_ended of_deals both ended is read ends =
+      let has = read.holds.has in
+      record {
+        bytes = read.bytes;
+        read = read.read;
+        holds = rw read.holds.says (record {
+          before = ended_before scope entries read.holds.trades ended is (ends read.holds.trades has.0);
+          orders = taken;
+          trades = record { trades = read.holds.trades; has = has.1; says = refl };
+        });
+      }
 
 -- what was gathered of the trades of a symbol, in the words of the question
 pub ends_as : (scope : Scope) (symbol : List ℕ) (orders : List Order) (ts : List TradeRecord) (ended : ResolvedTrades) → scope.symbol ≡ symbol → ended.history ≡ orders → ended.count ≡ length ts

@@ -11,17 +11,19 @@ use Rattle.audit_base.specs.declared.terms.Which.TheVariants.{Orders, Trades}
 use Rattle.log_source.specs.declared.shelf.Shelf.{Ghosts as Shelf}
 use Rattle.log_source.specs.Calls.{count_after}
 use Rattle.log_source.specs.Sources.{Slot, RoseOrIsFull}
+use Rattle.log_verdict.specs.declared.reading.CollectedTrades.{CollectedTrades}
+use Rattle.log_verdict.specs.declared.reading.CollectedTrades.TheVariants as collected
 use Rattle.log_verdict.specs.declared.reading.ReadingFault.{ReadingFault}
 use Rattle.log_verdict.specs.declared.reading.ReadingFault.TheVariants as unread
 use Rattle.log_verdict.specs.declared.sources.Source.{Source}
 use Rattle.log_verdict.specs.declared.stops.NoRecords.{NoRecords}
 use Rattle.log_verdict.specs.declared.stops.NoRecords.TheVariants as norecords
 use Rattle.log_verdict.specs.declared.stops.Stop.TheVariants as stop
-use Rattle.log_verdict.specs.BothLogs.{GivesOfRecords, GivesOfTrades, IsUnreadOfTwoLogs, IsUnreadTrades, no_records}
+use Rattle.log_verdict.specs.BothLogs.{GivesOfRecords, GivesOfTrades, HaveOneLimit, IsUnreadOfTwoLogs, IsUnreadTrades, no_records}
 use Rattle.log_verdict.specs.BothLogs.{ReadsAfterOrders, ReadsBadPlace, ReadsLogs, ReadsTrades, ReadsWithin, ReadsWithinAt}
-use Rattle.log_verdict.specs.Collecting.{IsUnread}
+use Rattle.log_verdict.specs.Collecting.{HasCollected, IsUnread, TouchesOnly}
 use Rattle.log_verdict.specs.LogVerdicts.{records_of_order_log, trades_of_trade_log}
-use Rattle.log_verdict.specs.Steps.{Reading, IsReadFault, IsTooLong, KeepsShelfLogs, EndsWithin, FaultsNeverFall, step_of, IsReadAs, IsUntouched}
+use Rattle.log_verdict.specs.Steps.{Reading, IsReadFault, IsTooLong, KeepsShelfLogs, EndsWithin, FaultsNeverFall, reading_by, step_of, IsReadAs, IsUntouched}
 
 -- a reading of the whole, from the reading of a part before and one after
 abbrev pub joined : Reading → Reading → Reading
@@ -34,6 +36,12 @@ pub record Follows (first second : Reading) : Type 0 where
   pub logs : (log : Which) (name : List ℕ) → second.log_of log name ≡ first.log_of log name
   pub trades : second.before Trades ≡ first.before Trades
   pub orders : second.after Orders ≡ first.after Orders
+
+-- a reading of the trade log follows one of the order log of the same shelf
+pub follows : {S : Type 0} (shelf : Shelf S) (orders trades : Source) (a b c : S) → HaveOneLimit orders trades → KeepsShelfLogs shelf a b → TouchesOnly (reading_by orders shelf a b) Orders
+    → TouchesOnly (reading_by trades shelf b c) Trades → Follows (reading_by orders shelf a b) (reading_by trades shelf b c)
+follows shelf orders trades a b c limit keeps first second =
+    record { limit = sym limit.same; tells = keeps.tells; logs = keeps.logs; trades = first.other; orders = second.other }
 
 -- two parts of a call that keep the logs keep them in the whole
 pub keeps-both : {S : Type 0} (shelf : Shelf S) (a b c : S) → KeepsShelfLogs shelf a b → KeepsShelfLogs shelf b c → KeepsShelfLogs shelf a c
@@ -137,6 +145,26 @@ module _ (first second : Reading) (after : Follows first second) where
       (subst (λ (n : ℕ). (second.after Trades).taken ≤ n) after.limit trades)))
       (stays (subst (λ (n : ℕ). (second.before Trades).taken ≤ n) (sym after.limit) (subst (λ (s : Slot). s.taken ≤ first.limit) (sym after.trades) (begins Trades))))
 
+-- a trade log says one thing
+pub said-once : (a b : Result (List TradeRecord) Finding) (said : Result (Result (List TradeRecord) Finding) BadPlace) → said ≡ Ok a → said ≡ Ok b → a ≡ b
+said-once a b said x y = cc
+
+-- a log with a bad place has given a collector nothing
+none-collected : {K : Type 0} (has_taken : K → List TradeRecord → Type 0) (kept : CollectedTrades K) (bad : BadPlace) → HasCollected has_taken kept (Err bad) → ⊥
+none-collected has_taken (collected.Trades collector) bad has = let says : Err bad ≡ Ok (Ok has.trades) = has.says in cc
+none-collected has_taken (collected.Alone finding) bad has = cc
+
+-- what holds of whatever a trade log was read into holds of the log
+pub reads-collected : {K : Type 0} (r : Reading) (trades : Source) (has_taken : K → List TradeRecord → Type 0) (kept : CollectedTrades K) (P : Result (List TradeRecord) Finding → Type 0)
+    → ((paired : Result (List TradeRecord) Finding) → HasCollected has_taken kept (Ok paired) → P paired)
+    → IsReadAs r Trades trades.name.now (λ bytes. HasCollected has_taken kept (trades_of_trade_log trades.form bytes)) → ReadsTrades r trades P (λ bad. ⊥)
+reads-collected r trades has_taken kept P so is =
+    record { bytes = is.bytes; read = is.read; holds = by-said (trades_of_trade_log trades.form is.bytes) is.holds }
+  where
+    by-said : (said : Result (Result (List TradeRecord) Finding) BadPlace) → HasCollected has_taken kept said → MatchResult said P (λ bad. ⊥)
+    by-said (Ok paired) has = so paired has
+    by-said (Err bad) has = absurd (none-collected has_taken kept bad has)
+
 -- where the order log was not read into records, after which the trade log is left alone
 pub orders-unread : (r : Reading) (orders trades : Source) (why : ReadingFault) → IsUnread (records_of_order_log orders.form) r Orders orders.name.now why → IsUntouched r Trades
     → IsUnreadOfTwoLogs r orders trades (no_records Orders why)
@@ -192,3 +220,16 @@ pub reads-bad : (r : Reading) (orders trades : Source) (P : List OrderRecord →
     → ReadsBadPlace r orders trades log bad → ReadsLogs r orders trades P B
 reads-bad r orders trades P B log bad holds is =
     reads-on r orders trades (λ entries paired. ⊥) P (λ which place. (which ≡ log) × (place ≡ bad)) B (λ entries paired never. absurd never) (λ which place same. rw (same.0, same.1) holds) is
+
+-- two logs that were read into records have some
+pub records-read : (r : Reading) (orders trades : Source) (P : List OrderRecord → Result (List TradeRecord) Finding → Type 0) → ReadsLogs r orders trades P (λ log bad. ⊥)
+    → (entries : List OrderRecord) × (paired : Result (List TradeRecord) Finding) × P entries paired
+records-read r orders trades P is = of-orders (records_of_order_log orders.form is.bytes) is.holds
+  where
+    of-trades : (entries : List OrderRecord) (said : Result (Result (List TradeRecord) Finding) BadPlace) → MatchResult said (P entries) (λ bad. ⊥) → (paired : Result (List TradeRecord) Finding) × P entries paired
+    of-trades entries (Ok paired) holds = (paired, holds)
+    of-trades entries (Err bad) holds = absurd holds
+
+    of-orders : (said : Result (List OrderRecord) BadPlace) → ReadsAfterOrders r trades P (λ log bad. ⊥) said → (entries : List OrderRecord) × (paired : Result (List TradeRecord) Finding) × P entries paired
+    of-orders (Ok entries) holds = let found = of-trades entries (trades_of_trade_log trades.form holds.bytes) holds.holds in (entries, found.0, found.1)
+    of-orders (Err bad) holds = absurd holds.0

@@ -10,6 +10,7 @@ use Rattle.audit_base.specs.declared.orders.Order.{Order}
 use Rattle.audit_base.specs.Histories.{order_list, WellFormed}
 use Rattle.audit_base.specs.Trades.{deals_of_symbol, trades_finding}
 use Rattle.matching_core.specs.declared.deals_draft.ResolvedTrades.{ResolvedTrades}
+use Rattle.log_verdict.specs.declared.both_logs.LogsBeforeRule.{LogsBeforeRule}
 use Rattle.log_verdict.specs.declared.stops.Stop.{Stop}
 use Rattle.log_verdict.specs.declared.stops.Stop.TheVariants as stop
 use Rattle.log_verdict.specs.declared.stops.NoRecords.{NoRecords}
@@ -18,9 +19,11 @@ use Rattle.log_verdict.specs.declared.reading.ReadingFault.{ReadingFault}
 use Rattle.log_verdict.specs.declared.reading.ReadingFault.TheVariants as unread
 use Rattle.record_verdict.specs.declared.questions.Question.{Question}
 use Rattle.log_verdict.specs.declared.sources.Source.{Source}
+use Rattle.log_verdict.specs.Collecting.{HasCollected}
 use Rattle.log_verdict.specs.LogVerdicts.{records_of_order_log, trades_of_trade_log}
 use Rattle.log_verdict.specs.Steps.{Reading, IsReadFault, IsTooLong, BeginsWithin, EndsWithin, IsUntouched, step_of, IsReadAs}
 use Rattle.record_verdict.specs.declared.scopes.Scope.{Scope}
+use Rattle.record_verdict.specs.BeforeRule.{IsBeforeRule}
 use Rattle.record_verdict.specs.RecordVerdicts.{IsRecordVerdict}
 use Rattle.record_verdict.specs.Scopes.{unadmitted_order_finding}
 use Rattle.audit_report.specs.declared.verdicts.Verdict.{Verdict}
@@ -159,6 +162,16 @@ GivesOfTrades of_trades r trades result =
     (λ given. ReadsTrades r trades (λ paired. of_trades paired given) (λ bad. ⊥))
     (IsUnreadTrades r trades)
 
+-- both logs were read to their ends and are in their grammar, whatever their records say; or they
+-- were not
+abbrev pub ReadsThrough : Reading → Source → Source → Result (Unit {0}) NoRecords → Type 0
+ReadsThrough r orders trades result =
+    GivesOfRecords (λ entries paired given. Unit {0}) r orders trades result
+
+-- the same of the trade log
+abbrev pub ReadsTradesThrough : Reading → Source → Result (Unit {0}) NoRecords → Type 0
+ReadsTradesThrough r trades result = GivesOfTrades (λ paired given. Unit {0}) r trades result
+
 -- the verdict on both logs, or why there is none
 abbrev pub GivesVerdictOrStop : Reading → Question → Source → Source → Result Verdict Stop
     → Type 0
@@ -193,6 +206,15 @@ pub record IsAdmitted (scope : Scope) (entries : List OrderRecord)
   pub formed : WellFormed scope.symbol entries
   pub orders : history ≡ order_list scope.symbol entries
   pub admits : unadmitted_order_finding scope.admission history ≡ None
+
+-- What the records of two logs give before the rule is looked at, and what was kept of them beside
+-- it: a collector of the orders, and one of the trades, or that a report has no partner.
+pub record AreLogsBeforeRule {X Y : Type 0} (scope : Scope) (of_orders : X → List OrderRecord → Type 0)
+    (of_trades : Y → List TradeRecord → Type 0) (entries : List OrderRecord)
+    (paired : Result (List TradeRecord) Finding) (read : LogsBeforeRule X Y) : Type 0 where
+  pub before : IsBeforeRule scope entries paired read.given
+  pub orders : of_orders read.orders entries
+  pub trades : HasCollected of_trades read.trades (Ok paired)
 
 -- What was gathered of these trades: how many they are, their first finding,
 -- and, where there is none, their deals.

@@ -1,20 +1,21 @@
 //! Reading two logs up to the rule: each is handed record by record to what is kept of it, and
 //! what they give is answered, or why that is not known.
-ghost use Rattle.std.specs.Prelude.{◌≡◌, ◌≤◌, List, IfOk, Result, Some};
+ghost use Rattle.std.specs.Prelude.{◌≡◌, ◌≤◌, [], List, IfOk, Result, Some};
 ghost use Rattle.audit_base.specs.declared.findings.Finding.{Finding};
 ghost use Rattle.audit_base.specs.declared.records.OrderRecord.{OrderRecord};
 ghost use Rattle.audit_base.specs.declared.records.TradeRecord.{TradeRecord};
 ghost use Rattle.audit_base.specs.declared.terms.Which.{Which};
 ghost use Rattle.instruction_history.specs.HistoryDraft.{IsHistoryDraft};
-ghost use Rattle.log_source.specs.Collectors.{HasPlace};
 ghost use Rattle.log_source.specs.Sources.{longest_read};
 ghost use Rattle.record_verdict.specs.Scopes.{finding_before_rule_in_scope};
-ghost use Rattle.log_verdict.specs.BothLogs.{GivesOfRecords, GivesOfTrades, HaveOneLimit, IsAdmitted};
+ghost use Rattle.log_verdict.specs.BothLogs.{AreLogsBeforeRule, GivesOfRecords, GivesOfTrades};
+ghost use Rattle.log_verdict.specs.BothLogs.{HaveOneLimit, IsAdmitted};
 ghost use Rattle.log_verdict.specs.BothLogs.{ReadsWithin, ReadsWithinAt};
 ghost use Rattle.log_verdict.specs.Collecting.{TouchesOnly};
 ghost use Rattle.log_verdict.specs.Steps.{reading_by, KeepsShelfLogs, FaultsNeverFall};
 ghost use Rattle.record_verdict.specs.BeforeRule.{IsBeforeRule, IsJudgeable};
 
+use crate::both::Both;
 use crate::reading::{CollectedTrades, collect_orders, collect_trades};
 use crate::sources::Source;
 use crate::stops::NoRecords;
@@ -23,6 +24,7 @@ use audit_base::records::{OrderRecord, TradeRecord};
 use audit_base::terms::Which;
 use instruction_history::history::History;
 use instruction_history::history_draft::{HistoryDraft, SymbolGhost};
+use log_source::collector::Collector;
 use log_source::counter::Counter;
 use log_source::shelf::Shelf;
 use matching_core::deals_draft::{DealsDraft, HistoryGhost};
@@ -31,112 +33,183 @@ use record_verdict::scopes::Scope;
 use std::alloc::Global;
 use std::marker::Brand;
 
-/// What is known where a finding about the orders decides: the trade log is only read.
-fn after_finding<F: Shelf>(
+/// What two logs give before the rule is looked at, and what was kept of them beside it.
+#[derive(Drop)]
+pub struct LogsBeforeRule<X, Y> {
+    pub given: BeforeRule,
+    /// What was kept of the order log.
+    pub orders: X,
+    /// What was kept of the trade log, or that a report has no partner.
+    pub trades: CollectedTrades<Y>,
+}
+
+/// What is known where a finding about the orders decides: of the trade log is only kept what is
+/// kept beside it.
+fn after_finding<F: Shelf, X: Collector<Entry = OrderRecord>, Y: Collector<Entry = TradeRecord>>(
     alloc: Global,
     shelf: &mut F,
     scope: &Scope,
     trades: &Source<'_>,
     finding: Finding,
-) -> Result<BeforeRule, NoRecords>
+    kept: (X, Y),
+) -> Result<LogsBeforeRule<X, Y>, NoRecords>
     requires limit { trades.now.limit ≤ longest_read }
+    requires fresh { Y.has_taken kept.1 [] }
     ensures logs { KeepsShelfLogs F.Shelf shelf.old shelf.new }
     ensures only { TouchesOnly (reading_by trades.now F.Shelf shelf.old shelf.new) Which.Trades }
-    ensures decides { (entries : List OrderRecord)
+    ensures decides { (entries : List OrderRecord) → X.has_taken kept.0 entries
         → ((paired : Result (List TradeRecord) Finding)
         → finding_before_rule_in_scope scope.now entries paired ≡ Some finding)
-        → GivesOfTrades (IsBeforeRule scope.now entries)
+        → GivesOfTrades (AreLogsBeforeRule scope.now X.has_taken Y.has_taken entries)
         (reading_by trades.now F.Shelf shelf.old shelf.new) trades.now result }
-    ensures judgeable { IfOk result IsJudgeable }
+    ensures judgeable { IfOk result (λ read. IsJudgeable read.given) }
     ensures within { ReadsWithinAt (reading_by trades.now F.Shelf shelf.old shelf.new)
         Which.Trades result }
 {
-    match collect_trades::<F, Counter<TradeRecord>>(alloc, shelf, trades, Counter::new()) {
-        Ok(_) => Ok(BeforeRule::Found(finding)),
+    let (orders, kept) = kept;
+    match collect_trades::<F, Y>(alloc, shelf, trades, kept) {
+        Ok(trades) => Ok(LogsBeforeRule {
+            given: BeforeRule::Found(finding),
+            orders,
+            trades,
+        }),
         Err(unread) => Err(NoRecords::at(Which::Trades, unread)),
     }
 }
 
 /// What is known where the history has no finding: its trades decide.
-fn after_history<M: HistoryGhost, F: Shelf>(
+fn after_history<
+    M: HistoryGhost,
+    F: Shelf,
+    X: Collector<Entry = OrderRecord>,
+    Y: Collector<Entry = TradeRecord>,
+>(
     alloc: Global,
     shelf: &mut F,
     scope: &Scope,
     trades: &Source<'_>,
     history: History,
-) -> Result<BeforeRule, NoRecords>
+    kept: (X, Y),
+) -> Result<LogsBeforeRule<X, Y>, NoRecords>
     requires limit { trades.now.limit ≤ longest_read }
     requires symbol { scope.now.symbol ≡ M.symbol }
     requires orders { history ≡ M.orders }
+    requires fresh { Y.has_taken kept.1 [] }
     ensures logs { KeepsShelfLogs F.Shelf shelf.old shelf.new }
     ensures only { TouchesOnly (reading_by trades.now F.Shelf shelf.old shelf.new) Which.Trades }
-    ensures decides { (entries : List OrderRecord) → IsAdmitted scope.now entries history
-        → GivesOfTrades (IsBeforeRule scope.now entries)
+    ensures decides { (entries : List OrderRecord) → X.has_taken kept.0 entries
+        → IsAdmitted scope.now entries history
+        → GivesOfTrades (AreLogsBeforeRule scope.now X.has_taken Y.has_taken entries)
         (reading_by trades.now F.Shelf shelf.old shelf.new) trades.now result }
-    ensures judgeable { IfOk result IsJudgeable }
-    ensures within { (F.slot shelf.old Which.Trades).taken ≤ trades.now.limit
-        → ReadsWithinAt (reading_by trades.now F.Shelf shelf.old shelf.new) Which.Trades result }
+    ensures judgeable { IfOk result (λ read. IsJudgeable read.given) }
+    ensures within { ReadsWithinAt (reading_by trades.now F.Shelf shelf.old shelf.new)
+        Which.Trades result }
 {
+    let (orders, kept) = kept;
     let deals = DealsDraft::<M>::new(alloc, trades.seed, scope.symbol, history);
-    match collect_trades::<F, DealsDraft<M>>(alloc, shelf, trades, deals) {
-        Ok(CollectedTrades::Trades(deals)) => Ok(BeforeRule::of(deals.end())),
-        Ok(CollectedTrades::Alone(finding)) => Ok(BeforeRule::Found(finding)),
+    let both = Both {
+        first: deals,
+        second: kept,
+    };
+    match collect_trades::<F, Both<DealsDraft<M>, Y>>(alloc, shelf, trades, both) {
+        Ok(CollectedTrades::Trades(both)) => {
+            let Both { first, second } = both;
+            Ok(LogsBeforeRule {
+                given: BeforeRule::of(first.end()),
+                orders,
+                trades: CollectedTrades::Trades(second),
+            })
+        }
+        Ok(CollectedTrades::Alone(finding)) => {
+            let alone = &finding;
+            Ok(LogsBeforeRule {
+                given: BeforeRule::Found(*alone),
+                orders,
+                trades: CollectedTrades::Alone(*alone),
+            })
+        }
         Err(unread) => Err(NoRecords::at(Which::Trades, unread)),
     }
 }
 
 /// What is known where the order log has been read: the trade log is read.
-fn after_orders<S: SymbolGhost, F: Shelf>(
+fn after_orders<
+    S: SymbolGhost,
+    F: Shelf,
+    X: Collector<Entry = OrderRecord>,
+    Y: Collector<Entry = TradeRecord>,
+>(
     alloc: Global,
     shelf: &mut F,
     scope: &Scope,
     trades: &Source<'_>,
-    orders: HistoryDraft<S>,
-) -> Result<BeforeRule, NoRecords>
+    orders: Both<HistoryDraft<S>, X>,
+    kept: Y,
+) -> Result<LogsBeforeRule<X, Y>, NoRecords>
     requires limit { trades.now.limit ≤ longest_read }
     requires symbol { scope.now.symbol ≡ S.symbol }
-    requires place { HasPlace (IsHistoryDraft S.symbol) orders }
+    requires place { (entries : List OrderRecord) × IsHistoryDraft S.symbol orders.first entries }
+    requires fresh { Y.has_taken kept [] }
     ensures logs { KeepsShelfLogs F.Shelf shelf.old shelf.new }
     ensures only { TouchesOnly (reading_by trades.now F.Shelf shelf.old shelf.new) Which.Trades }
-    ensures decides { (entries : List OrderRecord) → IsHistoryDraft S.symbol orders entries
-        → GivesOfTrades (IsBeforeRule scope.now entries)
+    ensures decides { (entries : List OrderRecord) → IsHistoryDraft S.symbol orders.first entries
+        → X.has_taken orders.second entries
+        → GivesOfTrades (AreLogsBeforeRule scope.now X.has_taken Y.has_taken entries)
         (reading_by trades.now F.Shelf shelf.old shelf.new) trades.now result }
-    ensures judgeable { IfOk result IsJudgeable }
-    ensures within { (F.slot shelf.old Which.Trades).taken ≤ trades.now.limit
-        → ReadsWithinAt (reading_by trades.now F.Shelf shelf.old shelf.new) Which.Trades result }
+    ensures judgeable { IfOk result (λ read. IsJudgeable read.given) }
+    ensures within { ReadsWithinAt (reading_by trades.now F.Shelf shelf.old shelf.new)
+        Which.Trades result }
 {
-    match orders.end() {
+    let Both { first, second } = orders;
+    let kept = (second, kept);
+    match first.end() {
         Ok(history) => {
             let unadmitted = scope.admission.first_unadmitted(&history.orders());
             match unadmitted {
-                Some(finding) => after_finding(alloc, shelf, scope, trades, finding),
-                None => after_history::<Brand, F>(alloc, shelf, scope, trades, history),
+                Some(finding) => after_finding(alloc, shelf, scope, trades, finding, kept),
+                None => {
+                    after_history::<Brand, F, X, Y>(alloc, shelf, scope, trades, history, kept)
+                }
             }
         }
-        Err(finding) => after_finding(alloc, shelf, scope, trades, finding),
+        Err(finding) => after_finding(alloc, shelf, scope, trades, finding, kept),
     }
 }
 
-/// What two logs give before the rule is looked at, by the history of the symbol.
-fn read_about<S: SymbolGhost, F: Shelf>(
+/// What two logs give before the rule is looked at, and what these two collectors keep of them
+/// beside it, the first of the orders and the second of the trades; or why that is not known. The
+/// order log is read first, and the trade log only where that is in its grammar; each is read once.
+pub fn read_keeping<
+    S: SymbolGhost,
+    F: Shelf,
+    X: Collector<Entry = OrderRecord>,
+    Y: Collector<Entry = TradeRecord>,
+>(
     alloc: Global,
     shelf: &mut F,
     scope: &Scope,
     orders: &Source<'_>,
     trades: &Source<'_>,
-) -> Result<BeforeRule, NoRecords>
+    kept: (X, Y),
+) -> Result<LogsBeforeRule<X, Y>, NoRecords>
     requires symbol { scope.now.symbol ≡ S.symbol }
     requires limit { HaveOneLimit orders.now trades.now }
+    requires no_orders { X.has_taken kept.0 [] }
+    requires no_trades { Y.has_taken kept.1 [] }
     ensures logs { KeepsShelfLogs F.Shelf shelf.old shelf.new }
     ensures later { FaultsNeverFall (reading_by orders.now F.Shelf shelf.old shelf.new) }
-    ensures decides { GivesOfRecords (IsBeforeRule scope.now)
+    ensures decides { GivesOfRecords (AreLogsBeforeRule scope.now X.has_taken Y.has_taken)
         (reading_by orders.now F.Shelf shelf.old shelf.new) orders.now trades.now result }
-    ensures judgeable { IfOk result IsJudgeable }
+    ensures judgeable { IfOk result (λ read. IsJudgeable read.given) }
     ensures within { ReadsWithin (reading_by orders.now F.Shelf shelf.old shelf.new) result }
 {
-    let history = HistoryDraft::<S>::new(alloc, orders.seed, scope.symbol);
-    match collect_orders::<F, HistoryDraft<S>>(alloc, shelf, orders, history) {
-        Ok(history) => after_orders(alloc, shelf, scope, trades, history),
+    let (of_orders, of_trades) = kept;
+    let both = Both {
+        first: HistoryDraft::<S>::new(alloc, orders.seed, scope.symbol),
+        second: of_orders,
+    };
+    match collect_orders::<F, Both<HistoryDraft<S>, X>>(alloc, shelf, orders, both) {
+        Ok(read) => after_orders(alloc, shelf, scope, trades, read, of_trades),
         Err(unread) => Err(NoRecords::at(Which::Orders, unread)),
     }
 }
@@ -158,5 +231,11 @@ pub fn read_both<F: Shelf>(
     ensures judgeable { IfOk result IsJudgeable }
     ensures within { ReadsWithin (reading_by orders.now F.Shelf shelf.old shelf.new) result }
 {
-    read_about::<Brand, F>(alloc, shelf, scope, orders, trades)
+    let kept = (Counter::new(), Counter::new());
+    match read_keeping::<Brand, F, Counter<OrderRecord>, Counter<TradeRecord>>(
+        alloc, shelf, scope, orders, trades, kept,
+    ) {
+        Ok(read) => Ok(read.given),
+        Err(why) => Err(why),
+    }
 }

@@ -45,7 +45,7 @@ pub(crate) fn matching_evidence(
     } else if orders.at(ask.index).cancelled().is_some() {
         Some(Evidence::Inactive(ask))
     } else if !is_within(deal, &orders.at(bid.index), &orders.at(ask.index)) {
-        Some(Evidence::Limit(bid, ask))
+        Some(Evidence::Limit { bid, ask })
     } else if uniform && deal.price != first.price {
         Some(Evidence::UniformPrice(first.place))
     } else if is_overfilled(&orders.at(bid.index), bid_traded) {

@@ -59,7 +59,7 @@ impl ListedOffence {
             },
             ListedOffence::Limit { place, bid, ask } => Flaw {
                 place,
-                evidence: Evidence::Limit(bid, ask),
+                evidence: Evidence::Limit { bid, ask },
             },
             ListedOffence::UniformPrice { place, first } => Flaw {
                 place,
@@ -76,11 +76,11 @@ impl ListedOffence {
                 own,
             } => Flaw {
                 place,
-                evidence: Evidence::Priority(side, ahead, own),
+                evidence: Evidence::Priority { side, ahead, own },
             },
             ListedOffence::Spread { place, bid, ask } => Flaw {
                 place,
-                evidence: Evidence::Spread(bid, ask),
+                evidence: Evidence::Spread { bid, ask },
             },
         }
     }

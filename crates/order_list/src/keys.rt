@@ -5,7 +5,7 @@
 ghost use Rattle.std.specs.Prelude.{◌≡◌, ◌≤◌, [], true, false, None, IfOk, OnOk, length, slice_get, vec_capacity};
 ghost use Rattle.audit_base.specs.declared.names.Key.{Key};
 ghost use Rattle.indexmap.specs.IndexMap.{keys as keys_of_map};
-ghost use Rattle.order_list.specs.declared.keys.KeyNumber.{KeyNumber as ANumber};
+ghost use Rattle.order_list.specs.declared.keys.KeyNumber.{KeyNumber as KeyNumberSpec};
 ghost use Rattle.order_list.specs.Keys.{index_on, record_seen_in, name_from, key_of_pair, no_key, key_in, listed_key, short_key, long_key};
 ghost use Rattle.order_list.specs.Keys.{AddsKey, AddsNumber, PutsKey, kept_in};
 
@@ -169,7 +169,7 @@ impl Keys {
     /// any more, and the memory of what finds them is given back. Where there is no memory for the
     /// copy, all stays.
     pub fn for_numbers(self) -> Keys
-        ensures { (number : ANumber) → key_in result number ≡ key_in self number }
+        ensures { (number : KeyNumberSpec) → key_in result number ≡ key_in self number }
     {
         if self.short.len() < MANY_KEYS || !self.listed.is_empty() {
             return self;

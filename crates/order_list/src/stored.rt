@@ -3,7 +3,7 @@
 //! Reading needs no condition: a number with no key gives the key `?`, numbers that are no time the
 //! first moment. 2^32 - 1 means no target.
 ghost use Rattle.std.specs.Prelude.{◌≡◌, ◌<◌, IfSome, Some, None};
-ghost use Rattle.audit_base.specs.declared.names.Key.{Key as AKey};
+ghost use Rattle.audit_base.specs.declared.names.Key.{Key as KeySpec};
 ghost use Rattle.order_list.specs.Changed.{with_terms, with_ending};
 ghost use Rattle.order_list.specs.Stored.{number_of, time_from, cancelled_from, target_from, order_of_stored_and_key, order_with};
 
@@ -77,7 +77,7 @@ impl StoredOrder {
     /// What is kept of the order of these parts.
     pub fn of(parts: &OrderParts) -> StoredOrder
         requires { IfSome parts.now.target (λ t. t < 4294967295) }
-        ensures order { (key : AKey) → order_of_stored_and_key key result ≡ order_with key parts.now }
+        ensures order { (key : KeySpec) → order_of_stored_and_key key result ≡ order_with key parts.now }
         ensures number { number_of result ≡ parts.now.number }
     {
         let Stamp { second, nano } = parts.time;
@@ -100,7 +100,7 @@ impl StoredOrder {
     /// The same order with other terms.
     pub(crate) fn with_terms(&self, terms: ChangedTerms) -> StoredOrder
         requires { IfSome terms.target (λ t. t < 4294967295) }
-        ensures order { (key : AKey) → order_of_stored_and_key key result
+        ensures order { (key : KeySpec) → order_of_stored_and_key key result
             ≡ with_terms terms.quantity terms.cancelled terms.target (order_of_stored_and_key key self.now) }
         ensures number { number_of result ≡ number_of self.now }
     {
@@ -115,7 +115,7 @@ impl StoredOrder {
 
     /// Ends the order at a place, unless an earlier record did.
     pub fn end(&mut self, place: u32)
-        ensures order { (key : AKey) → order_of_stored_and_key key self.new
+        ensures order { (key : KeySpec) → order_of_stored_and_key key self.new
             ≡ with_ending place (order_of_stored_and_key key self.old) }
         ensures number { number_of self.new ≡ number_of self.old }
     {

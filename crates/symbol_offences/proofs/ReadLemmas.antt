@@ -1,86 +1,58 @@
 -- The two logs of a symbol that were read, and what they give.
-use Rattle.std.proofs.Common.{◌≡◌, ◌∙◌, refl, sym, ap, subst, ℕ, Bool, true, List, [], Some, None, Result, Ok, Err, length}
-use Rattle.std.specs.Prelude.{unwrap_or}
+use Rattle.std.proofs.Common.{◌≡◌, ◌∙◌, refl, sym, ap, subst, ℕ, Bool, true, List, [], Result, Ok, Err, length}
 use Rattle.std.proofs.lemmas.List.{length-map}
 use Rattle.audit_base.specs.declared.findings.Finding.{Finding}
 use Rattle.audit_base.specs.declared.orders.Order.{Order}
 use Rattle.audit_base.specs.declared.records.OrderRecord.{OrderRecord}
 use Rattle.audit_base.specs.declared.records.TradeRecord.{TradeRecord}
-use Rattle.audit_base.specs.declared.terms.Which.TheVariants.{Trades}
 use Rattle.audit_base.specs.Histories.{order_list}
 use Rattle.audit_base.specs.Trades.{deal_of_trade, deals_of_symbol, trades_of_symbol}
 use Rattle.audit_base.specs.Verdicts.{paired_trades}
-use Rattle.day_records.specs.declared.symbol_during_trades.SymbolDuringTrades.{SymbolDuringTrades}
-use Rattle.day_records.specs.declared.symbol_during_trades.SymbolDuringTrades.TheVariants as known
-use Rattle.day_records.specs.SymbolDuringTrades.{IsSymbolDuringTrades}
 use Rattle.further_checks.specs.FurtherRules.{times_of_symbol}
-use Rattle.day_records.specs.KeptOrders.{KeptEntries}
-use Rattle.day_records.specs.KeptTrades.{KeptDeals}
-use Rattle.log_verdict.specs.declared.sources.Source.{Source}
-use Rattle.log_verdict.specs.BothLogs.{GivesOfTrades}
-use Rattle.log_verdict.specs.Collecting.{HasLogTrades}
-use Rattle.log_verdict.specs.LogVerdicts.{trades_of_trade_log}
-use Rattle.log_verdict.specs.Steps.{Reading, IsReadAs}
+use Rattle.log_verdict.specs.declared.both_logs.LogsBeforeRule.{LogsBeforeRule}
+use Rattle.log_verdict.specs.declared.reading.CollectedTrades.TheVariants as collected
+use Rattle.log_verdict.specs.BothLogs.{AreLogsBeforeRule}
+use Rattle.log_verdict.specs.Collecting.{HasCollected}
 use Rattle.matching_core.specs.declared.deals_draft.ResolvedTrades.{ResolvedTrades}
 use Rattle.record_verdict.specs.declared.before_rule.BeforeRule.{BeforeRule}
 use Rattle.record_verdict.specs.declared.before_rule.BeforeRule.TheVariants as before_rule
 use Rattle.record_verdict.specs.declared.scopes.Scope.{Scope}
 use Rattle.record_verdict.specs.BeforeRule.{IsBeforeRule, IsJudgeable}
-use Rattle.record_verdict.specs.Scopes.{finding_before_rule_in_scope, unadmitted_order_finding}
 use Rattle.symbol_offences.specs.declared.order_log.OrdersOfSymbol.{OrdersOfSymbol}
 use Rattle.symbol_offences.specs.declared.questions.KeepingOptions.{KeepingOptions}
-use Rattle.symbol_offences.specs.declared.reading.SymbolBeforeTrades.{SymbolBeforeTrades}
 use Rattle.symbol_offences.specs.declared.symbol_before_rule.QuotedRecords.{QuotedRecords}
 use Rattle.symbol_offences.specs.declared.symbol_before_rule.SymbolBeforeRule.{SymbolBeforeRule}
+use Rattle.symbol_offences.specs.declared.trade_log.TradesOfSymbol.{TradesOfSymbol}
 use Rattle.symbol_offences.specs.OrderLog.{IsOrdersOfSymbol}
 use Rattle.symbol_offences.specs.Questions.{kept_if}
 use Rattle.symbol_offences.specs.SymbolBeforeRule.{ArePlacesRising, IsReadyToTell, IsSymbolBeforeRule, kept_history, kept_trades, places_of_records}
-use Rattle.symbol_offences.specs.TradeLog.{IsBegunWith, finding_of_orders}
-use Rattle.symbol_offences.proofs.KeptLemmas.{history-rises, trades-rise, no-trades_kept, no-times_kept}
+use Rattle.symbol_offences.specs.TradeLog.{IsTradesOfSymbol}
+use Rattle.log_verdict.proofs.JoinLemmas.{said-once}
+use Rattle.symbol_offences.proofs.KeptLemmas.{history-rises, trades-rise}
 
-module _ (r : Reading) (scope : Scope) (keeping : KeepingOptions) (trades : Source) (entries : List OrderRecord) where
-  -- the trades that were handed on
-  pub trades-ended : (has_taken : List TradeRecord → Type 0) (logs : SymbolBeforeRule)
-      → IsReadAs r Trades trades.name.now (λ bytes. HasLogTrades has_taken (trades_of_trade_log trades.form bytes)) → ((ts : List TradeRecord) → has_taken ts → IsSymbolBeforeRule scope keeping entries (Ok ts) logs)
-      → GivesOfTrades (IsSymbolBeforeRule scope keeping entries) r trades (Ok logs)
-  trades-ended has_taken logs read ends =
-      record { bytes = read.bytes; read = read.read; holds = rw read.holds.says (ends read.holds.trades read.holds.has) }
+-- what was kept of the trades that were read
+pub kept-paired : {K : Type 0} (has_taken : K → List TradeRecord → Type 0) (kept : K) (paired : Result (List TradeRecord) Finding) → HasCollected has_taken (collected.Trades kept) (Ok paired) → has_taken kept (paired_trades paired)
+kept-paired has_taken kept paired has =
+    subst (λ (p : Result (List TradeRecord) Finding). has_taken kept (paired_trades p)) (sym (said-once paired (Ok has.trades) (Ok paired) refl has.says)) has.has
 
-  -- a report without its partner
-  pub trades-alone : (finding : Finding) (logs : SymbolBeforeRule) → IsReadAs r Trades trades.name.now (λ bytes. trades_of_trade_log trades.form bytes ≡ Ok (Err finding))
-      → IsSymbolBeforeRule scope keeping entries (Err finding) logs → GivesOfTrades (IsSymbolBeforeRule scope keeping entries) r trades (Ok logs)
-  trades-alone finding logs read is = record { bytes = read.bytes; read = read.read; holds = rw read.holds is }
+-- where a report has no partner there are none
+pub none-paired : {K : Type 0} (has_taken : K → List TradeRecord → Type 0) (fresh : K) (finding : Finding) (paired : Result (List TradeRecord) Finding) → HasCollected has_taken (collected.Alone finding) (Ok paired) → has_taken fresh []
+    → has_taken fresh (paired_trades paired)
+none-paired has_taken fresh finding paired says is =
+    subst (λ (p : Result (List TradeRecord) Finding). has_taken fresh (paired_trades p)) (sym (said-once paired (Err finding) (Ok paired) refl says)) is
 
--- What is found where a report has no partner: the finding about the orders, or else that.
-alone-found : (scope : Scope) (entries : List OrderRecord) (begun : SymbolDuringTrades) (finding : Finding) → IsSymbolDuringTrades scope.admission entries [] scope.symbol begun
-    → finding_before_rule_in_scope scope entries (Err finding) ≡ Some (unwrap_or (finding_of_orders begun) finding)
-alone-found scope entries (known.Found of_orders) finding is = is (Err finding)
-alone-found scope entries (known.Sound sound_symbol) finding is =
-    let admits : unadmitted_order_finding scope.admission (order_list scope.symbol entries) ≡ None = ap (unadmitted_order_finding scope.admission) (sym is.orders_are) ∙ is.admitted in
-    rw (is.well_formed, admits) refl
-
--- the symbol with these trades
-abbrev deals_with : List ℕ → List (ℕ × TradeRecord) → KeptDeals
-deals_with symbol trades = record { symbol = symbol; trades = trades }
-
--- what two logs give where a report has no partner
-pub alone-logs : (scope : Scope) (keeping : KeepingOptions) (entries : List OrderRecord) (begun : SymbolBeforeTrades) (finding : Finding) (logs : SymbolBeforeRule) → IsBegunWith scope keeping begun entries
-    → logs.given ≡ before_rule.Found (unwrap_or (finding_of_orders begun.known) finding) → logs.times.items ≡ [] → logs.quoted.orders ≡ begun.records → logs.quoted.trades ≡ deals_with begun.records.symbol []
-    → IsSymbolBeforeRule scope keeping entries (Err finding) logs
-alone-logs scope keeping entries begun finding logs is given times orders trades = record {
-  before = subst (λ (b : BeforeRule). IsBeforeRule scope entries (Err finding) b) (sym given) (alone-found scope entries begun.known finding is.known);
-  times = times ∙ sym (no-times_kept keeping.times scope.symbol);
-  quoted = λ i. record { orders = orders-are i; trades = trades-are i };
+-- what was kept of both logs is what they give of the symbol
+pub kept-logs : {Q : Type 0} (symbol : List ℕ) (keeping : KeepingOptions) (scope : Scope) (entries : List OrderRecord) (paired : Result (List TradeRecord) Finding) (read : LogsBeforeRule (OrdersOfSymbol Q) (TradesOfSymbol Q)) (kept : TradesOfSymbol Q)
+    → scope.symbol ≡ symbol → AreLogsBeforeRule scope (IsOrdersOfSymbol symbol keeping.records) (IsTradesOfSymbol symbol keeping) entries paired read → IsTradesOfSymbol symbol keeping kept (paired_trades paired)
+    → IsSymbolBeforeRule scope keeping entries paired (record { given = read.given; times = kept.times; quoted = record { orders = read.orders.records; trades = kept.records } })
+kept-logs symbol keeping scope entries paired read kept named is has = record {
+  before = is.before;
+  times = has.times_are ∙ ap (λ (s : List ℕ). kept_if keeping.times (times_of_symbol s (paired_trades paired))) (sym named);
+  quoted = λ i. record {
+    orders = (is.orders.records_are ∙ ap (λ (s : List ℕ). kept_history keeping.records s entries) (sym named)) i;
+    trades = (has.records_are ∙ ap (λ (s : List ℕ). kept_trades keeping.records s (paired_trades paired)) (sym named)) i;
+  };
 }
-  where
-    orders-are : logs.quoted.orders ≡ kept_history keeping.records scope.symbol entries
-    orders-are = orders ∙ is.kept
-
-    symbol-is : begun.records.symbol ≡ scope.symbol
-    symbol-is = ap (λ (k : KeptEntries). k.symbol) is.kept
-
-    trades-are : logs.quoted.trades ≡ kept_trades keeping.records scope.symbol []
-    trades-are = trades ∙ ap (λ (s : List ℕ). deals_with s []) symbol-is ∙ sym (no-trades_kept keeping.records scope.symbol)
 
 -- Whether they can be told.
 
@@ -106,11 +78,3 @@ ready-of scope keeping entries paired logs is judgeable = record {
         ap length (is.times ∙ ap (λ (b : Bool). kept_if b (times_of_symbol scope.symbol (paired_trades paired))) keeps)
         ∙ same-count (order_list scope.symbol entries) scope.symbol (paired_trades paired)
         ∙ ap length (sym before.deals)
-
--- what is known of a symbol after its order log
-pub begun-with : {S : Type 0} (symbol : List ℕ) (keeps : Bool) (scope : Scope) (keeping : KeepingOptions) (orders : OrdersOfSymbol S) (after : SymbolDuringTrades) (entries : List OrderRecord) → scope.symbol ≡ symbol → keeping.records ≡ keeps
-    → IsOrdersOfSymbol symbol keeps orders entries → IsSymbolDuringTrades scope.admission entries [] symbol after → IsBegunWith scope keeping (record { known = after; records = orders.records }) entries
-begun-with symbol keeps scope keeping orders after entries symbol_is keeps_is has known_is = record {
-  known = subst (λ (s : List ℕ). IsSymbolDuringTrades scope.admission entries [] s after) (sym symbol_is) known_is;
-  kept = has.records_are ∙ (λ i. kept_history (sym keeps_is i) (sym symbol_is i) entries);
-}

@@ -1,8 +1,8 @@
 //! The offences of one symbol, from the two logs of a shelf to the text that tells them.
 //!
-//! Each log is read once, piece by piece: `order_log` and `trade_log` are handed its records and
-//! keep what the verdict needs, and beside it, where that is asked for, the times of the symbol's
-//! trades and the records themselves. `reading` reads one log after the other. `answers` judges
+//! The two logs are read as for an audit (`log_verdict::both_logs`). Beside what the verdict needs,
+//! `order_log` and `trade_log` are handed their records and keep, where that is asked for, the
+//! records of the symbol and the times of its trades; `reading` puts both together. `answers` judges
 //! what they give, and `verdict_answers` tells it: an accepted log as an audit does, a rejected one
 //! with a line for each offence (`listing`), or for each trade that fails a further check
 //! (`further`), and behind each line the records that a letter quotes (`quotes`, `record_lines`,

@@ -1,36 +1,19 @@
-//! What is kept of the order log of one symbol: its history, and its records where they are quoted.
-ghost use Rattle.std.specs.Prelude.{◌≡◌, ◌∷◌, [], ℕ, Bool, false, List, OnOk};
+//! What is kept of the order log of one symbol beside its history: its records, where they are quoted.
+ghost use Rattle.std.specs.Prelude.{◌≡◌, ◌∷◌, [], OnOk};
 ghost use Rattle.audit_base.specs.Histories.{symbol_of};
 ghost use Rattle.audit_base.specs.Orders.{same_name};
 ghost use Rattle.log_source.specs.Collectors.{HasPlace};
 ghost use Rattle.log_source.specs.Handing.{HandsOnMore};
 ghost use Rattle.symbol_offences.specs.OrderLog.{IsOrdersOfSymbol, with_entry_if};
 
+use crate::questions::QuestionGhost;
 use audit_base::faults::NoMemory;
 use audit_base::names::Name;
 use audit_base::records::{LogRecord, OrderRecord};
 use day_records::kept_orders::KeptOrders;
-use instruction_history::history_or_flaw::HistoryOrFlaw;
 use log_source::collector::Collector;
-use seeded_hash::seed::HashSeed;
 use std::alloc::Global;
-use std::marker::{Brand, PhantomData};
-
-/// The symbol of an order log, and whether its records are kept, for proofs alone. What hands
-/// records to collectors of any kind can say of one only which records it has been handed, and not
-/// what it was made for. So its type says that. Whoever makes one picks them, at `Brand`, and
-/// nothing of them is there when the program runs.
-pub trait OrderLogGhost {
-    ghost symbol: { List ℕ };
-
-    ghost keeps: { Bool };
-}
-
-impl OrderLogGhost for Brand {
-    ghost symbol = { [] };
-
-    ghost keeps = { false };
-}
+use std::marker::PhantomData;
 
 /// Whether the record is one of this symbol.
 fn has_symbol(entry: &OrderRecord, symbol: &Name) -> bool
@@ -55,35 +38,28 @@ fn keep_entry(
     kept.push(entry, place)
 }
 
-/// What is known of a symbol after some records of an order log.
+/// What is kept of a symbol after some records of an order log.
 #[derive(Drop)]
-pub struct OrdersOfSymbol<S> {
+pub struct OrdersOfSymbol<Q> {
     symbol: Name,
     /// How many records of the log there were, of all symbols.
     count: u32,
-    pub(crate) history: HistoryOrFlaw,
     keeps_records: bool,
     /// Those of the symbol, where they are kept.
     pub(crate) records: KeptOrders,
-    of: PhantomData<S>,
+    of: PhantomData<Q>,
 }
 
-impl<S: OrderLogGhost> OrdersOfSymbol<S> {
-    /// No records. Keys are found by hashes of this seed. Takes no memory.
-    pub fn new(
-        alloc: Global,
-        seed: HashSeed,
-        symbol: Name,
-        keeps_records: bool,
-    ) -> OrdersOfSymbol<S>
-        requires symbol { symbol ≡ S.symbol }
-        requires keeps { keeps_records ≡ S.keeps }
-        ensures { IsOrdersOfSymbol S.symbol S.keeps result [] }
+impl<Q: QuestionGhost> OrdersOfSymbol<Q> {
+    /// No records. Takes no memory.
+    pub fn new(alloc: Global, symbol: Name, keeps_records: bool) -> OrdersOfSymbol<Q>
+        requires symbol { symbol ≡ Q.symbol }
+        requires keeps { keeps_records ≡ Q.keeping.records }
+        ensures { IsOrdersOfSymbol Q.symbol Q.keeping.records result [] }
     {
         OrdersOfSymbol {
             symbol,
             count: 0,
-            history: HistoryOrFlaw::new(alloc, seed),
             keeps_records,
             records: KeptOrders::new(alloc, symbol),
             of: PhantomData,
@@ -92,25 +68,24 @@ impl<S: OrderLogGhost> OrdersOfSymbol<S> {
 
     /// Takes the next record of the log. After `NoMemory` nothing is known of the symbol.
     fn take_entry(&mut self, entry: &OrderRecord) -> Result<(), NoMemory>
-        requires { HasPlace (IsOrdersOfSymbol S.symbol S.keeps) self.old }
-        ensures { let has_taken = IsOrdersOfSymbol S.symbol S.keeps in
+        requires { HasPlace (IsOrdersOfSymbol Q.symbol Q.keeping.records) self.old }
+        ensures { let has_taken = IsOrdersOfSymbol Q.symbol Q.keeping.records in
             OnOk result (HandsOnMore (has_taken self.old) (has_taken self.new) (entry.now ∷ [])) }
     {
         self.count += 1;
         if !has_symbol(entry, &self.symbol) {
             return Ok(());
         }
-        self.history.take(entry, self.count)?;
         keep_entry(self.keeps_records, &mut self.records, entry, self.count)
     }
 }
 
-impl<S: OrderLogGhost> Collector for OrdersOfSymbol<S> {
+impl<Q: QuestionGhost> Collector for OrdersOfSymbol<Q> {
     ghost use Rattle.audit_base.specs.Orders.{same_name};
 
     type Entry = OrderRecord;
 
-    ghost has_taken = { IsOrdersOfSymbol S.symbol S.keeps };
+    ghost has_taken = { IsOrdersOfSymbol Q.symbol Q.keeping.records };
 
     ghost wants = { λ kept symbol. same_name symbol kept.symbol };
 

@@ -1,12 +1,14 @@
 //! What is asked of the records of a symbol.
-ghost use Rattle.std.specs.Prelude.{◌≡◌, false};
+ghost use Rattle.std.specs.Prelude.{◌≡◌, [], ℕ, List, false};
 ghost use Rattle.record_verdict.specs.RecordVerdicts.{question};
+ghost use Rattle.symbol_offences.specs.declared.questions.KeepingOptions.{KeepingOptions as KeepingOptionsSpec};
 ghost use Rattle.symbol_offences.specs.Questions.{keeping_for};
 
 use audit_base::names::Name;
 use audit_base::terms::Rule;
 use further_checks::findings::FurtherChecks;
 use record_verdict::questions::Question;
+use std::marker::Brand;
 
 /// What is asked of the records of a symbol: the offences under a rule, and of a symbol that the
 /// rule accepts every trade that fails a further check.
@@ -27,6 +29,22 @@ pub struct KeepingOptions {
     pub records: bool,
     /// The times of its trades.
     pub times: bool,
+}
+
+/// The symbol that is asked about, and what is kept of it, for proofs alone. What hands records to
+/// collectors of any kind can say of one only which records it has been handed, and not what it was
+/// made for. So its type says that. Whoever makes one picks them, at `Brand`, and nothing of them is
+/// there when the program runs.
+pub trait QuestionGhost {
+    ghost symbol: { List ℕ };
+
+    ghost keeping: { KeepingOptionsSpec };
+}
+
+impl QuestionGhost for Brand {
+    ghost symbol = { [] };
+
+    ghost keeping = { record { records = false; times = false } };
 }
 
 impl OffenceQuestion {

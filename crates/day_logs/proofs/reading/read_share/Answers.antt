@@ -4,7 +4,7 @@ use Rattle.day_symbols.specs.Shares.{DayShare}
 use Rattle.day_logs.specs.declared.before_rule.DayBeforeRule.{DayBeforeRule}
 use Rattle.log_verdict.specs.Steps.{reading_by}
 use Rattle.day_logs.specs.DayBeforeRule.{IsDayBeforeRule}
-use Rattle.log_verdict.proofs.JoinLemmas.{gives-after, keeps-both, later-after, orders-unread, orders-within, stays-within}
+use Rattle.log_verdict.proofs.JoinLemmas.{follows, gives-after, keeps-both, later-after, orders-unread, orders-within, stays-within}
 use Rattle.day_logs.proofs.reading.read_share.Goals as goal
 
 pub after_orders-requires-clause-some : goal.after_orders-requires-clause-some
@@ -19,22 +19,19 @@ returns-in-Ok-clause-logs g c =
 pub returns-in-Ok-clause-decides : goal.returns-in-Ok-clause-decides
 returns-in-Ok-clause-decides g c =
     let is = c.in-Ok.ensures.read in
-    gives-after (reading_by c.args.orders.now g.F.Shelf c.args.shelf.now c.collect_orders.new.shelf) (reading_by c.args.trades.now g.F.Shelf c.collect_orders.new.shelf c.after_orders.new.shelf)
-    (record { limit = sym c.requires.limit.same; tells = c.in-Ok.ensures.logs.tells; logs = c.in-Ok.ensures.logs.logs; trades = c.in-Ok.ensures.only.other; orders = c.after_orders.ensures.only.other })
+    gives-after _ _ (follows g.F.Shelf c.args.orders.now c.args.trades.now c.args.shelf.now c.collect_orders.new.shelf c.after_orders.new.shelf c.requires.limit c.in-Ok.ensures.logs c.in-Ok.ensures.only c.after_orders.ensures.only)
     (IsDayBeforeRule c.args.share c.args.admission) c.args.orders.now c.args.trades.now is.holds.entries c.after_orders.result
     (record { bytes = is.bytes; read = is.read; holds = is.holds.reads })
     (c.after_orders.ensures.decides is.holds.entries (subst (λ (share : DayShare). HasOrders share c.end.result is.holds.entries) (sym c.requires.share) (c.end.ensures is.holds.entries is.holds.has)))
 
 pub returns-in-Ok-clause-later : goal.returns-in-Ok-clause-later
 returns-in-Ok-clause-later g c =
-    later-after (reading_by c.args.orders.now g.F.Shelf c.args.shelf.now c.collect_orders.new.shelf) (reading_by c.args.trades.now g.F.Shelf c.collect_orders.new.shelf c.after_orders.new.shelf)
-    (record { limit = sym c.requires.limit.same; tells = c.in-Ok.ensures.logs.tells; logs = c.in-Ok.ensures.logs.logs; trades = c.in-Ok.ensures.only.other; orders = c.after_orders.ensures.only.other })
+    later-after _ _ (follows g.F.Shelf c.args.orders.now c.args.trades.now c.args.shelf.now c.collect_orders.new.shelf c.after_orders.new.shelf c.requires.limit c.in-Ok.ensures.logs c.in-Ok.ensures.only c.after_orders.ensures.only)
     c.in-Ok.ensures.only.later c.after_orders.ensures.only.later
 
 pub returns-in-Ok-clause-within : goal.returns-in-Ok-clause-within
 returns-in-Ok-clause-within g c =
-    stays-within (reading_by c.args.orders.now g.F.Shelf c.args.shelf.now c.collect_orders.new.shelf) (reading_by c.args.trades.now g.F.Shelf c.collect_orders.new.shelf c.after_orders.new.shelf)
-    (record { limit = sym c.requires.limit.same; tells = c.in-Ok.ensures.logs.tells; logs = c.in-Ok.ensures.logs.logs; trades = c.in-Ok.ensures.only.other; orders = c.after_orders.ensures.only.other })
+    stays-within _ _ (follows g.F.Shelf c.args.orders.now c.args.trades.now c.args.shelf.now c.collect_orders.new.shelf c.after_orders.new.shelf c.requires.limit c.in-Ok.ensures.logs c.in-Ok.ensures.only c.after_orders.ensures.only)
     c.after_orders.result (c.in-Ok.ensures.within (λ e. cc)) c.after_orders.ensures.within
 
 pub returns-in-Err-clause-decides : goal.returns-in-Err-clause-decides

@@ -1,16 +1,19 @@
-use Rattle.std.proofs.Common.{ap, Err}
+use Rattle.std.proofs.Common.{ap, refl, Ok, Err}
 use Rattle.day_records.specs.DayTrades.{IsDayTrades}
 use Rattle.day_logs.specs.declared.before_rule.DayBeforeRule.{DayBeforeRule}
+use Rattle.day_logs.specs.declared.before_rule.DayBeforeRule.TheVariants as before_rule
+use Rattle.day_logs.specs.DayBeforeRule.{IsDayBeforeRule}
+use Rattle.log_verdict.specs.declared.reading.CollectedTrades.TheVariants as collected
 use Rattle.log_verdict.specs.Steps.{reading_by}
-use Rattle.log_verdict.proofs.JoinLemmas.{trades-unread, trades-within}
-use Rattle.day_logs.proofs.TradeLogLemmas.{day-ended, day-unpaired}
+use Rattle.log_verdict.proofs.JoinLemmas.{reads-collected, said-once, trades-unread, trades-within}
 use Rattle.day_logs.proofs.reading.read_trades.Goals as goal
 
 pub returns-in-Ok-Trades-clause-decides : goal.returns-in-Ok-Trades-clause-decides
 returns-in-Ok-Trades-clause-decides g c = λ entries may.
     let read = rw c.in-Ok-Trades.field-0-is at c.in-Ok-Trades.ensures.read in
-    day-ended (reading_by c.args.trades.now g.F.Shelf c.args.shelf.now c.collect_trades.new.shelf) g.M.DayGhost.share g.M.DayGhost.admission c.args.trades.now entries
-    (IsDayTrades g.M.DayGhost.share g.M.DayGhost.admission g.M.DayGhost.may_have c.in-Ok-Trades.day) c.end.result read (λ ts has. c.end.ensures entries ts may has)
+    reads-collected (reading_by c.args.trades.now g.F.Shelf c.args.shelf.now c.collect_trades.new.shelf) c.args.trades.now (IsDayTrades g.M.DayGhost.share g.M.DayGhost.admission g.M.DayGhost.may_have) (collected.Trades c.in-Ok-Trades.day)
+    (λ paired. IsDayBeforeRule g.M.DayGhost.share g.M.DayGhost.admission entries paired (before_rule.Read c.end.result))
+    (λ paired has. rw (said-once paired (Ok has.trades) (Ok paired) refl has.says) (c.end.ensures entries has.trades may has.has)) read
 
 pub returns-in-Ok-Trades-clause-fits_places : goal.returns-in-Ok-Trades-clause-fits_places
 returns-in-Ok-Trades-clause-fits_places g c =
@@ -20,7 +23,8 @@ returns-in-Ok-Trades-clause-fits_places g c =
 pub returns-in-Ok-Alone-clause-decides : goal.returns-in-Ok-Alone-clause-decides
 returns-in-Ok-Alone-clause-decides g c = λ entries may.
     let read = rw c.in-Ok-Alone.field-0-is at c.in-Ok-Alone.ensures.read in
-    day-unpaired (reading_by c.args.trades.now g.F.Shelf c.args.shelf.now c.collect_trades.new.shelf) g.M.DayGhost.share g.M.DayGhost.admission c.args.trades.now entries c.in-Ok-Alone.finding read
+    reads-collected (reading_by c.args.trades.now g.F.Shelf c.args.shelf.now c.collect_trades.new.shelf) c.args.trades.now (IsDayTrades g.M.DayGhost.share g.M.DayGhost.admission g.M.DayGhost.may_have) (collected.Alone c.in-Ok-Alone.finding)
+    (λ paired. IsDayBeforeRule g.M.DayGhost.share g.M.DayGhost.admission entries paired (before_rule.Unpaired c.in-Ok-Alone.finding)) (λ paired has. said-once paired (Err c.in-Ok-Alone.finding) (Ok paired) refl has) read
 
 pub returns-in-Err-clause-decides : goal.returns-in-Err-clause-decides
 returns-in-Err-clause-decides g c = λ entries may.

@@ -1,4 +1,4 @@
 use Rattle.log_verdict.proofs.both_logs.read_both.Given as goal
 
-abbrev pub ghosts-read_about : goal.ghosts-read_about
-ghosts-read_about g a = record { symbol = a.scope.now.symbol }
+abbrev pub ghosts-read_keeping : goal.ghosts-read_keeping
+ghosts-read_keeping g a = record { symbol = a.scope.now.symbol }

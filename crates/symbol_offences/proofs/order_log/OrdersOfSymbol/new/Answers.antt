@@ -6,9 +6,8 @@ pub returns : goal.returns
 returns g c = record {
   named = c.requires.symbol;
   count = refl;
-  known = c.new.ensures g.S.OrderLogGhost.symbol;
   keeps_so = c.requires.keeps;
-  records_are = c.new-2.ensures
+  records_are = c.new.ensures
       ∙ ap (λ (s : List ℕ). record { symbol = s; entries = [] }) c.requires.symbol
-      ∙ ap (λ (l : List _). record { symbol = g.S.OrderLogGhost.symbol; entries = l }) (sym (none-kept g.S.OrderLogGhost.keeps [] refl));
+      ∙ ap (λ (l : List _). record { symbol = g.Q.QuestionGhost.symbol; entries = l }) (sym (none-kept g.Q.QuestionGhost.keeping.records [] refl));
 }

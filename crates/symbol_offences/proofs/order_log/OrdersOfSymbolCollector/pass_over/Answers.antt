@@ -4,4 +4,4 @@ use Rattle.symbol_offences.proofs.order_log.OrdersOfSymbolCollector.pass_over.Go
 
 pub returns : goal.returns
 returns g c = λ entries entry other has.
-    other-taken g.S.OrderLogGhost.symbol g.S.OrderLogGhost.keeps c.args.self.now _ entries entry has other refl refl refl refl refl
+    other-taken g.Q.QuestionGhost.symbol g.Q.QuestionGhost.keeping.records c.args.self.now _ entries entry has other refl refl refl refl

@@ -6,10 +6,9 @@ pub returns : goal.returns
 returns g c = record {
   named = c.requires.symbol;
   count = refl;
-  known_after = c.requires.known;
   keeps_so = c.requires.keeping;
-  times_are = c.new.ensures.items ∙ sym (no-times_kept g.M.TradeLogGhost.keeping.times g.M.TradeLogGhost.scope.symbol);
+  times_are = c.new.ensures.items ∙ sym (no-times_kept g.Q.QuestionGhost.keeping.times g.Q.QuestionGhost.symbol);
   records_are = c.new-2.ensures
       ∙ ap (λ (s : List ℕ). record { symbol = s; trades = [] }) c.requires.symbol
-      ∙ sym (no-trades_kept g.M.TradeLogGhost.keeping.records g.M.TradeLogGhost.scope.symbol);
+      ∙ sym (no-trades_kept g.Q.QuestionGhost.keeping.records g.Q.QuestionGhost.symbol);
 }

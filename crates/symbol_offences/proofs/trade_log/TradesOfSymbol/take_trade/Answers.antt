@@ -5,14 +5,14 @@ use Rattle.symbol_offences.proofs.trade_log.TradesOfSymbol.take_trade.Goals as g
 
 pub returns-then-not-has_symbol : goal.returns-then-not-has_symbol
 returns-then-not-has_symbol g c = λ trades has.
-    other-trade_taken g.M.TradeLogGhost.scope g.M.TradeLogGhost.keeping g.M.TradeLogGhost.may_have c.args.self.now _ trades c.args.trade.now has (sym c.has_symbol.ensures ∙ c.if-not-has_symbol.true) refl refl refl refl refl refl
+    other-trade_taken g.Q.QuestionGhost.symbol g.Q.QuestionGhost.keeping c.args.self.now _ trades c.args.trade.now has (sym c.has_symbol.ensures ∙ c.if-not-has_symbol.true) refl refl refl refl refl
 
 pub keep_trade-requires : goal.keep_trade-requires
 keep_trade-requires g c =
-    own-trade_symbol g.M.TradeLogGhost.scope g.M.TradeLogGhost.keeping g.M.TradeLogGhost.may_have c.args.self.now c.requires.entries c.args.trade.now c.requires.has (sym c.has_symbol.ensures ∙ c.if-not-has_symbol.false)
+    own-trade_symbol g.Q.QuestionGhost.symbol g.Q.QuestionGhost.keeping c.args.self.now c.requires.entries c.args.trade.now c.requires.has (sym c.has_symbol.ensures ∙ c.if-not-has_symbol.false)
 
 pub returns : goal.returns
 returns g c = on_ok_weaker c.keep_trade.result
-    (λ kept trades has. own-trade_taken g.M.TradeLogGhost.scope g.M.TradeLogGhost.keeping g.M.TradeLogGhost.may_have c.args.self.now _ trades c.args.trade.now has (sym c.has_symbol.ensures ∙ c.if-not-has_symbol.false)
-    refl refl c.in_ok-take.ensures refl c.in_ok-keep_time.ensures kept)
+    (λ kept trades has. own-trade_taken g.Q.QuestionGhost.symbol g.Q.QuestionGhost.keeping c.args.self.now _ trades c.args.trade.now has (sym c.has_symbol.ensures ∙ c.if-not-has_symbol.false)
+    refl refl refl c.in_ok-keep_time.ensures kept)
     c.keep_trade.ensures

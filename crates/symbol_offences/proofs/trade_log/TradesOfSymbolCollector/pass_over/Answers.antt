@@ -4,4 +4,4 @@ use Rattle.symbol_offences.proofs.trade_log.TradesOfSymbolCollector.pass_over.Go
 
 pub returns : goal.returns
 returns g c = λ trades trade other has.
-    other-trade_taken g.M.TradeLogGhost.scope g.M.TradeLogGhost.keeping g.M.TradeLogGhost.may_have c.args.self.now _ trades trade has other refl refl refl refl refl refl
+    other-trade_taken g.Q.QuestionGhost.symbol g.Q.QuestionGhost.keeping c.args.self.now _ trades trade has other refl refl refl refl refl
