@@ -23,7 +23,7 @@ returns-in-Ok-Trades-clause-fits_places g c =
 pub returns-in-Ok-Alone-clause-decides : goal.returns-in-Ok-Alone-clause-decides
 returns-in-Ok-Alone-clause-decides g c = λ entries may.
     let read = rw c.in-Ok-Alone.field-0-is at c.in-Ok-Alone.ensures.read in
-    reads-collected (reading_by c.args.trades.now g.F.Shelf c.args.shelf.now c.collect_trades.new.shelf) c.args.trades.now (IsDayTrades g.M.DayGhost.share g.M.DayGhost.admission g.M.DayGhost.may_have) (collected.Alone c.in-Ok-Alone.finding)
+    reads-collected (reading_by c.args.trades.now g.F.Shelf c.args.shelf.now c.collect_trades.new.shelf) c.args.trades.now (IsDayTrades {M = g.row.M.Denot} g.M.DayGhost.share g.M.DayGhost.admission g.M.DayGhost.may_have) (collected.Alone c.in-Ok-Alone.finding)
     (λ paired. IsDayBeforeRule g.M.DayGhost.share g.M.DayGhost.admission entries paired (before_rule.Unpaired c.in-Ok-Alone.finding)) (λ paired has. said-once paired (Err c.in-Ok-Alone.finding) (Ok paired) refl has) read
 
 pub returns-in-Err-clause-decides : goal.returns-in-Err-clause-decides
