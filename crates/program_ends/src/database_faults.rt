@@ -27,16 +27,15 @@ pub(crate) enum DatabaseFault {
     OtherName,
     /// The file may not be written.
     Unwritable(io::Error),
-    /// Another process has it open.
-    InUse,
     /// SQLite left a journal beside it.
     Journal,
     /// The file is no database of SQLite.
     NoDatabase,
     /// It has no table of cases, and could not be given one.
     NoTable,
-    /// What is left: what was to be kept was not, or what was asked for is no case.
-    NoRoom,
+    /// What is left, which is not told apart: another process has it open, what was to be kept was
+    /// not, or what was asked for is no case.
+    BusyOrFull,
 }
 
 /// How many bytes of a database are read, among which the table of cases is where it has one.
@@ -59,13 +58,13 @@ fn has_text(bytes: &[u8], text: &[u8]) -> bool {
 /// The fault that the first bytes of a file show.
 fn fault_of_bytes(bytes: &[u8]) -> DatabaseFault {
     if bytes.is_empty() {
-        DatabaseFault::NoRoom
+        DatabaseFault::BusyOrFull
     } else if !bytes.starts_with(MAGIC) {
         DatabaseFault::NoDatabase
     } else if !has_text(bytes, TABLE) {
         DatabaseFault::NoTable
     } else {
-        DatabaseFault::NoRoom
+        DatabaseFault::BusyOrFull
     }
 }
 
@@ -81,9 +80,6 @@ fn fault_in_bytes<N: Notes>(notes: &N, path: &str) -> io::Result<DatabaseFault> 
 fn fault_of_file<N: Notes>(notes: &N, path: &str) -> DatabaseFault {
     if let Err(error) = OpenOptions::new().read(true).write(true).open(notes, path) {
         return DatabaseFault::Unwritable(error);
-    }
-    if notes.is_in_use(path) {
-        return DatabaseFault::InUse;
     }
     if notes.has_journal(path) {
         return DatabaseFault::Journal;

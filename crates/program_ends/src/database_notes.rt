@@ -45,7 +45,6 @@ pub fn print_database_fault<N: Notes>(notes: &N, program: &str, path: &str, may_
         DatabaseFault::Unwritable(error) => {
             eprintln!(notes; "{program}: {path}: it may not be written: {error}")
         }
-        DatabaseFault::InUse => eprintln!(notes; "{program}: {path}: another process has it open"),
         DatabaseFault::Journal => {
             eprintln!(notes;
                 "{program}: {path}: {path}-journal is there: open it with sqlite3 first"
@@ -59,9 +58,9 @@ pub fn print_database_fault<N: Notes>(notes: &N, program: &str, path: &str, may_
                 "{program}: {path}: it is the database of another program, or its disk is full"
             )
         }
-        DatabaseFault::NoRoom => {
+        DatabaseFault::BusyOrFull => {
             eprintln!(notes;
-                "{program}: {path}: its disk is full, its folder may not be written, or a row of it is no case"
+                "{program}: {path}: another process has it open, its disk is full, its folder may not be written, or a row of it is no case"
             )
         }
     };
