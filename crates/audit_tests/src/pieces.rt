@@ -10,7 +10,18 @@ use crate::fix::messages::{
 use crate::staircase::{CERTIFICATE, STAIRCASE, TWO_TRADES};
 use std::test::Fail;
 
-const CSV_LOGS: [Row; 7] = [
+const CSV_LOGS: [Row; 8] = [
+    Row {
+        name: "an empty line between two orders",
+        words: "audit matching Z orders trades",
+        orders: &[
+            "\u{FEFF}kind,firm,id,time,symbol,side,quantity,price,target\r\n",
+            "N,A,b1,20240102-09:00:00,Z,B,100,10,\r\n\r\nN,B,s1,20240102-09:00:00,Z,S,100,9,",
+        ],
+        trades: &[TRADES, "T1,20240102-09:00:01,Z,A,b1,B,s1,100,9.5\n"],
+        status: 0,
+        report: "accepted,matching,Z\ntotals,2,1,100\n",
+    },
     Row {
         name: "a mark, CR LF line ends, an empty line, and no last line end",
         words: "audit matching Z orders trades",

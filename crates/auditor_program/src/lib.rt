@@ -16,7 +16,6 @@ ghost use Rattle.program_ends.specs.ProgramAnswers.{AnswersCommandLine, EndsAsAn
 ghost use Rattle.std.specs.Prelude.{map};
 ghost use Rattle.std.specs.String.{string_bytes};
 
-use audit_base::sizes::LONGEST_LOG;
 use audit_report::statuses::Status;
 use audit_run::running::run_seeded;
 use command_words::arguments::seed_of;
@@ -27,12 +26,13 @@ use log_source::shelf::Shelf;
 use log_source::sink::Sink;
 use log_source::std_sink::StdSink;
 use log_verdict::stops::NoRecords;
+use program_ends::asked::{Asked, ProgramName};
 use program_ends::command_line::{CommandLine, words_of};
 use program_ends::ends::{ProgramEnd, UsedEnds, exit_code, fresh_output, noted_files};
-use program_ends::log_notes::print_end;
+use program_ends::log_notes::{print_end, print_memory, prints_pipe_read_twice};
 use program_ends::noted_shelf::NotedShelf;
 use program_ends::notes::Notes;
-use program_ends::usage_notes::print_auditor_usage;
+use program_ends::usage_notes::print_usage;
 use std::io;
 use std::process::ExitCode;
 use std::random::RandomSource;
@@ -45,11 +45,15 @@ fn tell<N: Notes, F: Shelf>(
     shelf: &NotedShelf<F>,
     stop: &Option<NoRecords>,
 ) {
+    let asked = Asked {
+        program: ProgramName::Auditor,
+        words,
+    };
     if status == Status::Usage {
-        print_auditor_usage(notes, words);
-        return;
+        print_usage(notes, &asked);
+    } else if status != Status::Malformed || !prints_pipe_read_twice(notes, &asked, shelf) {
+        print_end(notes, &asked, status, shelf, stop);
     }
-    print_end(notes, "auditor", LONGEST_LOG as u64, status, shelf, stop);
 }
 
 /// Runs the command that these words ask for, with hashes of a random seed.
@@ -86,14 +90,7 @@ fn answer_words<R: CommandLine + AllocGlobal + RandomSource, F: Shelf, K: Sink, 
     match words_of(machine) {
         Ok(words) => run_words(machine, &words, shelf, out, notes),
         Err(_) => {
-            print_end(
-                notes,
-                "auditor",
-                LONGEST_LOG as u64,
-                Status::Memory,
-                shelf,
-                &None,
-            );
+            print_memory(notes, ProgramName::Auditor);
             Status::Memory
         }
     }

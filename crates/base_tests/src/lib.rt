@@ -3,7 +3,8 @@
 //! in a crate of their own, so that no crate that they try is proved once more with its tests. A test
 //! is proved as all code is, so one goes through many rows.
 //!
-//! `values` has names, numbers, prices and times, `bodies` bodies of FIX messages with their fields.
+//! `values` has names, numbers, prices and times, `bodies` bodies of FIX messages with their fields,
+//! and `tags` what is found and written in them.
 //! `taking` reads logs from shelves, `opening` reads them from the files in memory of `stored_files`,
 //! and `putting` writes to sinks. `seeds` has seeds of hashes, and `casebooks` files cases.
 #![tactic(auto)]
@@ -21,6 +22,8 @@ mod reports;
 #[cfg(test)]
 mod seeds;
 pub mod stored_files;
+#[cfg(test)]
+mod tags;
 #[cfg(test)]
 mod taking;
 #[cfg(test)]

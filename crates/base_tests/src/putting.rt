@@ -19,6 +19,15 @@ fn a_failed_write_leaves_the_writes_before_it(rt: HostRuntime) -> Result<(), Fai
     Ok(())
 }
 
+#[test]
+fn a_text_past_the_room_fails_when_the_room_is_full(rt: HostRuntime) -> Result<(), Fail> {
+    let mut sink = MemorySink::new(rt.alloc(), 34, 50, Vec::new(rt.alloc()))?;
+    assert!(rt; put_all(&mut sink, TEXT).is_err());
+    assert!(rt; Some(sink.bytes()) == TEXT.get(..34));
+    assert!(rt; put_all(&mut sink, b"").is_ok());
+    Ok(())
+}
+
 // A writer that takes nothing more is a fault.
 #[test]
 fn a_text_reaches_its_writer(rt: HostRuntime) {

@@ -56,6 +56,32 @@ fn a_failed_call_is_a_fault_of_the_log_that_is_taken(rt: HostRuntime) -> Result<
 }
 
 #[test]
+fn a_name_is_given_new_bytes_and_another_is_not_there(rt: HostRuntime) -> Result<(), Fail> {
+    let mut shelf = failing_shelf(rt.alloc(), 99)?;
+    shelf.put(
+        String::from_str(rt.alloc(), "orders")?,
+        Vec::from_slice(rt.alloc(), TRADES)?,
+    )?;
+    let log = take_log(rt.alloc(), &mut shelf, Which::Orders, "orders", LIMIT)?;
+    assert!(rt; log.as_slice() == TRADES);
+    let none = take_log(rt.alloc(), &mut shelf, Which::Orders, "order", LIMIT);
+    assert!(rt; none == Err(TakeFault::Fault));
+    Ok(())
+}
+
+#[test]
+fn a_log_is_taken_whole_at_every_piece(rt: HostRuntime) -> Result<(), Fail> {
+    for piece in 1..=126 {
+        let orders = Vec::from_slice(rt.alloc(), ORDERS)?;
+        let trades = Vec::from_slice(rt.alloc(), TRADES)?;
+        let mut shelf = QuietShelf::new(orders, trades, piece);
+        let log = take_log(rt.alloc(), &mut shelf, Which::Orders, "any", LIMIT)?;
+        assert!(rt; log.as_slice() == ORDERS, "piece {piece}");
+    }
+    Ok(())
+}
+
+#[test]
 fn a_log_without_end_is_too_long(rt: HostRuntime) {
     let mut shelf = EndlessShelf::new(b'8');
     let log = take_log(rt.alloc(), &mut shelf, Which::Trades, "any", LIMIT);

@@ -18,7 +18,7 @@ ghost use Rattle.program_ends.specs.ProgramAnswers.{AnswersCommandLine, EndsAsAn
 
 use crate::closing::{Closing, run_and_close};
 use crate::file_opener::FileOpener;
-use audit_base::sizes::LONGEST_LOG;
+use audit_report::statuses::Status;
 use case_run::statuses::CaseStatus;
 use command_words::arguments::seed_of;
 use log_source::file_shelf::FileShelf;
@@ -28,18 +28,47 @@ use log_source::shelf::Shelf;
 use log_source::sink::Sink;
 use log_source::std_sink::StdSink;
 use log_verdict::stops::NoRecords;
+use program_ends::asked::{Asked, ProgramName};
 use program_ends::command_line::{CommandLine, words_of};
 use program_ends::database_notes::{
     is_database_missing, print_database_fault, print_listed_symbols, print_made_database,
 };
 use program_ends::ends::{ProgramEnd, UsedEnds, fresh_output, noted_files};
-use program_ends::log_notes::print_stop;
+use program_ends::log_notes::{print_end, print_memory, prints_pipe_read_twice};
 use program_ends::noted_shelf::NotedShelf;
 use program_ends::notes::Notes;
-use program_ends::usage_notes::print_casebook_usage;
+use program_ends::usage_notes::print_usage;
 use std::io;
 use std::process::ExitCode;
 use std::random::RandomSource;
+
+/// The status that tells of logs, memory and output, where a run ended with one.
+fn status_of_logs(status: CaseStatus) -> Option<Status> {
+    match status {
+        CaseStatus::Malformed => Some(Status::Malformed),
+        CaseStatus::ReadFault => Some(Status::ReadFault),
+        CaseStatus::WriteFault => Some(Status::WriteFault),
+        CaseStatus::TooLong => Some(Status::TooLong),
+        CaseStatus::Memory => Some(Status::Memory),
+        CaseStatus::Done | CaseStatus::Refused | CaseStatus::Usage | CaseStatus::KeeperFault =>
+            None,
+    }
+}
+
+/// Says why a run ended with a status that tells of logs, memory or output, if it did.
+fn tell_of_logs<N: Notes, F: Shelf>(
+    notes: &N,
+    asked: &Asked<'_>,
+    status: CaseStatus,
+    shelf: &NotedShelf<F>,
+    stop: &Option<NoRecords>,
+) {
+    match status_of_logs(status) {
+        Some(Status::Malformed) if prints_pipe_read_twice(notes, asked, shelf) => {}
+        Some(status) => print_end(notes, asked, status, shelf, stop),
+        None => {}
+    }
+}
 
 /// Says on standard error why a run ended above 1, or of which symbol a list is that may be
 /// meant otherwise.
@@ -50,25 +79,19 @@ fn tell<N: Notes, F: Shelf>(
     shelf: &NotedShelf<F>,
     stop: &Option<NoRecords>,
 ) {
+    let asked = Asked {
+        program: ProgramName::Casebook,
+        words,
+    };
     match status {
-        CaseStatus::Usage => print_casebook_usage(notes, words),
+        CaseStatus::Usage => print_usage(notes, &asked),
         CaseStatus::KeeperFault => {
             if let Some(path) = words.first() {
-                print_database_fault(notes, "casebook", path.as_str());
-            }
-        }
-        CaseStatus::Memory => {
-            let _told = eprintln!(notes; "casebook: memory ran out");
-        }
-        CaseStatus::WriteFault => {
-            let _told = eprintln!(notes; "casebook: standard output could not be written");
-        }
-        CaseStatus::Malformed | CaseStatus::ReadFault | CaseStatus::TooLong => {
-            if let Some(stop) = stop {
-                print_stop(notes, "casebook", LONGEST_LOG as u64, shelf, stop);
+                print_database_fault(notes, "casebook", path.as_str(), true);
             }
         }
         CaseStatus::Done | CaseStatus::Refused => print_listed_symbols(notes, words),
+        _ => tell_of_logs(notes, &asked, status, shelf, stop),
     }
 }
 
@@ -124,7 +147,10 @@ fn answer_words<
 {
     match words_of(machine) {
         Ok(words) => run_words(machine, &words, shelf, out, opener, notes),
-        Err(_) => CaseStatus::Memory,
+        Err(_) => {
+            print_memory(notes, ProgramName::Casebook);
+            CaseStatus::Memory
+        }
     }
 }
 

@@ -1,5 +1,5 @@
 -- The sessions of the symbols of a share, and what is told of the symbols by them.
-use Rattle.std.specs.Prelude.{ℕ, Bool, List, take}
+use Rattle.std.specs.Prelude.{ℕ, Bool, List}
 use Rattle.audit_base.specs.declared.records.OrderRecord.{OrderRecord}
 use Rattle.audit_base.specs.declared.records.TradeRecord.{TradeRecord}
 use Rattle.day_logs.specs.DayAnswers.{DayMeaning}
@@ -37,17 +37,7 @@ pub record AreJudgedSessions (phases : List Phase) (table : Bool) (checks : Furt
   pub sessions_are : AreSessions phases table entries trades symbols sessions
   pub tells : TellsSymbols symbols (told_by_sessions checks entries trades symbols sessions) judged
 
--- What functions pass on: one symbol after another.
-
--- whatever records the day has, these are the counts and lines of the sessions of this many first
--- symbols of the share
-abbrev pub AreJudgedSessionsUpTo : List Phase → Bool → FurtherChecks → DayShare → DayRecords → ℕ
-    → JudgedSymbols → Type 0
-AreJudgedSessionsUpTo phases table checks share ended n judged =
-    (entries : List OrderRecord) (trades : List TradeRecord)
-    → HasTradesOf share admission.All entries ended trades
-    → AreJudgedSessions phases table checks entries trades
-    (take n (symbols_in share (symbols_of_day entries trades))) judged
+-- What functions pass on.
 
 -- whatever records the day has, these are the counts and lines of the sessions of the symbols of
 -- the share

@@ -7,4 +7,3 @@ pub mod answers;
 pub mod judged_sessions;
 pub mod laws;
 pub mod questions;
-mod symbol_sessions;

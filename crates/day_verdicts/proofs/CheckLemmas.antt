@@ -10,6 +10,7 @@ use Rattle.audit_base.specs.declared.records.OrderRecord.{OrderRecord}
 use Rattle.audit_base.specs.declared.records.TradeRecord.{TradeRecord}
 use Rattle.audit_base.specs.Histories.{order_list}
 use Rattle.audit_base.specs.Trades.{deal_of_trade, deals_of_symbol, trades_of_symbol}
+use Rattle.day_records.specs.KeptRecords.{times_if}
 use Rattle.further_checks.specs.declared.findings.FurtherChecks.{FurtherChecks}
 use Rattle.further_checks.specs.declared.findings.FurtherFinding.{FurtherFinding}
 use Rattle.further_checks.specs.FurtherRules.{asks_further, first_finding_of_symbol, further_findings, further_findings_of_symbol, times_of_symbol}
@@ -23,7 +24,7 @@ use Rattle.record_verdict.specs.BeforeRule.{IsBeforeRule, IsResolvedWithoutFindi
 use Rattle.record_verdict.specs.declared.verdicts.RecordVerdict.{RecordVerdict}
 use Rattle.record_verdict.specs.RecordVerdict.{as_verdict}
 use Rattle.record_verdict.specs.Stages.{IsVerdictAfterStages}
-use Rattle.day_verdicts.specs.CheckedSymbols.{after_checks, after_finding, after_given, asked_times, HasTimes, told_by_finding}
+use Rattle.day_verdicts.specs.CheckedSymbols.{after_checks, after_finding, after_given, HasTimes, told_by_finding}
 use Rattle.day_verdicts.specs.DayVerdicts.{is_acceptance}
 use Rattle.day_verdicts.specs.Laws.{UncheckedSymbols}
 use Rattle.day_verdicts.specs.SymbolAnswers.{SymbolAnswer}
@@ -62,12 +63,12 @@ unfolding deals_of_symbol
 same-count orders symbol trades = length-map (trades_of_symbol symbol trades) (λ e. e.1.time) ∙ sym (length-map (trades_of_symbol symbol trades) (deal_of_trade orders))
 
 -- the times that are asked for
-times-asked : (checks : FurtherChecks) (symbol : List ℕ) (trades : List TradeRecord) (times : List Moment) → times ≡ asked_times checks symbol trades → asks_further checks ≡ true → times ≡ times_of_symbol symbol trades
+times-asked : (checks : FurtherChecks) (symbol : List ℕ) (trades : List TradeRecord) (times : List Moment) → times ≡ times_if (asks_further checks) (trades_of_symbol symbol trades) → asks_further checks ≡ true → times ≡ times_of_symbol symbol trades
 times-asked checks symbol trades times times_are asked = times_are ∙ ap (λ (b : Bool). if b then times_of_symbol symbol trades else []) asked
 
 -- there is a time for each deal of what is given
 pub has-times : (checks : FurtherChecks) (scope : Scope) (entries : List OrderRecord) (trades : List TradeRecord) (given : BeforeRule) (times : List Moment) → IsBeforeRule scope entries (Ok trades) given
-    → times ≡ asked_times checks scope.symbol trades → HasTimes checks given times
+    → times ≡ times_if (asks_further checks) (trades_of_symbol scope.symbol trades) → HasTimes checks given times
 has-times checks scope entries trades (before_rule.Found finding) times is times_are = tt
 has-times checks scope entries trades (before_rule.Sound sound) times is times_are = λ asked.
     ap length (times-asked checks scope.symbol trades times times_are asked)
@@ -76,7 +77,7 @@ has-times checks scope entries trades (before_rule.Sound sound) times is times_a
 
 -- the findings of what is given are those of the symbol
 same-findings : NothingIsFoundUnasked → (checks : FurtherChecks) (scope : Scope) (entries : List OrderRecord) (trades : List TradeRecord) (sound : ResolvedTrades) (times : List Moment) → IsResolvedWithoutFinding scope entries (Ok trades) sound
-    → times ≡ asked_times checks scope.symbol trades
+    → times ≡ times_if (asks_further checks) (trades_of_symbol scope.symbol trades)
     → further_findings checks sound.history sound.deals.items times ≡ further_findings_of_symbol checks (order_list scope.symbol entries) scope.symbol trades
 same-findings none checks scope entries trades sound times is times_are = by-asked (asks_further checks) refl
   where
@@ -91,7 +92,7 @@ same-findings none checks scope entries trades sound times is times_are = by-ask
 -- what is told after the checks of what is given is what is told after those of its records, where a
 -- finding before the rule rejects
 pub told-after : NothingIsFoundUnasked → (checks : FurtherChecks) (scope : Scope) (entries : List OrderRecord) (trades : List TradeRecord) (given : BeforeRule) (times : List Moment) (told : SymbolAnswer)
-    → IsBeforeRule scope entries (Ok trades) given → times ≡ asked_times checks scope.symbol trades → ((finding : Finding) → given ≡ before_rule.Found finding → told.accepted ≡ false)
+    → IsBeforeRule scope entries (Ok trades) given → times ≡ times_if (asks_further checks) (trades_of_symbol scope.symbol trades) → ((finding : Finding) → given ≡ before_rule.Found finding → told.accepted ≡ false)
     → after_given checks given times told ≡ after_checks checks entries trades scope.symbol told
 told-after none checks scope entries trades (before_rule.Found finding) times told is times_are rejects =
     sym (rejected-stays (first_finding_of_symbol checks (order_list scope.symbol entries) scope.symbol trades) told (rejects finding refl))

@@ -1,6 +1,6 @@
 pub mod TellLemmas
 pub mod CheckLemmas
+mod WalkSteps
 pub mod VerdictSteps
-mod ListSteps
 pub mod OneDayLemmas
 pub mod ShareTellingLemmas

@@ -1,26 +1,21 @@
 -- What the shares of a day tell, where what is told of a symbol is one.
-use Rattle.std.proofs.Common.{◌≡◌, ◌<◌, ◌≤◌, ◌+◌, ◌-◌, ◌*◌, ◌%◌, ℕ, zero, suc, Bool, true, Option, Some, Ok, List, [], ◌∷◌, length, map, get_or, refl, sym, ap, subst, ◌∙◌, arith}
+use Rattle.std.proofs.Common.{◌≡◌, ◌<◌, ◌≤◌, ◌+◌, ◌-◌, ◌*◌, ◌%◌, ℕ, zero, suc, true, Some, Ok, List, [], ◌∷◌, length, map, get_or, refl, sym, ap, subst, ◌∙◌, arith}
 use Rattle.std.specs.Prelude.{option_map, slice_get}
 use Rattle.std.proofs.lemmas.Bool.{eq-eqb}
 use Rattle.std.proofs.lemmas.List.{length-map}
-use Rattle.std.proofs.lemmas.Option.{none-some, same_Some, slice_get-get_or, slice_get-map, slice_get_within}
-use Rattle.audit_base.specs.declared.records.OrderRecord.{OrderRecord}
-use Rattle.audit_base.specs.declared.records.TradeRecord.{TradeRecord}
-use Rattle.audit_base.specs.declared.terms.Rule.{Rule}
-use Rattle.audit_report.specs.declared.verdicts.Verdict.{Verdict}
+use Rattle.std.proofs.lemmas.Option.{same_Some, slice_get-get_or, slice_get-map, slice_get_within}
 use Rattle.day_symbols.specs.Kept.{AreForEach}
 use Rattle.day_symbols.specs.Laws.{SharesAreTheDay}
 use Rattle.day_symbols.specs.Shares.{DayShare, IsDayShare, index_in_share, indices_in, is_in_share, symbols_in, whole_day}
 use Rattle.day_symbols.specs.Symbols.{symbols_of_day}
 use Rattle.day_symbols.proofs.KeptLemmas.{symbol-at}
 use Rattle.day_symbols.proofs.PlaceLemmas.{index-at, place-at, place-is}
-use Rattle.day_verdicts.specs.DayVerdicts.{told_of_symbol, told_of_symbols}
+use Rattle.day_verdicts.specs.DayVerdicts.{told_of_symbol}
 use Rattle.day_verdicts.specs.Laws.{IsJudgedShareOf, SharesOfRuleAreTheDay}
 use Rattle.day_verdicts.specs.ShareTelling.{IsToldInOneShare, SharesTellTheDay, nothing_told, told_in}
 use Rattle.day_verdicts.specs.SymbolAnswers.{SymbolAnswer, TellsSymbols, tell_each}
 use Rattle.day_verdicts.specs.declared.judging.JudgedSymbols.{JudgedSymbols}
 use Rattle.day_verdicts.proofs.OneDayLemmas.{same-members}
-use Rattle.further_checks.specs.declared.findings.FurtherChecks.{FurtherChecks}
 use Rattle.record_verdict.specs.Laws.{RecordVerdictIsOne}
 use Rattle.record_verdict.specs.RecordVerdicts.{question}
 

@@ -46,7 +46,7 @@ counts-more told one = λ i. record {
 
 module _ {S : Type 0} (tell : List ℕ → S → SymbolAnswer) where
   -- as many symbols are told of as there are
-  pub tell-length : (symbols : List (List ℕ)) (said : List S) → length said ≡ length symbols → length (tell_each tell symbols said) ≡ length symbols
+  tell-length : (symbols : List (List ℕ)) (said : List S) → length said ≡ length symbols → length (tell_each tell symbols said) ≡ length symbols
   tell-length [] said same = refl
   tell-length (s ∷ ss) [] same = absurd (omega (arith, same))
   tell-length (s ∷ ss) (x ∷ xs) same = let rest : length xs ≡ length ss = omega (arith, same) in ap suc (tell-length ss xs rest)
@@ -72,14 +72,16 @@ module _ {S : Type 0} (tell : List ℕ → S → SymbolAnswer) where
         lines_are = adds.lines_are ∙ ap (λ (text : List ℕ). text ++ symbol_lines symbol told.text) tells.lines_are ∙ sym (lines-more symbols before symbol told (tell-length symbols said same));
       })
 
--- there is room to count one symbol more
-pub room-for-one : (symbols : List (List ℕ)) (told : List SymbolAnswer) (judged : JudgedSymbols) → TellsSymbols symbols told judged → length told < 2 ^ 64 - 1 → HasRoomForOne judged.counts
-room-for-one symbols told judged tells few =
-    let symbols_are : judged.counts.symbols ≡ length told = ap (λ (counts : DayCounts). counts.symbols) tells.counts_are in
-    let accepted_are : judged.counts.accepted ≡ count_by (λ (t : SymbolAnswer). t.accepted) told = ap (λ (counts : DayCounts). counts.accepted) tells.counts_are in
-    let rejected_are : judged.counts.rejected ≡ count_by (λ (t : SymbolAnswer). not t.accepted) told = ap (λ (counts : DayCounts). counts.rejected) tells.counts_are in
-    record {
-      symbols_few = omega (arith, symbols_are, few);
-      accepted_few = omega (arith, symbols_are, accepted_are, count_by-le-length (λ (t : SymbolAnswer). t.accepted) told);
-      rejected_few = omega (arith, symbols_are, rejected_are, count_by-le-length (λ (t : SymbolAnswer). not t.accepted) told);
-    }
+  -- there is room to count one symbol more
+  pub room-for-one : (symbols : List (List ℕ)) (said : List S) (judged : JudgedSymbols) → length said ≡ length symbols → TellsSymbols symbols (tell_each tell symbols said) judged → length symbols < 2 ^ 64 - 1 → HasRoomForOne judged.counts
+  room-for-one symbols said judged same tells few =
+      let told : List SymbolAnswer = tell_each tell symbols said in
+      let symbols_are : judged.counts.symbols ≡ length symbols = ap (λ (counts : DayCounts). counts.symbols) tells.counts_are ∙ tell-length symbols said same in
+      let accepted_are : judged.counts.accepted ≡ count_by (λ (t : SymbolAnswer). t.accepted) told = ap (λ (counts : DayCounts). counts.accepted) tells.counts_are in
+      let rejected_are : judged.counts.rejected ≡ count_by (λ (t : SymbolAnswer). not t.accepted) told = ap (λ (counts : DayCounts). counts.rejected) tells.counts_are in
+      let size : length told ≡ length symbols = tell-length symbols said same in
+      record {
+        symbols_few = omega (arith, symbols_are, few);
+        accepted_few = omega (arith, symbols_are, accepted_are, size, count_by-le-length (λ (t : SymbolAnswer). t.accepted) told);
+        rejected_few = omega (arith, symbols_are, rejected_are, size, count_by-le-length (λ (t : SymbolAnswer). not t.accepted) told);
+      }

@@ -1,15 +1,13 @@
 -- What is told of a symbol once the further checks that are asked for have been looked at: where
 -- its rule accepts it, the first finding of these rejects it.
-use Rattle.std.specs.Prelude.{◌≡◌, [], ℕ, true, false, List, Option, None, Some, length, slice_get, if◌then◌else◌}
+use Rattle.std.specs.Prelude.{◌≡◌, ℕ, true, false, List, Option, None, Some, length, slice_get, if◌then◌else◌}
 use Rattle.audit_base.specs.Moments.{Moment}
 use Rattle.audit_base.specs.declared.records.OrderRecord.{OrderRecord}
 use Rattle.audit_base.specs.declared.records.TradeRecord.{TradeRecord}
 use Rattle.audit_base.specs.Histories.{order_list}
-use Rattle.day_records.specs.declared.symbol_during_trades.SymbolDuringTrades.{SymbolDuringTrades}
-use Rattle.day_records.specs.SymbolDuringTrades.{HasFewOfSymbol}
 use Rattle.further_checks.specs.declared.findings.FurtherChecks.{FurtherChecks}
 use Rattle.further_checks.specs.declared.findings.FurtherFinding.{FurtherFinding}
-use Rattle.further_checks.specs.FurtherRules.{asks_further, first_finding_of_symbol, further_findings, times_of_symbol}
+use Rattle.further_checks.specs.FurtherRules.{asks_further, first_finding_of_symbol, further_findings}
 use Rattle.further_checks.specs.FurtherTexts.{further_text}
 use Rattle.record_verdict.specs.declared.before_rule.BeforeRule.{BeforeRule}
 use Rattle.record_verdict.specs.declared.before_rule.BeforeRule.TheVariants as before_rule
@@ -39,20 +37,8 @@ after_given checks (before_rule.Found finding) times told = told
 after_given checks (before_rule.Sound sound) times told =
     after_finding (slice_get (further_findings checks sound.history sound.deals.items times) 0) told
 
--- the times of the trades of a symbol, where a further check is asked for
-abbrev pub asked_times : FurtherChecks → List ℕ → List TradeRecord → List Moment
-asked_times checks symbol trades =
-    if asks_further checks then times_of_symbol symbol trades else []
-
 -- where a further check is asked for, there is a time for each deal
 abbrev pub HasTimes : FurtherChecks → BeforeRule → List Moment → Type 0
 HasTimes checks (before_rule.Found finding) times = Unit {0}
 HasTimes checks (before_rule.Sound sound) times =
     asks_further checks ≡ true → length times ≡ length sound.deals.items
-
--- This is known of a symbol after this many trades, which are fewer than there are places; and
--- these are the times of its own, where a further check is asked for.
-pub record HasFewTimed (checks : FurtherChecks) (count : ℕ) (symbol_trades : SymbolDuringTrades)
-    (times : List Moment) : Type 0 where
-  pub few : HasFewOfSymbol count symbol_trades
-  pub times_are : times ≡ asked_times checks few.symbol few.trades

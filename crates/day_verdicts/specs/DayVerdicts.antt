@@ -1,5 +1,5 @@
 -- The verdicts on the symbols of a day, and its text.
-use Rattle.std.specs.Prelude.{◌≡◌, ◌<◌, ◌≤◌, ◌-◌, ◌^◌, ℕ, Bool, true, false, List, Ok, length, take}
+use Rattle.std.specs.Prelude.{◌≡◌, ◌<◌, ◌≤◌, ◌-◌, ◌^◌, ℕ, Bool, true, false, List, Ok}
 use Rattle.audit_base.specs.Moments.{Moment}
 use Rattle.audit_base.specs.declared.records.OrderRecord.{OrderRecord}
 use Rattle.audit_base.specs.declared.records.TradeRecord.{TradeRecord}
@@ -12,13 +12,12 @@ use Rattle.day_symbols.specs.Kept.{AreForEach}
 use Rattle.day_symbols.specs.Shares.{DayShare, symbols_in}
 use Rattle.day_symbols.specs.Symbols.{symbols_of_day}
 use Rattle.day_records.specs.declared.day_trades.DayRecords.{DayRecords}
-use Rattle.day_records.specs.declared.symbol_during_trades.SymbolDuringTrades.{SymbolDuringTrades}
 use Rattle.day_records.specs.DayTrades.{HasTradesOf}
-use Rattle.day_records.specs.SymbolDuringTrades.{IsSymbolDuringTrades}
 use Rattle.day_verdicts.specs.declared.judging.JudgedSymbols.{JudgedSymbols}
 use Rattle.day_verdicts.specs.declared.symbol_reports.SymbolReport.{SymbolReport}
-use Rattle.day_verdicts.specs.CheckedSymbols.{after_checks, after_given, asked_times}
-use Rattle.day_verdicts.specs.SymbolAnswers.{AddsTold, SymbolAnswer, TellsSymbols, tell_each, told_by}
+use Rattle.day_verdicts.specs.CheckedSymbols.{after_checks, after_given}
+use Rattle.day_verdicts.specs.SymbolWalks.{TradesFitPlaces}
+use Rattle.day_verdicts.specs.SymbolAnswers.{SymbolAnswer, TellsSymbols, tell_each, told_by}
 use Rattle.further_checks.specs.declared.findings.FurtherChecks.{FurtherChecks}
 use Rattle.record_verdict.specs.declared.before_rule.BeforeRule.{BeforeRule}
 use Rattle.record_verdict.specs.declared.questions.Question.{Question}
@@ -70,30 +69,11 @@ pub record IsJudgedDay (rule : Rule) (table : Bool) (checks : FurtherChecks)
 
 -- What functions pass on: one symbol after another.
 
--- of whatever records this is known of the symbol, this is the verdict on them that the question
--- asks for
-abbrev pub IsVerdictOnSymbol : Question → ℕ → SymbolDuringTrades → Verdict → Type 0
-IsVerdictOnSymbol q count symbol_trades the_verdict =
-    (entries : List OrderRecord) (trades : List TradeRecord)
-    → IsSymbolDuringTrades (admission_of q.rule) entries trades q.symbol symbol_trades
-    → count ≡ length trades
-    → IsRecordVerdict q entries (Ok trades) the_verdict
-
 -- one symbol more can be counted
 pub record HasRoomForOne (counts : DayCounts) : Type 0 where
   pub symbols_few : counts.symbols < 2 ^ 64 - 1
   pub accepted_few : counts.accepted ≤ counts.symbols
   pub rejected_few : counts.rejected ≤ counts.symbols
-
--- of whatever records this is known of the symbol, this is told of it by the verdict, and then by
--- the checks, with these times of its trades
-abbrev pub IsToldOfSymbol : Question → FurtherChecks → ℕ → SymbolDuringTrades → List Moment
-    → Verdict → SymbolAnswer → Type 0
-IsToldOfSymbol q checks count symbol_trades times the_verdict told =
-    (entries : List OrderRecord) (trades : List TradeRecord)
-    → IsSymbolDuringTrades (admission_of q.rule) entries trades q.symbol symbol_trades
-    → count ≡ length trades → times ≡ asked_times checks q.symbol trades
-    → told ≡ told_of_symbol checks entries trades q.symbol the_verdict
 
 -- This is told of what was given by the verdict on it, and then by the checks.
 pub record TellsVerdict (q : Question) (checks : FurtherChecks) (given : BeforeRule)
@@ -101,27 +81,6 @@ pub record TellsVerdict (q : Question) (checks : FurtherChecks) (given : BeforeR
   pub one : RecordVerdict
   pub is : IsVerdictAfterStages q given one
   pub told_is : told_by report ≡ after_given checks given times (told_by_verdict (as_verdict one))
-
--- What the verdict that the question asks for, and then the checks tell of the symbol is counted
--- and written.
-pub record AddsVerdictOnSymbol (q : Question) (checks : FurtherChecks) (count : ℕ)
-    (symbol_trades : SymbolDuringTrades) (times : List Moment) (old new : JudgedSymbols)
-    : Type 0 where
-  pub one : Verdict
-  pub is : IsVerdictOnSymbol q count symbol_trades one
-  pub told : SymbolAnswer
-  pub told_is : IsToldOfSymbol q checks count symbol_trades times one told
-  pub adds : AddsTold old new q.symbol told
-
--- whatever records the day has, these are the counts and lines of the verdicts on this many first
--- symbols of the share
-abbrev pub IsJudgedUpTo : Rule → Bool → FurtherChecks → DayShare → DayRecords → ℕ
-    → JudgedSymbols → Type 0
-IsJudgedUpTo rule table checks share ended n judged =
-    (entries : List OrderRecord) (trades : List TradeRecord)
-    → HasTradesOf share (admission_of rule) entries ended trades
-    → IsJudgedDay rule table checks entries trades
-    (take n (symbols_in share (symbols_of_day entries trades))) judged
 
 -- whatever records the day has, these are the counts and lines of the verdicts on the symbols of
 -- the share
@@ -133,9 +92,6 @@ IsJudgedShare rule table checks share ended judged =
     → IsJudgedDay rule table checks entries trades
     (symbols_in share (symbols_of_day entries trades)) judged
 
--- the day has some records, of trades fewer than there are places
-pub record RuleTradesFitPlaces (rule : Rule) (share : DayShare) (ended : DayRecords) : Type 0 where
-  pub entries : List OrderRecord
-  pub trades : List TradeRecord
-  pub has : HasTradesOf share (admission_of rule) entries ended trades
-  pub fits_places : length trades < 2 ^ 32 - 1
+-- the day has some records by which the rule judges it, of trades fewer than there are places
+abbrev pub RuleTradesFitPlaces : Rule → DayShare → DayRecords → Type 0
+RuleTradesFitPlaces rule share ended = TradesFitPlaces share (admission_of rule) ended

@@ -6,3 +6,5 @@ pub mod DayVerdicts
 pub mod VerdictLists
 pub mod ShareTelling
 pub mod Laws
+-- What functions pass on to one another.
+pub mod SymbolWalks

@@ -1,5 +1,5 @@
 -- What is handed the verdicts on the symbols of a day.
-use Rattle.std.specs.Prelude.{ℕ, false, List, [], ◌∷◌, ◌++◌, take}
+use Rattle.std.specs.Prelude.{ℕ, false, List, [], ◌∷◌, ◌++◌}
 use Rattle.audit_base.specs.declared.records.OrderRecord.{OrderRecord}
 use Rattle.audit_base.specs.declared.records.TradeRecord.{TradeRecord}
 use Rattle.audit_base.specs.declared.terms.Rule.{Rule}
@@ -24,16 +24,6 @@ pub record HasTakenVerdicts {L : Type 0} (has_taken : L → List (List ℕ) → 
   pub verdicts : List Verdict
   pub verdicts_are : AreVerdicts rule false entries trades symbols verdicts
   pub has : has_taken handed symbols verdicts
-
--- whatever records the day has, the list has been handed the verdicts on this many first symbols
--- of the share
-abbrev pub HasTakenUpTo : {L : Type 0} → (L → List (List ℕ) → List Verdict → Type 0) → Rule
-    → DayShare → DayRecords → ℕ → L → Type 0
-HasTakenUpTo has_taken rule share ended n handed =
-    (entries : List OrderRecord) (trades : List TradeRecord)
-    → HasTradesOf share (admission_of rule) entries ended trades
-    → HasTakenVerdicts has_taken rule entries trades
-    (take n (symbols_in share (symbols_of_day entries trades))) handed
 
 -- whatever records the day has, the list has been handed the verdicts on the symbols of the share
 abbrev pub HasTakenShare : {L : Type 0} → (L → List (List ℕ) → List Verdict → Type 0) → Rule

@@ -1,14 +1,14 @@
-//! The verdict on each symbol of a share, one symbol after another.
+//! What is told of the symbols of a share by a rule, and by the further checks behind it.
 ghost use Rattle.std.specs.Prelude.{◌≡◌, ◌++◌, IfOk, OnOk};
 ghost use Rattle.audit_report.specs.DayTexts.{day_line};
-ghost use Rattle.day_records.specs.SymbolDuringTrades.{HasFewOfSymbol};
 ghost use Rattle.record_verdict.specs.BeforeRule.{IsJudgeable};
-ghost use Rattle.record_verdict.specs.RecordVerdict.{as_verdict, IsJudgedInRange};
-ghost use Rattle.day_verdicts.specs.CheckedSymbols.{HasFewTimed, HasTimes};
+ghost use Rattle.record_verdict.specs.RecordVerdict.{as_verdict};
+ghost use Rattle.day_verdicts.specs.CheckedSymbols.{HasTimes};
 ghost use Rattle.day_verdicts.specs.DayVerdicts as day;
 ghost use Rattle.day_verdicts.specs.SymbolAnswers.{told_by, with_one, AddsTold, IsNothingTold};
 
 use crate::symbol_reports::{SymbolReport, report_after};
+use crate::symbol_walk::{SymbolJudge, judge_each};
 use audit_base::faults::NoMemory;
 use audit_base::names::Name;
 use audit_base::stamps::Stamp;
@@ -17,7 +17,6 @@ use audit_report::day_line::{DayCounts, append_day_line};
 use audit_report::reports::report_text;
 use audit_report::symbol_lines::append_symbol_lines;
 use day_records::day_trades::DayRecords;
-use day_records::symbol_during_trades::SymbolDuringTrades;
 use day_symbols::shares::DayShare;
 use further_checks::findings::FurtherChecks;
 use further_checks::laws::nothing_is_found_unasked;
@@ -25,22 +24,6 @@ use record_verdict::before_rule::BeforeRule;
 use record_verdict::questions::Question;
 use record_verdict::verdicts::{RecordVerdict, verdict_after};
 use std::alloc::Global;
-
-/// The verdict on a symbol of a day, by what is known of it, whose memory is freed.
-pub(crate) fn verdict_of(
-    alloc: Global,
-    question: &Question,
-    symbol_trades: SymbolDuringTrades,
-    count: u32,
-) -> Result<RecordVerdict, NoMemory>
-    requires { HasFewOfSymbol count symbol_trades }
-    ensures judged { IfOk result (λ judged.
-        day.IsVerdictOnSymbol question.now count symbol_trades (as_verdict judged)) }
-    ensures in_range { IfOk result IsJudgedInRange }
-{
-    let given = symbol_trades.end(count);
-    verdict_after(alloc, question, &given)
-}
 
 /// Whether a verdict is that the records are accepted.
 fn is_acceptance(judged: &RecordVerdict) -> bool
@@ -68,16 +51,6 @@ fn report_of(
     let accepted = is_acceptance(&judged);
     let text = report_text(alloc, &judged.into_verdict())?;
     report_after(alloc, checks, given, times, SymbolReport { accepted, text })
-}
-
-/// What is known of a symbol after all trades of a day.
-#[derive(Drop)]
-pub struct TradesWithTimes {
-    pub symbol_trades: SymbolDuringTrades,
-    /// How many trades the day has, of all symbols.
-    pub count: u32,
-    /// The times of the trades of the symbol, where a further check is asked for.
-    pub times: Vec<Stamp>,
 }
 
 /// What was told of the symbols so far: how many there were, and their lines.
@@ -124,30 +97,6 @@ impl JudgedSymbols {
         append_symbol_lines(symbol, &report.text, &mut self.lines)
     }
 
-    /// Judges one symbol more, of which this is known.
-    fn judge(
-        &mut self,
-        alloc: Global,
-        question: &Question,
-        checks: FurtherChecks,
-        timed: TradesWithTimes,
-    ) -> Result<(), NoMemory>
-        requires few { HasFewTimed checks timed.count timed.symbol_trades timed.times.items }
-        requires room { day.HasRoomForOne self.old.counts }
-        ensures { OnOk result (day.AddsVerdictOnSymbol question.now checks timed.count
-            timed.symbol_trades timed.times.items self.old self.new) }
-    {
-        nothing_is_found_unasked();
-        let TradesWithTimes {
-            symbol_trades,
-            count,
-            times,
-        } = timed;
-        let given = symbol_trades.end(count);
-        let report = report_of(alloc, question, checks, &given, &times)?;
-        self.add(&question.symbol, &report)
-    }
-
     /// The text of the day: the line that counts its symbols, with what they were judged by, and
     /// their lines.
     pub fn text(&self, alloc: Global, question_text: &[u8]) -> Result<Vec<u8>, NoMemory>
@@ -158,6 +107,49 @@ impl JudgedSymbols {
         append_day_line(alloc, self.counts, question_text, &mut text)?;
         text.extend_from_slice(&self.lines)?;
         Ok(text)
+    }
+}
+
+/// A rule as the judge of the symbols of a day, with the checks behind it that are asked for.
+/// `table` asks for the tables of accepted symbols.
+#[derive(Clone, Copy)]
+struct RuleWithChecks {
+    rule: Rule,
+    table: bool,
+    checks: FurtherChecks,
+}
+
+impl SymbolJudge<JudgedSymbols> for RuleWithChecks {
+    ghost use Rattle.further_checks.specs.FurtherRules.{asks_further};
+    ghost use Rattle.record_verdict.specs.Scopes.{admission_of};
+
+    ghost admission = { λ judge. admission_of judge.rule };
+
+    ghost asks_times = { λ judge. asks_further judge.checks };
+
+    ghost has_judged = { λ judge _ judged entries trades symbols.
+        day.IsJudgedDay judge.rule judge.table judge.checks entries trades symbols judged };
+
+    fn asks_times(&self) -> bool {
+        self.checks.any()
+    }
+
+    fn judge(
+        &self,
+        alloc: Global,
+        symbol: &Name,
+        given: &BeforeRule,
+        times: &[Stamp],
+        judged: &mut JudgedSymbols,
+    ) -> Result<(), NoMemory> {
+        nothing_is_found_unasked();
+        let question = Question {
+            rule: self.rule,
+            symbol: *symbol,
+            table: self.table,
+        };
+        let report = report_of(alloc, &question, self.checks, given, times)?;
+        judged.add(symbol, &report)
     }
 }
 
@@ -177,33 +169,10 @@ pub fn judge_day(
     requires { day.RuleTradesFitPlaces rule share ended }
     ensures { IfOk result (day.IsJudgedShare rule table checks share ended) }
 {
-    let DayRecords {
-        symbols,
-        kept,
-        count,
-        seed,
-        admission,
-    } = ended;
-    let mut judged = JudgedSymbols::none(alloc);
-    let mut share_index: usize = 0;
-    for symbol_records in kept {
-        let Some(symbol) = share.symbol_at(&symbols, share_index) else {
-            unreachable!();
-        };
-        let times = symbol_records.trade_times(alloc, checks.any())?;
-        let symbol_trades = symbol_records.resolve(alloc, seed, admission)?;
-        let question = Question {
-            rule,
-            symbol: *symbol,
-            table,
-        };
-        let timed = TradesWithTimes {
-            symbol_trades,
-            count,
-            times,
-        };
-        judged.judge(alloc, &question, checks, timed)?;
-        share_index += 1;
-    }
-    Ok(judged)
+    let judge = RuleWithChecks {
+        rule,
+        table,
+        checks,
+    };
+    judge_each(alloc, &judge, share, ended, JudgedSymbols::none(alloc))
 }

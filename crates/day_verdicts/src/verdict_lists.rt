@@ -1,18 +1,21 @@
 //! The verdict on each symbol of a share, handed on one after another.
-ghost use Rattle.std.specs.Prelude.{[], ℕ, List, IfOk, OnOk};
+ghost use Rattle.std.specs.Prelude.{[], ℕ, false, List, IfOk, OnOk};
 ghost use Rattle.audit_report.specs.declared.verdicts.Verdict.{Verdict as VerdictSpec};
 ghost use Rattle.day_verdicts.specs.DayVerdicts.{RuleTradesFitPlaces};
-ghost use Rattle.day_verdicts.specs.VerdictLists.{HasTakenShare, TakesVerdict};
+ghost use Rattle.day_verdicts.specs.VerdictLists.{HasTakenShare, HasTakenVerdicts, TakesVerdict};
 ghost use Rattle.record_verdict.specs.RecordVerdict.{as_verdict};
+ghost use Rattle.record_verdict.specs.Scopes.{admission_of};
 
-use crate::judging::verdict_of;
+use crate::symbol_walk::{SymbolJudge, judge_each};
 use audit_base::faults::NoMemory;
 use audit_base::names::Name;
+use audit_base::stamps::Stamp;
 use audit_base::terms::Rule;
 use day_records::day_trades::DayRecords;
 use day_symbols::shares::DayShare;
+use record_verdict::before_rule::BeforeRule;
 use record_verdict::questions::Question;
-use record_verdict::verdicts::RecordVerdict;
+use record_verdict::verdicts::{RecordVerdict, verdict_after};
 use std::alloc::Global;
 
 /// What is handed the verdicts on symbols in their order, one by one, and keeps what it needs of
@@ -29,6 +32,37 @@ pub trait VerdictList: Drop {
             (has_taken first self.new) symbol.now (as_verdict judged.now)) };
 }
 
+/// A rule judges the symbols of a day for a list, without tables.
+impl<L: VerdictList> SymbolJudge<L> for Rule {
+    ghost admission = { admission_of };
+
+    ghost asks_times = { λ _. false };
+
+    ghost has_judged = { λ rule first list entries trades symbols.
+        HasTakenVerdicts (L.has_taken first) rule entries trades symbols list };
+
+    fn asks_times(&self) -> bool {
+        false
+    }
+
+    fn judge(
+        &self,
+        alloc: Global,
+        symbol: &Name,
+        given: &BeforeRule,
+        _times: &[Stamp],
+        list: &mut L,
+    ) -> Result<(), NoMemory> {
+        let question = Question {
+            rule: *self,
+            symbol: *symbol,
+            table: false,
+        };
+        let judged = verdict_after(alloc, &question, given)?;
+        list.take(symbol, &judged)
+    }
+}
+
 /// Hands the verdicts of a rule on the symbols of a share to a list, in their order, without
 /// tables. The orders and deals of a symbol are made when it is judged, and its memory is freed
 /// before the next is judged.
@@ -43,28 +77,5 @@ pub fn hand_verdicts<L: VerdictList>(
     requires fresh { L.has_taken list list [] [] }
     ensures { IfOk result (HasTakenShare (L.has_taken list) rule share ended) }
 {
-    let DayRecords {
-        symbols,
-        kept,
-        count,
-        seed,
-        admission,
-    } = ended;
-    let mut handed = list;
-    let mut share_index: usize = 0;
-    for symbol_records in kept {
-        let Some(symbol) = share.symbol_at(&symbols, share_index) else {
-            unreachable!();
-        };
-        let symbol_trades = symbol_records.resolve(alloc, seed, admission)?;
-        let question = Question {
-            rule,
-            symbol: *symbol,
-            table: false,
-        };
-        let judged = verdict_of(alloc, &question, symbol_trades, count)?;
-        handed.take(symbol, &judged)?;
-        share_index += 1;
-    }
-    Ok(handed)
+    judge_each(alloc, &rule, share, ended, list)
 }

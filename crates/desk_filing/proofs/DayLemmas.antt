@@ -37,7 +37,7 @@ use Rattle.desk_filing.specs.declared.requests.FilingCommand.TheVariants as comm
 use Rattle.desk_filing.specs.declared.requests.FilingRequest.{FilingRequest}
 use Rattle.desk_filing.proofs.LogLemmas.{logs_of_records, reads_either, reads_of_records, stops_reading, turn_of_records}
 use Rattle.desk_filing.proofs.WritingLemmas.{ends_stopped}
-use Rattle.desk_filing.proofs.JudgeLemmas.{refuses}
+use Rattle.desk_filing.proofs.JudgeLemmas.{refuses_bad}
 use Rattle.log_digests.specs.Digests.{digest_of}
 use Rattle.log_source.specs.declared.shelf.Shelf.{Ghosts as Shelf}
 use Rattle.log_verdict.specs.Steps.{KeepsShelfLogs, Reading, reading_by}
@@ -146,20 +146,6 @@ module _ (r : Reading) (request : FilingRequest) (orders trades : Source) (names
       (λ place. absurd place.holds)
       (either (before_rule.Unpaired finding) reads)
 
-  -- a log is not in its grammar
-  judges_bad : (log : Which) (bad : BadPlace) (answer : CaseAnswer) → TellsBadPlace (verdict.Malformed log bad) answer
-      → ReadsLogs r orders trades (λ entries paired. ⊥) (λ which place. (which ≡ log) × (place ≡ bad)) → ReadsRefusal r request answer
-  judges_bad log bad answer tells_bad reads = ⊎_elim
-      (λ records. absurd records.holds)
-      (λ place. refuses r request (verdict.Malformed log bad) answer tells_bad (record {
-        log = place.log;
-        bad = place.bad;
-        holds = ap₂ {C = Verdict} (λ l b. verdict.Malformed l b) (sym place.holds.0) (sym place.holds.1);
-        read = place.read;
-        turn = place.turn;
-      }))
-      (reads_either r request.logs orders trades names (λ entries paired. ⊥) (λ which place. (which ≡ log) × (place ≡ bad)) reads)
-
   -- what the logs come to
   pub judges_given : (given : DayBeforeRule) (digests : LogDigests) → AreDigestsOfGiven r digests → (made : FilingOutcome) → JudgesGiven request.label the_rule digests given made → AreRead given
       → ReadsJudged r request made
@@ -170,7 +156,7 @@ module _ (r : Reading) (request : FilingRequest) (orders trades : Source) (names
   -- the same of logs that were not read into records
   pub judges_without : (why : NoRecords) (result : Result FilingOutcome Halt) → JudgesWithout why result → IsUnreadOfTwoLogs r orders trades why → JudgesLogs r request result
   judges_without (norecords.Malformed log bad) (Ok (judged.Cases cases)) judges is = absurd judges
-  judges_without (norecords.Malformed log bad) (Ok (judged.Refused answer)) judges is = judges_bad log bad answer judges is
+  judges_without (norecords.Malformed log bad) (Ok (judged.Refused answer)) judges is = refuses_bad r request orders trades names log bad answer judges is
   judges_without (norecords.Malformed log bad) (Err why) judges is = rw judges (stops_reading r request.logs orders trades names request refl stop.Memory tt)
   judges_without (norecords.Stopped why) result judges is = rw judges (stops_reading r request.logs orders trades names request refl why is)
 

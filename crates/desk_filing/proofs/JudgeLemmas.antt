@@ -1,5 +1,5 @@
 -- What a verdict on two logs that were read comes to.
-use Rattle.std.proofs.Common.{◌≡◌, ◌∙◌, sym, ap, subst, refl, inl, inr, ◌⊎◌, ⊎_elim, ℕ, Bool, false, List, Option, None, Some, Result}
+use Rattle.std.proofs.Common.{◌≡◌, ◌∙◌, sym, ap, ap₂, subst, refl, inl, inr, ◌⊎◌, ⊎_elim, ℕ, Bool, false, List, Option, None, Some, Result}
 use Rattle.std.specs.Prelude.{option_map}
 use Rattle.std.proofs.lemmas.Option.{same_Some}
 use Rattle.audit_base.specs.declared.faults.BadPlace.{BadPlace}
@@ -25,8 +25,8 @@ use Rattle.desk_filing.specs.DigestedVerdicts.{AreDigestsOfGiven}
 use Rattle.desk_filing.specs.declared.digested_verdicts.DigestedVerdict.{DigestedVerdict}
 use Rattle.desk_filing.specs.Causes.{ReadsDigestedLogs, ReadsGoodLogs, ReadsLogsFor}
 use Rattle.desk_filing.specs.Lines.{comparison_line}
-use Rattle.desk_filing.specs.Judging.{IsComparedVerdict, IsJudgedVerdict, IsRefusalIn, TellsBadPlace}
-use Rattle.desk_filing.specs.Steps.{AnyRecords, LooksAtLogs, NamesLogs, ReadsBadPlace, ReadsJudged, ReadsRecords, ReadsRefusal, TellsOfKept}
+use Rattle.desk_filing.specs.Judging.{IsComparedVerdict, IsJudgedVerdict, TellsBadPlace}
+use Rattle.desk_filing.specs.Steps.{NamesLogs, ReadsBadPlace, ReadsJudged, ReadsRecords, ReadsRefusal, TellsOfKept}
 use Rattle.desk_filing.specs.Turns.{ChecksCase, FilingTurn, IsTurnOfLogs, IsTurnOfRecords, comparison_status, filed_turn, unfiled_turn}
 use Rattle.case_run.specs.declared.answers.CaseAnswer.{CaseAnswer}
 use Rattle.desk_filing.specs.declared.answers.FilingOutcome.{FilingOutcome}
@@ -37,7 +37,7 @@ use Rattle.desk_filing.specs.declared.requests.FilingCommand.TheVariants as comm
 use Rattle.desk_filing.specs.declared.requests.FilingRequest.{FilingRequest}
 use Rattle.desk_filing.proofs.LogLemmas.{logs_of_records, reads_either, reads_of_records, turn_of_records}
 use Rattle.log_digests.specs.Digests.{digest_of}
-use Rattle.log_verdict.specs.BothLogs.{ReadsVerdict}
+use Rattle.log_verdict.specs.BothLogs.{ReadsLogs, ReadsVerdict}
 use Rattle.log_verdict.specs.Steps.{Reading}
 use Rattle.log_verdict.specs.declared.sources.Source.{Source}
 use Rattle.record_verdict.specs.declared.questions.Question.{Question}
@@ -73,6 +73,20 @@ refuses r request v answer bad_tells reads =
 
     same_line : (log log' : Which) (bad bad' : BadPlace) → verdict.Malformed log bad ≡ verdict.Malformed log' bad' → malformed_line log bad ≡ malformed_line log' bad'
     same_line log log' bad bad' e = cc
+
+-- a log is not in its grammar
+pub refuses_bad : (r : Reading) (request : FilingRequest) (orders trades : Source) (names : NamesLogs request.logs orders trades) (log : Which) (bad : BadPlace) (answer : CaseAnswer) → TellsBadPlace (verdict.Malformed log bad) answer
+    → ReadsLogs r orders trades (λ entries paired. ⊥) (λ which place. (which ≡ log) × (place ≡ bad)) → ReadsRefusal r request answer
+refuses_bad r request orders trades names log bad answer tells_bad reads = ⊎_elim
+    (λ records. absurd records.holds)
+    (λ place. refuses r request (verdict.Malformed log bad) answer tells_bad (record {
+      log = place.log;
+      bad = place.bad;
+      holds = ap₂ {C = Verdict} (λ l b. verdict.Malformed l b) (sym place.holds.0) (sym place.holds.1);
+      read = place.read;
+      turn = place.turn;
+    }))
+    (reads_either r request.logs orders trades names (λ entries paired. ⊥) (λ which place. (which ≡ log) × (place ≡ bad)) reads)
 
 module _ (r : Reading) (request : FilingRequest) (orders trades : Source) (names : NamesLogs request.logs orders trades) (q : Question) where
   abbrev Bad : Verdict → Which → BadPlace → Type 0
@@ -166,22 +180,3 @@ module _ (r : Reading) (request : FilingRequest) (orders trades : Source) (names
         let refusal = refuses r request made.verdict answer is place in
         record { read = refusal.read; turn = record { given = refusal.turn.given; reads = refusal.turn.reads; is = λ kept found. refusal.turn.is kept } })
         (either made.verdict reads)
-
-  any : (v : Verdict) → ReadsRecords r request.logs (On v) → ReadsRecords r request.logs AnyRecords
-  any v reads = record {
-    orders = reads.orders;
-    trades = reads.trades;
-    entries = reads.entries;
-    paired = reads.paired;
-    orders_say = reads.orders_say;
-    trades_say = reads.trades_say;
-    orders_read = reads.orders_read;
-    trades_read = reads.trades_read;
-    holds = tt;
-    good = reads.good;
-  }
-
-  -- both logs are good where their verdict is no bad place, and else refused
-  pub looks : (v : Verdict) (found : Option CaseAnswer) → IsRefusalIn v found → ReadsVerdict r q orders trades v → LooksAtLogs r request found
-  looks v None sound reads = ⊎_elim (λ records. any v records) (λ place. absurd (sound place.log place.bad place.holds)) (either v reads)
-  looks v (Some answer) is reads = ⊎_elim (λ records. absurd (no_bad v records is.log is.bad is.is)) (λ place. refuses r request v answer is place) (either v reads)

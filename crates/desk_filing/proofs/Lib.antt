@@ -1,5 +1,6 @@
 mod PassLemmas
 mod LogLemmas
+mod LookLemmas
 mod JudgeLemmas
 mod FilingLemmas
 mod CheckLemmas

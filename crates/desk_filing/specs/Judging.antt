@@ -1,5 +1,5 @@
 -- What a verdict comes to, as the functions of `file` and `check` pass it on.
-use Rattle.std.specs.Prelude.{◌≡◌, ◌≢◌, ◌⊎◌, ℕ, List, [], ◌∷◌, Option, None, Some}
+use Rattle.std.specs.Prelude.{◌≡◌, ◌≢◌, ◌⊎◌, ℕ, List, [], ◌∷◌, Option, None, Some, IsSomeAnd, Result, Err, MatchResult}
 use Rattle.audit_base.specs.declared.faults.BadPlace.{BadPlace}
 use Rattle.audit_base.specs.declared.terms.Which.{Which}
 use Rattle.audit_report.specs.Lines.{malformed_line}
@@ -9,6 +9,9 @@ use Rattle.audit_base.specs.declared.terms.Rule.{Rule}
 use Rattle.case_keeper.specs.declared.case.Case.{Case}
 use Rattle.case_keeper.specs.declared.case.Offence.{Offence}
 use Rattle.digest_keeper.specs.declared.digested.DigestedCase.{DigestedCase}
+use Rattle.case_run.specs.Turns.{halt_of_stop}
+use Rattle.case_run.specs.declared.halts.Halt.{Halt}
+use Rattle.case_run.specs.declared.halts.Halt.TheVariants as halt
 use Rattle.case_run.specs.declared.statuses.CaseStatus.TheVariants as status
 use Rattle.log_digests.specs.declared.digests.LogDigests.{LogDigests}
 use Rattle.desk_filing.specs.Lines.{comparison_line}
@@ -18,6 +21,8 @@ use Rattle.desk_filing.specs.declared.answers.FilingOutcome.{FilingOutcome}
 use Rattle.desk_filing.specs.declared.answers.FilingOutcome.TheVariants as judged
 use Rattle.desk_filing.specs.declared.differences.AuditedLogs.{AuditedLogs}
 use Rattle.desk_filing.specs.declared.differences.CaseDifference.{CaseDifference}
+use Rattle.log_verdict.specs.declared.stops.NoRecords.{NoRecords}
+use Rattle.log_verdict.specs.declared.stops.NoRecords.TheVariants as norecords
 use Rattle.record_verdict.specs.declared.questions.Question.{Question}
 
 -- both logs are in their grammar
@@ -32,10 +37,13 @@ pub record TellsBadPlace (v : Verdict) (answer : CaseAnswer) : Type 0 where
   pub status_is : answer.status ≡ status.Malformed
   pub text_is : answer.text.items ≡ malformed_line log bad
 
--- the answer that a verdict is a first bad place, if it is one
-abbrev pub IsRefusalIn : Verdict → Option CaseAnswer → Type 0
-IsRefusalIn v None = IsNoBadPlace v
-IsRefusalIn v (Some answer) = TellsBadPlace v answer
+-- the answer to two logs that were not read into records: to their first bad place, or why there is
+-- none
+abbrev pub LooksWithout : NoRecords → Result (Option CaseAnswer) Halt → Type 0
+LooksWithout (norecords.Malformed log bad) result =
+    MatchResult result (λ found. IsSomeAnd found (TellsBadPlace (Malformed log bad)))
+    (λ why. why ≡ halt.Memory)
+LooksWithout (norecords.Stopped why) result = result ≡ Err (halt_of_stop why)
 
 -- the case of an audit that ended so, on logs of these digests
 abbrev pub case_that_ended : List ℕ → Rule → LogDigests → List ℕ → Option Offence → DigestedCase

@@ -1,11 +1,11 @@
 //! What `check` answers: whether two logs are those of a case on file.
 //!
 //! The rule and the symbol of the case are known only when the database is open, which is after
-//! both logs were read. So each log is read once to see that it can be read, and once more to
-//! audit it and to take its digest: those of the very bytes that were judged.
+//! both logs were read. So each log is read once to see that it can be read, of which nothing is
+//! kept, and once more to audit it and to take its digest: that of the very bytes that were judged.
 ghost use Rattle.std.specs.Prelude.{◌≡◌, ◌≤◌, Some, IfOk, MatchResult};
 ghost use Rattle.case_run.specs.Turns.{EndsWithinOrHalts};
-ghost use Rattle.desk_filing.specs.Judging.{IsComparedVerdict, IsRefusalIn, TellsFirst};
+ghost use Rattle.desk_filing.specs.Judging.{IsComparedVerdict, LooksWithout, TellsFirst};
 ghost use Rattle.desk_filing.specs.Steps.{ChecksKept, ChecksOrStops, ComparesOrStops, GoesOn};
 ghost use Rattle.desk_filing.specs.Steps.{LooksAtLogs, NamesLogs};
 ghost use Rattle.desk_filing.specs.Steps.{AnyRecords, ReadsRecords, StopsReading, both_readings};
@@ -32,25 +32,25 @@ use digest_keeper::keeper::DigestKeeper;
 use log_digests::digest_shelf::DigestShelf;
 use log_digests::digests::LogDigests;
 use log_source::shelf::Shelf;
+use log_verdict::reading_through::read_through;
 use log_verdict::sources::Source;
-use log_verdict::verdicts::verdict_on;
+use log_verdict::stops::NoRecords;
 use record_verdict::questions::Question;
 use std::alloc::Global;
 
-/// The answer that a verdict is a first bad place, if it is one.
-fn refusal_in(alloc: Global, verdict: &Verdict) -> Result<Option<CaseAnswer>, NoMemory>
-    ensures { IfOk result (IsRefusalIn verdict.now) }
+/// The answer to two logs that were not read into records: to their first bad place, or why there
+/// is none.
+fn look_without(alloc: Global, why: NoRecords) -> Result<Option<CaseAnswer>, Halt>
+    ensures { LooksWithout why result }
 {
-    match verdict {
-        Verdict::Accepted(_) => Ok(None),
-        Verdict::Rejected(_) => Ok(None),
-        Verdict::Malformed { log, bad } => Ok(Some(malformed_answer(alloc, *log, bad)?)),
+    match why {
+        NoRecords::Malformed { log, bad } => Ok(Some(malformed_answer(alloc, log, &bad)?)),
+        NoRecords::Stopped(stop) => Err(Halt::from(stop)),
     }
 }
 
-/// Nothing, where both logs can be read and are in their grammar; else the answer to them. Any
-/// verdict tells this: it is that on a symbol with the name of the label, of which the logs mostly
-/// have no records, so that little is kept.
+/// Nothing, where both logs can be read and are in their grammar; else the answer to them. Nothing
+/// of the order log is kept.
 pub(crate) fn look_at_logs<F: Shelf>(
     alloc: Global,
     shelf: &mut F,
@@ -67,14 +67,9 @@ pub(crate) fn look_at_logs<F: Shelf>(
     ensures within { EndsWithinOrHalts (reading_by orders.now F.Shelf shelf.old shelf.new)
         result }
 {
-    let question = Question {
-        rule: Rule::Matching,
-        symbol: request.label,
-        table: false,
-    };
-    match verdict_on(alloc, shelf, &question, orders, trades) {
-        Ok(verdict) => Ok(refusal_in(alloc, &verdict)?),
-        Err(stop) => Err(Halt::from(stop)),
+    match read_through(alloc, shelf, orders, trades) {
+        Ok(()) => Ok(None),
+        Err(why) => look_without(alloc, why),
     }
 }
 

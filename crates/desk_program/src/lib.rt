@@ -24,7 +24,7 @@ pub mod pictures;
 
 use crate::calls::ask_call;
 use crate::ends::{DeskEnd, exit_code};
-use crate::notes::{names_missing_database, tell, tell_made_database};
+use crate::notes::{names_missing_database, tell, tell_made_database, tell_no_memory};
 use audit_report::statuses::Status;
 use command_words::arguments::seed_of;
 use digest_database_files::closing::ClosingDigests;
@@ -90,10 +90,13 @@ fn answer_words<
 {
     match words_of(machine) {
         Ok(words) => run_words(machine, &words, shelf, out, opener, notes),
-        Err(_) => DeskRunEnd {
-            end: DeskEnd::Run(Status::Memory),
-            shelf,
-        },
+        Err(_) => {
+            tell_no_memory(notes);
+            DeskRunEnd {
+                end: DeskEnd::Run(Status::Memory),
+                shelf,
+            }
+        }
     }
 }
 

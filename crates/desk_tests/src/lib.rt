@@ -1,7 +1,7 @@
 //! Tests of `desk` that no example can say, since a file cannot: what a row of a whole call is and
 //! what checks it (`checks`), and the rows: every cut in every piece, every call that fails, each
-//! dress, logs over the ends of blocks and of the greatest length, many deals that offend, and pages
-//! without a picture. The other rows are the examples of `desk_examples`.
+//! dress, logs over the ends of blocks and of the greatest length, many deals that offend, pages
+//! without a picture, and what words ask for. The other rows are the examples of `desk_examples`.
 #![tactic(auto)]
 
 #[cfg(test)]
@@ -25,3 +25,5 @@ mod page_rows;
 mod plain_cuts;
 #[cfg(test)]
 mod plain_rows;
+#[cfg(test)]
+mod word_rows;

@@ -90,18 +90,22 @@ const ROWS: [(&str, bool); 19] = [
     ("'c1', 1, 'Z', 0, 1, 0", false),
 ];
 
-/// Whether the cases are listed once something else has put a row into a new table of them.
+/// Whether the cases are listed once something else has put a row into a new table of them. The case
+/// of the label `c1` is shown exactly where they are.
 fn lists_row<R: AllocGlobal + Abort>(rt: &R, columns: &'static str) -> Result<bool, NoMemory> {
     let files = empty_files(rt.alloc(), u64::MAX, u64::MAX);
     let made = come(rt, Command::Casebook("list"), files);
     let put = come(rt, Command::Put(columns), made.files);
     let listed = come(rt, Command::Casebook("list"), put.files);
+    let shown = come(rt, Command::Casebook("show c1"), listed.files);
     let (made, put, listed) = (made.said?, put.said?, listed.said?);
+    let shown = shown.said?;
     assert!(rt; made.is(0, "") && put.is(0, ""), "{columns}");
     assert!(rt;
         listed.number == 0 || listed.is(8, "keeperfault\n"),
         "{columns}"
     );
+    assert!(rt; (shown.number == 0) == (listed.number == 0), "{columns}");
     Ok(listed.number == 0)
 }
 

@@ -6,7 +6,7 @@ use audit_base::terms::Which;
 use log_digests::digest_shelf::DigestShelf;
 use log_digests::digests::digest_log;
 use log_digests::digits::read_digest;
-use log_digests::feeds::{DigestFeed, Digesting};
+use log_digests::feeds::{DigestFeed, DigestingFeed};
 use log_digests::lines::digest_text;
 use log_source::feed::Feed;
 use log_source::memory_shelf::MemoryShelf;
@@ -65,7 +65,7 @@ fn empty_logs(rt: HostRuntime) -> Result<(), Fail> {
 
 #[test]
 fn a_digest_beside_what_another_feed_keeps(rt: HostRuntime) -> Result<(), Fail> {
-    let mut feed = Digesting::over(DigestFeed::new());
+    let mut feed = DigestingFeed::over(DigestFeed::new());
     feed.feed(b"a")?;
     feed.feed(b"bc")?;
     let (digest, other) = feed.end();

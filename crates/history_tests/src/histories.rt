@@ -24,7 +24,7 @@ pub(crate) fn side(word: Option<&str>) -> Side {
     }
 }
 
-fn record(rt: &impl Abort, text: &str) -> OrderRecord {
+pub(crate) fn record(rt: &impl Abort, text: &str) -> OrderRecord {
     let mut words = text.split(' ');
     let kind = words.next().expect(rt, "a kind");
     let firm = words.next().expect(rt, "a firm");

@@ -1,17 +1,10 @@
 -- A Framer's room for what is still to be fed, through its steps.
-use Rattle.std.proofs.Common.{ℕ, List, [], ◌∷◌, ◌++◌, length, arith}
+use Rattle.std.proofs.Common.{ℕ, List, [], ◌∷◌, ◌++◌, arith}
 use Rattle.std.proofs.lemmas.List.{length-append}
 use Rattle.fix_framing.specs.declared.framer.Framer.{Framer}
 use Rattle.fix_framing.specs.declared.framer.Step.{Step}
 use Rattle.fix_framing.specs.declared.framer.Step.TheVariants.{Whole, Wait, Fault}
 use Rattle.fix_framing.specs.Framing.{FramerHasRoom, FeedsPiece, KeepsFraming, StepSays}
-
--- room for a text is room for its front
-pub room-front : {H : Type 0} (hs : List (List ℕ)) (framer : Framer H) (piece rest : List ℕ) → FramerHasRoom hs framer (piece ++ rest) → FramerHasRoom hs framer piece
-room-front hs framer piece rest room =
-    let both = length-append piece rest in
-    let most = room.most in
-    record { fed = room.fed; frames = room.frames; stands = room.stands; most = omega arith }
 
 -- once the front is fed there is room for what follows
 pub room-fed : {H : Type 0} (hs : List (List ℕ)) (old new : Framer H) (piece rest : List ℕ) → FramerHasRoom hs old (piece ++ rest) → FeedsPiece hs old new piece → FramerHasRoom hs new rest

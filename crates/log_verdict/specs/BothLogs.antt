@@ -162,6 +162,16 @@ GivesOfTrades of_trades r trades result =
     (λ given. ReadsTrades r trades (λ paired. of_trades paired given) (λ bad. ⊥))
     (IsUnreadTrades r trades)
 
+-- both logs were read to their ends and are in their grammar, whatever their records say; or they
+-- were not
+abbrev pub ReadsThrough : Reading → Source → Source → Result (Unit {0}) NoRecords → Type 0
+ReadsThrough r orders trades result =
+    GivesOfRecords (λ entries paired given. Unit {0}) r orders trades result
+
+-- the same of the trade log
+abbrev pub ReadsTradesThrough : Reading → Source → Result (Unit {0}) NoRecords → Type 0
+ReadsTradesThrough r trades result = GivesOfTrades (λ paired given. Unit {0}) r trades result
+
 -- the verdict on both logs, or why there is none
 abbrev pub GivesVerdictOrStop : Reading → Question → Source → Source → Result Verdict Stop
     → Type 0

@@ -15,6 +15,7 @@ pub mod both_logs;
 pub mod decoding;
 pub mod laws;
 pub mod reading;
+pub mod reading_through;
 pub mod runs;
 pub mod sources;
 pub mod stops;

@@ -1,8 +1,7 @@
 //! What is said of a database of cases.
-use crate::log_notes::refusal;
+use crate::database_faults::{DatabaseFault, database_fault};
 use crate::notes::Notes;
 use crate::word_parts::is_result;
-use command_words::word_forms::is_path;
 use std::fs;
 
 /// Whether there is no database under a path.
@@ -17,18 +16,53 @@ pub fn print_made_database<N: Notes>(notes: &N, program: &str, path: &str, was_m
     }
 }
 
-/// Says which database could not be opened, read or written, and why the system refuses its
-/// file, where it does.
-pub fn print_database_fault<N: Notes>(notes: &N, program: &str, path: &str) {
-    let _written = if is_path(path) {
-        match refusal(notes, path) {
-            Some(error) => eprintln!(notes; "{program}: {path}: {error}"),
-            None => eprintln!(notes;
-                "{program}: {path}: it is no database, may not be written, is open in another process, or has a row that is no case"
-            ),
+/// Says why a database could not be opened, read or written. One that is not there may be made,
+/// or not.
+pub fn print_database_fault<N: Notes>(notes: &N, program: &str, path: &str, may_make: bool) {
+    let _written = match database_fault(notes, path) {
+        DatabaseFault::NoPath => {
+            eprintln!(notes;
+                "{program}: no path '{path}': one that begins with - is written as ./-"
+            )
         }
-    } else {
-        eprintln!(notes; "{program}: no path '{path}': one that begins with - is written as ./-")
+        DatabaseFault::NoFile => {
+            eprintln!(notes;
+                "{program}: '{path}' is no path of a file: one of that name is written as ./{path}"
+            )
+        }
+        DatabaseFault::NotMade if may_make => {
+            eprintln!(notes;
+                "{program}: {path}: it could not be made: its folder may not be written, or the disk is full"
+            )
+        }
+        DatabaseFault::NotMade => eprintln!(notes; "{program}: {path}: it is not there"),
+        DatabaseFault::Missing => eprintln!(notes; "{program}: {path}: its folder is not there"),
+        DatabaseFault::Refused(error) => eprintln!(notes; "{program}: {path}: {error}"),
+        DatabaseFault::Unusual => eprintln!(notes; "{program}: {path}: it is no file"),
+        DatabaseFault::OtherName => {
+            eprintln!(notes; "{program}: {path}: the file has another name too, by a hard link")
+        }
+        DatabaseFault::Unwritable(error) => {
+            eprintln!(notes; "{program}: {path}: it may not be written: {error}")
+        }
+        DatabaseFault::Journal => {
+            eprintln!(notes;
+                "{program}: {path}: {path}-journal is there: open it with sqlite3 first"
+            )
+        }
+        DatabaseFault::NoDatabase => eprintln!(notes;
+            "{program}: {path}: it is no database of SQLite"
+        ),
+        DatabaseFault::NoTable => {
+            eprintln!(notes;
+                "{program}: {path}: it is the database of another program, or its disk is full"
+            )
+        }
+        DatabaseFault::BusyOrFull => {
+            eprintln!(notes;
+                "{program}: {path}: another process has it open, its disk is full, its folder may not be written, or a row of it is no case"
+            )
+        }
     };
 }
 

@@ -1,17 +1,19 @@
-//! What is said of a log that could not be read, is too long or is malformed.
+//! What is said of a log that could not be read, is too long or is malformed, and of memory and the
+//! output.
 //!
 //! Why a file could not be read is asked of the system once more, so what has changed meanwhile is
 //! shown as it is now. A pipe is not asked again.
+use crate::asked::{Asked, ProgramName};
+use crate::log_bytes::is_pipe;
+use crate::malformed_notes::print_malformed_log;
 use crate::noted_shelf::NotedShelf;
 use crate::notes::Notes;
-use audit_base::columns::column_name;
-use audit_base::faults::{BadPlace, Reason};
 use audit_base::terms::Which;
 use audit_report::statuses::Status;
 use log_source::shelf::Shelf;
 use log_verdict::stops::{NoRecords, Stop};
+use std::fs;
 use std::io::{self, Read};
-use std::{fs, str};
 
 /// Why the system does not let a file be read, as it says itself when it is asked once more.
 /// What may wait for its bytes, as a pipe, is not asked.
@@ -34,57 +36,15 @@ fn print_unread_log<N: Notes>(notes: &N, program: &str, path: &str) {
     };
 }
 
-/// The word for the reason of a bad place, as a report has it.
-fn reason_word(reason: Reason) -> &'static str {
-    match reason {
-        Reason::Header => "header",
-        Reason::Break => "break",
-        Reason::Columns => "columns",
-        Reason::Column(_) | Reason::Value(_) => "value",
-        Reason::Begin => "begin",
-        Reason::Length => "length",
-        Reason::Truncated => "truncated",
-        Reason::Trailer => "trailer",
-        Reason::Checksum => "checksum",
-        Reason::Field(_) => "field",
-        Reason::MsgType => "msgtype",
-        Reason::Missing(_) => "missing",
-        Reason::Repeated(_) => "repeated",
-        Reason::Unsupported(_) => "unsupported",
-    }
-}
-
-/// The tag that the reason of a bad place is said of, or the byte of the body; or none.
-fn reason_number(reason: Reason) -> Option<u32> {
-    match reason {
-        Reason::Field(byte) => Some(byte),
-        Reason::Missing(tag) => Some(tag),
-        Reason::Repeated(tag) => Some(tag),
-        Reason::Value(tag) => Some(tag),
-        Reason::Unsupported(tag) => Some(tag),
-        _ => None,
-    }
-}
-
-/// The name of the column that the reason of a bad place is said of, or none.
-fn reason_column(log: Which, reason: Reason) -> Option<&'static str> {
-    match reason {
-        Reason::Column(column) => str::from_utf8(column_name(log, column)).ok(),
-        _ => None,
-    }
-}
-
-/// The note on a log that is not in its grammar, with its first bad place.
-fn print_malformed_log<N: Notes>(notes: &N, program: &str, path: &str, log: Which, bad: &BadPlace) {
-    let (offset, word) = (bad.offset, reason_word(bad.reason));
-    let _written = match (reason_number(bad.reason), reason_column(log, bad.reason)) {
-        (Some(number), _) => {
-            eprintln!(notes; "{program}: {path}: malformed at byte {offset}: {word}:{number}")
-        }
-        (None, Some(column)) => {
-            eprintln!(notes; "{program}: {path}: malformed at byte {offset}: {word}:{column}")
-        }
-        (None, None) => eprintln!(notes; "{program}: {path}: malformed at byte {offset}: {word}"),
+/// The note on a log that is too long.
+fn print_long_log<N: Notes>(notes: &N, program: ProgramName, path: &str) {
+    let (name, limit) = (program.word(), program.longest_log());
+    let longest = ProgramName::Desk.longest_log();
+    let _written = match program {
+        ProgramName::Desk => eprintln!(notes; "{name}: {path}: it has more than {limit} bytes"),
+        ProgramName::Auditor | ProgramName::Casebook => eprintln!(notes;
+            "{name}: {path}: it has more than {limit} bytes: desk takes logs of {longest}"
+        ),
     };
 }
 
@@ -98,12 +58,57 @@ fn log_of_stop(stop: &NoRecords) -> Option<Which> {
     }
 }
 
-/// Says what is wrong with the log at which a run stopped, of those that may have as many bytes as
-/// `limit` says. Where it stopped at none, it says nothing.
-pub fn print_stop<N: Notes, F: Shelf>(
+/// Says that a log is a pipe, which the command cannot read twice, and whether it is.
+fn prints_pipe<N: Notes, F: Shelf>(
     notes: &N,
-    program: &str,
-    limit: u64,
+    asked: &Asked<'_>,
+    shelf: &NotedShelf<F>,
+    log: Which,
+) -> bool {
+    let Some(path) = shelf.name_of(log) else {
+        return false;
+    };
+    if !is_pipe(notes, path.as_str()) {
+        return false;
+    }
+    let program = asked.program.word();
+    let _written = eprintln!(notes;
+        "{program}: {path}: it is a pipe, whose bytes come once, and each log is read twice: give a file"
+    );
+    true
+}
+
+/// Whether both logs are read from the same name.
+fn is_named_twice<F: Shelf>(shelf: &NotedShelf<F>) -> bool {
+    match (shelf.name_of(Which::Orders), shelf.name_of(Which::Trades)) {
+        (Some(orders), Some(trades)) => orders.as_str() == trades.as_str(),
+        _ => false,
+    }
+}
+
+/// Says which log is a pipe where that is wanted twice, as for each log of `check`, and for one that
+/// is given as both logs, and whether one is.
+pub fn prints_pipe_read_twice<N: Notes, F: Shelf>(
+    notes: &N,
+    asked: &Asked<'_>,
+    shelf: &NotedShelf<F>,
+) -> bool {
+    let checks = match asked.program {
+        ProgramName::Desk => asked.has_command("check"),
+        ProgramName::Auditor | ProgramName::Casebook => false,
+    };
+    if !checks && !is_named_twice(shelf) {
+        return false;
+    }
+    prints_pipe(notes, asked, shelf, Which::Orders)
+        || prints_pipe(notes, asked, shelf, Which::Trades)
+}
+
+/// Says what is wrong with the log at which a run stopped. Where it stopped at none, it says
+/// nothing.
+fn print_stop<N: Notes, F: Shelf>(
+    notes: &N,
+    asked: &Asked<'_>,
     shelf: &NotedShelf<F>,
     stop: &NoRecords,
 ) {
@@ -112,38 +117,50 @@ pub fn print_stop<N: Notes, F: Shelf>(
     };
     match stop {
         NoRecords::Malformed { log, bad } => {
-            print_malformed_log(notes, program, path.as_str(), *log, bad);
+            print_malformed_log(notes, asked, path.as_str(), *log, bad);
         }
-        NoRecords::Stopped(Stop::ReadFault(_)) => print_unread_log(notes, program, path.as_str()),
+        NoRecords::Stopped(Stop::ReadFault(_)) => {
+            print_unread_log(notes, asked.program.word(), path.as_str());
+        }
         NoRecords::Stopped(Stop::TooLong(_)) => {
-            let _written = eprintln!(notes; "{program}: {path}: it has more than {limit} bytes");
+            print_long_log(notes, asked.program, path.as_str());
         }
         NoRecords::Stopped(Stop::Memory) => {}
     }
 }
 
-/// Says why a run of these words ended above 1, where they are well-formed: which log is at fault,
-/// of those that may have as many bytes as `limit` says; or that memory or the output was.
+/// Standard output, as a path.
+const OUTPUT: &str = "/dev/stdout";
+
+/// Says why a run of well-formed words ended above 1, if not with a keeper's fault: which log is at
+/// fault; or that memory or the output was, unless a reader had enough of that.
 pub fn print_end<N: Notes, F: Shelf>(
     notes: &N,
-    program: &str,
-    limit: u64,
+    asked: &Asked<'_>,
     status: Status,
     shelf: &NotedShelf<F>,
     stop: &Option<NoRecords>,
 ) {
+    let program = asked.program.word();
     match status {
-        Status::Memory => {
-            let _written = eprintln!(notes; "{program}: memory ran out");
-        }
+        Status::Memory => print_memory(notes, asked.program),
         Status::WriteFault => {
-            let _written = eprintln!(notes; "{program}: standard output could not be written");
+            // A write to a pipe fails where its reader has closed it.
+            if !is_pipe(notes, OUTPUT) {
+                let _written = eprintln!(notes; "{program}: standard output could not be written");
+            }
         }
         Status::Malformed | Status::ReadFault | Status::TooLong => {
             if let Some(stop) = stop {
-                print_stop(notes, program, limit, shelf, stop);
+                print_stop(notes, asked, shelf, stop);
             }
         }
         Status::Accepted | Status::Rejected | Status::Usage => {}
     }
+}
+
+/// Says that memory ran out.
+pub fn print_memory<N: Notes>(notes: &N, program: ProgramName) {
+    let name = program.word();
+    let _written = eprintln!(notes; "{name}: memory ran out");
 }

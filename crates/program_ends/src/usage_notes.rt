@@ -1,286 +1,238 @@
 //! What is said of words that are not well-formed: the first that is wrong or missing, and what
 //! may be there.
+use crate::asked::{Asked, ProgramName};
+use crate::command_parts::{CommandParts, commands_of, parts_of};
 use crate::notes::Notes;
+use crate::option_faults::{OptionFault, option_fault};
+use crate::option_parts::{OptionList, OptionPart, option_named};
 use crate::word_parts::WordPart;
+use audit_base::terms::Rule;
+use command_words::word_forms::rule_named;
 
-const AUDIT: [WordPart; 4] = [
-    WordPart::Rule,
-    WordPart::Symbol,
-    WordPart::Path,
-    WordPart::Path,
-];
-
-const EXPECT: [WordPart; 3] = [WordPart::Rule, WordPart::Symbol, WordPart::Path];
-
-const CONVERT: [WordPart; 3] = [WordPart::Log, WordPart::Form, WordPart::Path];
-
-const GENERATE: [WordPart; 2] = [WordPart::Start, WordPart::Count];
-
-const CERTIFY: [WordPart; 4] = [
-    WordPart::BoundRule,
-    WordPart::Symbol,
-    WordPart::Path,
-    WordPart::Path,
-];
-
-const VERIFY: [WordPart; 4] = [
-    WordPart::Symbol,
-    WordPart::Path,
-    WordPart::Path,
-    WordPart::Path,
-];
-
-const SESSION: [WordPart; 4] = [
-    WordPart::Symbol,
-    WordPart::Phases,
-    WordPart::Path,
-    WordPart::Path,
-];
-
-const DAY_AUDIT: [WordPart; 3] = [WordPart::Rule, WordPart::Path, WordPart::Path];
-
-const DAY_SESSION: [WordPart; 3] = [WordPart::Phases, WordPart::Path, WordPart::Path];
-
-const OFFENCES: [WordPart; 4] = [
-    WordPart::Rule,
-    WordPart::Symbol,
-    WordPart::Path,
-    WordPart::Path,
-];
-
-const PAGE: [WordPart; 4] = [
-    WordPart::Rule,
-    WordPart::Symbol,
-    WordPart::Path,
-    WordPart::Path,
-];
-
-const DIGEST: [WordPart; 2] = [WordPart::Path, WordPart::Path];
-
-const DAY_FILE: [WordPart; 6] = [
-    WordPart::Path,
-    WordPart::Label,
-    WordPart::Rule,
-    WordPart::Symbol,
-    WordPart::Path,
-    WordPart::Path,
-];
-
-const DAY_FILE_ALL: [WordPart; 5] = [
-    WordPart::Path,
-    WordPart::Label,
-    WordPart::Rule,
-    WordPart::Path,
-    WordPart::Path,
-];
-
-const DAY_CHECK: [WordPart; 4] = [
-    WordPart::Path,
-    WordPart::Label,
-    WordPart::Path,
-    WordPart::Path,
-];
-
-const PLAIN: [WordPart; 1] = [WordPart::Path];
-
-const CONTENTS: [WordPart; 2] = [WordPart::Path, WordPart::Path];
-
-const FILE: [WordPart; 6] = [
-    WordPart::Label,
-    WordPart::Rule,
-    WordPart::Symbol,
-    WordPart::Form,
-    WordPart::Path,
-    WordPart::Path,
-];
-
-const CONVERT_INTO: [WordPart; 4] = [
-    WordPart::Log,
-    WordPart::Form,
-    WordPart::Path,
-    WordPart::Form,
-];
-
-const LIST: [WordPart; 2] = [WordPart::Symbol, WordPart::Result];
-
-const SHOW: [WordPart; 1] = [WordPart::Label];
-
-const AUDITOR_COMMANDS: &str = "audit, expect, convert, generate, certify, verify, session";
-
-const DESK_COMMANDS: &str = "audit, session, offences, page, digest, file, file-all, check, \
-                             orders, convert, plain, contents, help";
-
-const CASEBOOK_COMMANDS: &str = "file, list, show";
-
-/// The parts of a command of `auditor`, after its word.
-fn auditor_parts(command: &str) -> Option<&'static [WordPart]> {
-    if command == "audit" {
-        Some(&AUDIT)
-    } else if command == "expect" {
-        Some(&EXPECT)
-    } else if command == "convert" {
-        Some(&CONVERT)
-    } else if command == "generate" {
-        Some(&GENERATE)
-    } else if command == "certify" {
-        Some(&CERTIFY)
-    } else if command == "verify" {
-        Some(&VERIFY)
-    } else if command == "session" {
-        Some(&SESSION)
+/// Says that a part has a word that does not fit.
+fn print_misfit<N: Notes>(
+    notes: &N,
+    program: &str,
+    known: &CommandParts,
+    part: WordPart,
+    word: &str,
+) {
+    let (name, wanted) = (part.name(), part.wanted());
+    let _written = if option_named(known.options, word).is_some() {
+        eprintln!(notes; "{program}: no {name} '{word}': options stand behind all other words")
     } else {
-        None
-    }
+        eprintln!(notes; "{program}: no {name} '{word}': {wanted}")
+    };
 }
 
-/// Says which is the first part that a word does not fit or that has none. Where all fit it
-/// names the word after them.
-fn print_parts<N: Notes>(notes: &N, program: &str, parts: &[WordPart], words: &[String]) {
+/// Says which is the first part that a word does not fit or that has none, and whether there is
+/// one.
+fn prints_part<N: Notes>(notes: &N, program: &str, known: &CommandParts, words: &[String]) -> bool {
     let mut rest = words.iter();
-    for part in parts {
-        let (name, wanted) = (part.name(), part.wanted());
+    for part in known.parts {
         let Some(word) = rest.next() else {
+            if known.may_end {
+                return false;
+            }
+            let (name, wanted) = (part.name(), part.wanted());
             let _written = eprintln!(notes; "{program}: no {name} is given: {wanted}");
-            return;
+            return true;
         };
         if !part.takes(word.as_str()) {
-            let _written = eprintln!(notes; "{program}: no {name} '{word}': {wanted}");
-            return;
+            print_misfit(notes, program, known, *part, word.as_str());
+            return true;
         }
     }
-    let _written = match rest.next() {
-        Some(word) => eprintln!(notes; "{program}: '{word}' or what follows it may not be here"),
-        None => eprintln!(notes; "{program}: these words do not go together"),
-    };
+    false
 }
 
-/// Says what is wrong with words that are none of `auditor`.
-pub fn print_auditor_usage<N: Notes>(notes: &N, words: &[String]) {
-    let Some((command, rest)) = words.split_first() else {
-        let _written = eprintln!(notes; "auditor: no command is given: {AUDITOR_COMMANDS}");
-        return;
-    };
-    match auditor_parts(command.as_str()) {
-        Some(parts) => print_parts(notes, "auditor", parts, rest),
-        None => {
-            let _written = eprintln!(notes; "auditor: no command '{command}': {AUDITOR_COMMANDS}");
-        }
-    }
-}
-
-/// The parts of a command of `desk` about logs, after its word.
-fn desk_parts(command: &str) -> Option<&'static [WordPart]> {
-    if command == "audit" {
-        Some(&DAY_AUDIT)
-    } else if command == "session" {
-        Some(&DAY_SESSION)
-    } else if command == "offences" {
-        Some(&OFFENCES)
-    } else if command == "page" {
-        Some(&PAGE)
-    } else if command == "digest" {
-        Some(&DIGEST)
-    } else if command == "file" {
-        Some(&DAY_FILE)
-    } else if command == "file-all" {
-        Some(&DAY_FILE_ALL)
-    } else if command == "check" {
-        Some(&DAY_CHECK)
-    } else if command == "orders" {
-        Some(&GENERATE)
-    } else if command == "convert" {
-        Some(&CONVERT_INTO)
-    } else if command == "plain" {
-        Some(&PLAIN)
-    } else if command == "contents" {
-        Some(&CONTENTS)
+/// The words behind so many.
+fn words_behind(words: &[String], count: usize) -> &[String] {
+    if count <= words.len() {
+        &words[count..]
     } else {
-        None
+        &[]
     }
 }
 
-/// Says what is wrong with words that are none of `desk`.
-pub fn print_desk_usage<N: Notes>(notes: &N, words: &[String]) {
-    let Some((command, rest)) = words.split_first() else {
-        let _written = eprintln!(notes; "desk: no command is given: {DESK_COMMANDS}");
-        return;
-    };
-    match desk_parts(command.as_str()) {
-        Some(parts) => print_parts(notes, "desk", parts, rest),
-        None => {
-            let _written = eprintln!(notes; "desk: no command '{command}': {DESK_COMMANDS}");
-        }
-    }
-}
-
-/// The parts of a command of `casebook`, after its word. Those of `list` may be left out.
-fn casebook_parts(command: &str) -> Option<&'static [WordPart]> {
-    if command == "file" {
-        Some(&FILE)
-    } else if command == "list" {
-        Some(&LIST)
-    } else if command == "show" {
-        Some(&SHOW)
-    } else {
-        None
-    }
-}
-
-/// Whether each word fits its part, and none is left over. The last parts may have no word
-/// where that is said.
-fn all_fit(parts: &[WordPart], words: &[String], may_end: bool) -> bool {
+/// The rule that is among the words of a command, where it has one.
+fn rule_in(known: &CommandParts, words: &[String]) -> Option<Rule> {
     let mut rest = words.iter();
-    for part in parts {
-        match rest.next() {
-            Some(word) if part.takes(word.as_str()) => {}
-            Some(_) => return false,
-            None => return may_end,
+    for part in known.parts {
+        let word = rest.next()?;
+        if *part == WordPart::Rule {
+            return rule_named(word.as_str());
         }
     }
-    rest.next().is_none()
+    None
 }
 
-/// Says what is wrong with one command of `casebook`, and whether something is.
-fn prints_command<N: Notes>(notes: &N, words: &[String]) -> bool {
-    let Some((command, rest)) = words.split_first() else {
-        let _written = eprintln!(notes; "casebook: no command is given: {CASEBOOK_COMMANDS}");
-        return true;
+/// Says that a word behind all parts is no option of the command.
+fn print_unknown<N: Notes>(notes: &N, program: &str, known: &CommandParts, word: &str) {
+    let options = OptionList {
+        options: known.options,
     };
-    let Some(parts) = casebook_parts(command.as_str()) else {
-        let _written = eprintln!(notes; "casebook: no command '{command}': {CASEBOOK_COMMANDS}");
-        return true;
+    let _written = if !known.options.is_empty() {
+        eprintln!(notes; "{program}: no option '{word}': {options}")
+    } else if word.starts_with('-') {
+        eprintln!(notes; "{program}: no option '{word}': there is none here")
+    } else {
+        eprintln!(notes;
+            "{program}: '{word}' is too much: nothing may stand behind the words before it"
+        )
     };
-    if all_fit(parts, rest, command.as_str() == "list") {
-        return false;
+}
+
+/// Says that an option is given twice.
+fn print_twice<N: Notes>(notes: &N, program: &str, option: OptionPart, value: Option<&str>) {
+    let word = option.word();
+    let _written = match value {
+        Some(value) => {
+            eprintln!(notes;
+                "{program}: option '{word}' is given twice, the second time with '{value}'"
+            )
+        }
+        None => eprintln!(notes; "{program}: option '{word}' is given twice"),
+    };
+}
+
+/// Says that an option has no value, or one that it may not have.
+fn print_value<N: Notes>(notes: &N, program: &str, option: OptionPart, value: Option<&str>) {
+    let Some(part) = option.value() else {
+        return;
+    };
+    let (word, name, wanted) = (option.word(), part.name(), part.wanted());
+    let _written = match value {
+        Some(value) => {
+            eprintln!(notes; "{program}: no {name} '{value}' for option '{word}': {wanted}")
+        }
+        None => eprintln!(notes; "{program}: no {name} is given for option '{word}': {wanted}"),
+    };
+}
+
+/// Says that an option does not go with the rule.
+fn print_rule_misfit<N: Notes>(notes: &N, program: &str, option: OptionPart, rule: Option<Rule>) {
+    let (word, rules) = (option.word(), option.rules());
+    let name = match rule {
+        Some(rule) => str::from_utf8(rule.word()).unwrap_or(""),
+        None => "",
+    };
+    let _written = eprintln!(notes;
+        "{program}: option '{word}' does not go with rule '{name}': it goes with {rules}"
+    );
+}
+
+/// Says that of two options the first does not go with the other, or not without it.
+fn print_pair<N: Notes>(notes: &N, program: &str, how: &str, first: OptionPart, other: OptionPart) {
+    let (first, other) = (first.word(), other.word());
+    let _written = eprintln!(notes;
+        "{program}: option '{first}' does not go {how} option '{other}'"
+    );
+}
+
+/// Says what is wrong with options.
+fn print_option_fault<N: Notes>(
+    notes: &N,
+    program: &str,
+    known: &CommandParts,
+    rule: Option<Rule>,
+    fault: OptionFault<'_>,
+) {
+    match fault {
+        OptionFault::Unknown(word) => print_unknown(notes, program, known, word),
+        OptionFault::Twice(option, value) => print_twice(notes, program, option, value),
+        OptionFault::NoValue(option) => print_value(notes, program, option, None),
+        OptionFault::Value(option, value) => print_value(notes, program, option, Some(value)),
+        OptionFault::Rule(option) => print_rule_misfit(notes, program, option, rule),
+        OptionFault::Both(first, other) => print_pair(notes, program, "with", first, other),
+        OptionFault::Alone(first, other) => print_pair(notes, program, "without", first, other),
     }
-    print_parts(notes, "casebook", parts, rest);
-    true
 }
 
-/// Says what is wrong with the first command in which something is.
+/// Says what is wrong with the words behind that of a command, and whether something is: with a
+/// part, or else with an option.
+fn prints_words<N: Notes>(
+    notes: &N,
+    program: &str,
+    known: &CommandParts,
+    words: &[String],
+) -> bool {
+    if prints_part(notes, program, known, words) {
+        return true;
+    }
+    let rule = rule_in(known, words);
+    match option_fault(known.options, words_behind(words, known.parts.len()), rule) {
+        Some(fault) => {
+            print_option_fault(notes, program, known, rule, fault);
+            true
+        }
+        None => false,
+    }
+}
+
+/// Says what is wrong with a command and its words, and whether something is.
+fn prints_command<N: Notes>(notes: &N, program: ProgramName, words: &[String]) -> bool {
+    let (name, commands) = (program.word(), commands_of(program));
+    let Some((command, rest)) = words.split_first() else {
+        let _written = eprintln!(notes; "{name}: no command is given: {commands}");
+        return true;
+    };
+    match parts_of(program, command.as_str()) {
+        Some(known) => prints_words(notes, name, &known, rest),
+        None => {
+            let _written = eprintln!(notes; "{name}: no command '{command}': {commands}");
+            true
+        }
+    }
+}
+
+/// Says what is wrong with the words of one command, where `prints_command` finds nothing.
+fn print_one_command<N: Notes>(notes: &N, program: ProgramName, words: &[String]) {
+    if !prints_command(notes, program, words) {
+        let name = program.word();
+        let _written = eprintln!(notes; "{name}: these words do not go together");
+    }
+}
+
+/// Says what is wrong with the first command of `casebook` in which something is.
 fn print_commands<N: Notes>(notes: &N, words: &[String]) {
     let first = words.iter().position(|word| word.as_str() == "then");
     match first {
         Some(place) => {
-            if !prints_command(notes, &words[..place]) {
+            if !prints_command(notes, ProgramName::Casebook, &words[..place]) {
                 print_commands(notes, &words[place + 1..]);
             }
         }
-        None => {
-            let _written = prints_command(notes, words);
-        }
+        None => print_one_command(notes, ProgramName::Casebook, words),
     }
 }
 
-/// Says what is wrong with words that are none of `casebook`: the first of its commands in
-/// which something is.
-pub fn print_casebook_usage<N: Notes>(notes: &N, words: &[String]) {
+/// Says what is wrong with words that are none of `casebook`.
+fn print_casebook_usage<N: Notes>(notes: &N, words: &[String]) {
     let Some((_database, commands)) = words.split_first() else {
-        let _written = eprintln!(notes;
-            "casebook: no database is given: {}",
-            WordPart::Path.wanted()
-        );
+        let wanted = WordPart::Path.wanted();
+        let _written = eprintln!(notes; "casebook: no database is given: {wanted}");
         return;
     };
     print_commands(notes, commands);
+}
+
+/// Says what is wrong with words that a program does not take: of `casebook` with the first of its
+/// commands in which something is.
+pub fn print_usage<N: Notes>(notes: &N, asked: &Asked<'_>) {
+    match asked.program {
+        ProgramName::Casebook => print_casebook_usage(notes, asked.words),
+        program => print_one_command(notes, program, asked.words),
+    }
+}
+
+/// Whether the words have an option for the form of an order log.
+pub(crate) fn has_form_options(asked: &Asked<'_>) -> bool {
+    let Some(command) = asked.words.first() else {
+        return false;
+    };
+    match parts_of(asked.program, command.as_str()) {
+        Some(known) => option_named(known.options, OptionPart::OrdersForm.word()).is_some(),
+        None => false,
+    }
 }

@@ -1,7 +1,7 @@
 //! Days whose messages stand one after another, after a byte order mark if there is one.
 ghost use Rattle.std.specs.Prelude.{◌≤◌, length};
 
-use crate::days::joined::{Joined, is_read};
+use crate::days::joined_bodies::{JoinedBodies, is_read};
 use audit_base::faults::NoMemory;
 use audit_base::terms::Which;
 use fix_days::faults::BadMessage;
@@ -98,12 +98,16 @@ const BAD: [(&[u8], &[u8], u32, u64, FrameFault); 11] = [
 ];
 
 /// The bodies of the day, read in pieces of this size.
-fn read_in_pieces(alloc: Global, day: &[u8], piece: usize) -> Result<ReadDay<Joined>, NoMemory>
+fn read_in_pieces(
+    alloc: Global,
+    day: &[u8],
+    piece: usize,
+) -> Result<ReadDay<JoinedBodies>, NoMemory>
     requires { 1 ≤ piece }
 {
     let mut shelf = MemoryShelf::new(alloc, piece, Vec::new(alloc));
     shelf.put(String::new(alloc), Vec::from_slice(alloc, day)?)?;
-    let mut feed = FramedFeed::over(alloc, Joined::new(alloc));
+    let mut feed = FramedFeed::over(alloc, JoinedBodies::new(alloc));
     if pump(&mut shelf, Which::Orders, "", LONGEST_READ, &mut feed).is_err() {
         return Err(NoMemory);
     }
@@ -111,11 +115,11 @@ fn read_in_pieces(alloc: Global, day: &[u8], piece: usize) -> Result<ReadDay<Joi
 }
 
 /// The bodies of the day, read in two pieces.
-fn read_cut(alloc: Global, day: &[u8], cut: usize) -> Result<ReadDay<Joined>, NoMemory>
+fn read_cut(alloc: Global, day: &[u8], cut: usize) -> Result<ReadDay<JoinedBodies>, NoMemory>
     requires within { cut ≤ length day.now }
     requires short { length day.now ≤ 1000 }
 {
-    let mut feed = FramedFeed::over(alloc, Joined::new(alloc));
+    let mut feed = FramedFeed::over(alloc, JoinedBodies::new(alloc));
     feed.feed(&day[..cut])?;
     feed.feed(&day[cut..])?;
     feed.close()

@@ -2,11 +2,11 @@
 ghost use Rattle.std.specs.Prelude.{◌≡◌, ◌≤◌, IsTrue};
 ghost use Rattle.fix_days.specs.Lines.{is_soh_text};
 
-use crate::days::joined::{Joined, is_read};
+use crate::days::joined_bodies::{JoinedBodies, is_read};
 use audit_base::faults::NoMemory;
 use audit_base::terms::Which;
 use fix_days::faults::BadMessage;
-use fix_days::lines::{LineFeed, SohText, is_soh_text};
+use fix_days::lines::{LineFeed, SohGhost, is_soh_text};
 use fix_days::read_day::ReadDay;
 use fix_framing::frames::FrameFault;
 use log_source::limits::LONGEST_READ;
@@ -132,12 +132,12 @@ const BAD: [(&[u8], &[u8], &[u8], u32, u64, FrameFault); 9] = [
 ];
 
 /// The day, read in pieces of this size, where the text of `S` stands for SOH.
-fn read_dressed<S: SohText>(
+fn read_dressed<S: SohGhost>(
     alloc: Global,
     soh: &[u8],
     day: &[u8],
     piece: usize,
-) -> Result<ReadDay<Joined>, NoMemory>
+) -> Result<ReadDay<JoinedBodies>, NoMemory>
     requires soh { soh.now ≡ S.text }
     requires is { IsTrue (is_soh_text S.text) }
     requires piece { 1 ≤ piece }
@@ -145,7 +145,7 @@ fn read_dressed<S: SohText>(
     let mut shelf = MemoryShelf::new(alloc, piece, Vec::new(alloc));
     shelf.put(String::new(alloc), Vec::from_slice(alloc, day)?)?;
     let soh = Vec::from_slice(alloc, soh)?;
-    let mut feed = LineFeed::<Joined, S>::over(alloc, soh, Joined::new(alloc));
+    let mut feed = LineFeed::<JoinedBodies, S>::over(alloc, soh, JoinedBodies::new(alloc));
     if pump(&mut shelf, Which::Orders, "", LONGEST_READ, &mut feed).is_err() {
         return Err(NoMemory);
     }
@@ -158,7 +158,7 @@ fn read_in_pieces(
     soh: &[u8],
     day: &[u8],
     piece: usize,
-) -> Result<ReadDay<Joined>, NoMemory>
+) -> Result<ReadDay<JoinedBodies>, NoMemory>
     requires is { IsTrue (is_soh_text soh.now) }
     requires piece { 1 ≤ piece }
 {
