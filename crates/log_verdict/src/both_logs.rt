@@ -121,7 +121,6 @@ fn after_history<
             })
         }
         Ok(CollectedTrades::Alone(finding)) => {
-            // Two values are made of it, so each copies it: what is put into one counts as moved.
             let alone = &finding;
             Ok(LogsBeforeRule {
                 given: BeforeRule::Found(*alone),
