@@ -1,10 +1,9 @@
 -- The lines of a table, one order more at a time.
-use Rattle.std.proofs.Common.{◌≡◌, ◌∙◌, sym, ap, ℕ, ◌<◌, ◌+◌, List, [], ◌∷◌, ◌++◌, length, get_or, arith}
+use Rattle.std.proofs.Common.{◌≡◌, ◌∙◌, sym, ap, ℕ, ◌+◌, List, [], ◌∷◌, ◌++◌, arith}
 use Rattle.std.specs.Prelude.{slice_index}
 use Rattle.std.proofs.lemmas.List.FromFn.{map-range_with_len_more}
 use Rattle.audit_base.specs.declared.orders.Order.{Order}
-use Rattle.audit_base.specs.Orders.{order_at, order_past_end}
-use Rattle.audit_base.proofs.OffenceLemmas.{get_or-default}
+use Rattle.audit_base.specs.Orders.{order_at}
 use Rattle.audit_report.specs.declared.tables.Line.{Line}
 use Rattle.record_verdict.specs.Tables.{line_of_order, lines_below}
 

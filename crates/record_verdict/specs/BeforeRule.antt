@@ -2,10 +2,11 @@
 -- sound trades.
 use Rattle.std.specs.Prelude.{◌≡◌, ◌<◌, ◌≤◌, ◌-◌, ◌^◌, List, Option, None, Some, Result, length}
 use Rattle.audit_base.specs.declared.findings.Finding.{Finding}
+use Rattle.audit_base.specs.declared.orders.Order.{Order}
 use Rattle.audit_base.specs.declared.records.OrderRecord.{OrderRecord}
 use Rattle.audit_base.specs.declared.records.TradeRecord.{TradeRecord}
 use Rattle.audit_base.specs.Deals.{DealsInRange, IsDealList}
-use Rattle.audit_base.specs.Histories.{order_list}
+use Rattle.audit_base.specs.Histories.{order_list, WellFormed}
 use Rattle.audit_base.specs.Trades.{deals_of_symbol}
 use Rattle.audit_base.specs.Verdicts.{paired_trades}
 use Rattle.matching_core.specs.declared.deals_draft.ResolvedTrades.{ResolvedTrades}
@@ -31,6 +32,13 @@ IsBeforeRule scope entries paired (before_rule.Found finding) =
     finding_before_rule_in_scope scope entries paired ≡ Some finding
 IsBeforeRule scope entries paired (before_rule.Sound resolved) =
     IsResolvedWithoutFinding scope entries paired resolved
+
+-- the same of whatever order records have a history without a finding, with these orders
+abbrev pub IsGivenAfterHistory : Scope → List Order → Result (List TradeRecord) Finding
+    → BeforeRule → Type 0
+IsGivenAfterHistory scope orders paired given = (entries : List OrderRecord)
+    → WellFormed scope.symbol entries → orders ≡ order_list scope.symbol entries
+    → IsBeforeRule scope entries paired given
 
 -- what trades give that have been gathered: their first finding, or that they are sound
 abbrev pub finding_or_sound : ResolvedTrades → Option Finding → BeforeRule

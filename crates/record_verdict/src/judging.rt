@@ -1,43 +1,34 @@
-//! Judging logs that have been read: the stages of the verdict, each handed to the crate
-//! that decides it.
-ghost use Rattle.std.specs.Prelude.{◌≡◌, ◌<◌, ◌-◌, ◌^◌, length, IfOk};
-ghost use Rattle.audit_base.specs.Trades.{TradesInRange};
+//! Judging records that are there as a whole: they are handed to what a reading hands them to, and
+//! the verdict is the one on what they give before the rule is looked at.
+ghost use Rattle.std.specs.Prelude.{◌≡◌, ◌<◌, ◌-◌, ◌^◌, length, None, IfOk, Ok};
 ghost use Rattle.audit_base.specs.Verdicts as spec;
 ghost use Rattle.audit_base.specs.Verdicts.{paired_trades};
 ghost use Rattle.audit_report.specs.Texts.{IsVerdictInRange};
 ghost use Rattle.trade_reports.specs.Pairings.{result_of_paired};
-ghost use Rattle.record_verdict.specs.RecordVerdict.{as_verdict, IsJudgedInRange};
+ghost use Rattle.matching_core.specs.DealsDraft.{IsDealsDraft};
+ghost use Rattle.record_verdict.specs.Scopes.{unadmitted_order_finding};
+ghost use Rattle.record_verdict.specs.BeforeRule.{IsBeforeRule, IsGivenAfterHistory, IsJudgeable};
 ghost use Rattle.record_verdict.specs.RecordVerdicts.{question, IsRecordVerdict};
-ghost use Rattle.record_verdict.specs.Stages.{VerdictFollowsRecords, VerdictFollowsHistory, VerdictFollowsTrades};
 
+use crate::before_rule::BeforeRule;
 use crate::questions::Question;
-use crate::rules::judge_deals;
-use crate::scopes::Admission;
-use crate::verdicts::RecordVerdict;
+use crate::scopes::{Admission, Scope};
+use crate::verdicts::verdict_after;
 use audit_base::faults::NoMemory;
 use audit_base::findings::Finding;
 use audit_base::names::Name;
-use audit_base::ranges::trades_in_range;
 use audit_base::records::{OrderRecord, TradeRecord};
 use audit_base::terms::Rule;
 use audit_report::verdicts::Verdict;
 use instruction_history::faults::HistoryFault;
 use instruction_history::history::History;
-use matching_core::outcomes::CheckFault;
-use matching_core::resolving::resolve;
+use log_source::collector::Collector;
+use matching_core::deals_draft::{DealsDraft, HistoryGhost};
 use order_list::lists::OrderList;
+use seeded_hash::seed::HashSeed;
 use std::alloc::Global;
+use std::marker::Brand;
 use trade_reports::pairing::Paired;
-
-/// The numbers of the trades of a log are in their ranges. Nothing is computed.
-fn paired_in_range(trades: &Paired)
-    ensures { TradesInRange (paired_trades (result_of_paired trades.now)) }
-{
-    match trades {
-        Paired::Trades(list) => trades_in_range(list.as_slice()),
-        Paired::Alone(_) => {}
-    }
-}
 
 /// What is found where the rule does not admit an order of the history:
 /// a call takes only orders that rest.
@@ -47,66 +38,80 @@ pub fn instant_finding_of_rule(rule: Rule, orders: &OrderList<'_>) -> Option<Fin
     Admission::of(rule).first_unadmitted(orders)
 }
 
-/// The verdict where the history is well-formed and has no finding: its trades decide.
-fn judge_trades(
+/// The draft of the deals of these trades.
+fn draft_of<M: HistoryGhost>(
     alloc: Global,
-    question: &Question,
-    history: &History,
+    scope: &Scope,
+    history: History,
     trades: &[TradeRecord],
-) -> Result<RecordVerdict, NoMemory>
+) -> Result<DealsDraft<M>, NoMemory>
+    requires symbol { scope.now.symbol ≡ M.symbol }
+    requires orders { history ≡ M.orders }
     requires fits_places { length trades.now < 2 ^ 32 - 1 }
-    ensures { IfOk result (λ judged.
-        VerdictFollowsTrades question.now history.now trades.now (as_verdict judged)) }
+    ensures { IfOk result (λ draft. IsDealsDraft M.symbol M.orders draft trades.now) }
 {
-    match resolve(alloc, history, trades, &question.symbol) {
-        Ok(deals) => judge_deals(
-            alloc,
-            question,
-            &history.orders(),
-            &deals,
-            trades.len() as u32,
-        ),
-        Err(CheckFault::Found(finding)) => Ok(RecordVerdict::Rejected(finding)),
-        Err(CheckFault::Memory) => Err(NoMemory),
+    let mut draft = DealsDraft::new(alloc, HashSeed::fixed(), scope.symbol, history);
+    for trade in trades {
+        draft.take(*trade)?;
     }
+    Ok(draft)
 }
 
-/// The verdict where the history is well-formed.
-fn judge_history(
+/// What trades give after a history without a finding, whose orders are admitted.
+fn given_by_trades<M: HistoryGhost>(
     alloc: Global,
-    question: &Question,
-    history: &History,
-    trades: &Paired,
-) -> Result<RecordVerdict, NoMemory>
-    requires fits_places { length (paired_trades (result_of_paired trades.now)) < 2 ^ 32 - 1 }
-    ensures { let paired = result_of_paired trades.now in IfOk result (λ judged.
-        VerdictFollowsHistory question.now history.now paired (as_verdict judged)) }
+    scope: &Scope,
+    history: History,
+    trades: &[TradeRecord],
+) -> Result<BeforeRule, NoMemory>
+    requires symbol { scope.now.symbol ≡ M.symbol }
+    requires orders { history ≡ M.orders }
+    requires admitted { unadmitted_order_finding scope.now.admission history ≡ None }
+    requires fits_places { length trades.now < 2 ^ 32 - 1 }
+    ensures gives { IfOk result (IsGivenAfterHistory scope.now history (Ok trades.now)) }
+    ensures judgeable { IfOk result IsJudgeable }
 {
-    if let Some(finding) = instant_finding_of_rule(question.rule, &history.orders()) {
-        return Ok(RecordVerdict::Rejected(finding));
+    let draft = draft_of::<M>(alloc, scope, history, trades)?;
+    Ok(BeforeRule::of(draft.end()))
+}
+
+/// What is given after a history without a finding.
+fn given_after_history(
+    alloc: Global,
+    scope: &Scope,
+    history: History,
+    trades: &Paired,
+) -> Result<BeforeRule, NoMemory>
+    requires fits_places { length (paired_trades (result_of_paired trades.now)) < 2 ^ 32 - 1 }
+    ensures gives { let paired = result_of_paired trades.now in
+        IfOk result (IsGivenAfterHistory scope.now history paired) }
+    ensures judgeable { IfOk result IsJudgeable }
+{
+    if let Some(finding) = scope.admission.first_unadmitted(&history.orders()) {
+        return Ok(BeforeRule::Found(finding));
     }
     match trades {
-        Paired::Trades(list) => judge_trades(alloc, question, history, list.as_slice()),
-        Paired::Alone(finding) => Ok(RecordVerdict::Rejected(*finding)),
+        Paired::Trades(list) => given_by_trades::<Brand>(alloc, scope, history, list.as_slice()),
+        Paired::Alone(finding) => Ok(BeforeRule::Found(*finding)),
     }
 }
 
-/// The verdict on the records of two logs.
-fn judge_records(
+/// What the records of two logs give before the rule is looked at.
+fn given_by_records(
     alloc: Global,
-    question: &Question,
+    scope: &Scope,
     entries: &[OrderRecord],
     trades: &Paired,
-) -> Result<RecordVerdict, NoMemory>
+) -> Result<BeforeRule, NoMemory>
     requires entries_fit_places { length entries.now < 2 ^ 32 - 1 }
     requires trades_fit_places { length (paired_trades (result_of_paired trades.now)) < 2 ^ 32 - 1 }
-    ensures judged { let paired = result_of_paired trades.now in IfOk result (λ judged.
-        VerdictFollowsRecords question.now entries.now paired (as_verdict judged)) }
-    ensures in_range { IfOk result IsJudgedInRange }
+    ensures gives { let paired = result_of_paired trades.now in
+        IfOk result (IsBeforeRule scope.now entries.now paired) }
+    ensures judgeable { IfOk result IsJudgeable }
 {
-    match History::build(alloc, entries, &question.symbol) {
-        Ok(history) => judge_history(alloc, question, &history, trades),
-        Err(HistoryFault::Found(finding)) => Ok(RecordVerdict::Rejected(finding)),
+    match History::build(alloc, entries, &scope.symbol) {
+        Ok(history) => given_after_history(alloc, scope, history, trades),
+        Err(HistoryFault::Found(finding)) => Ok(BeforeRule::Found(finding)),
         Err(HistoryFault::Memory) => Err(NoMemory),
     }
 }
@@ -134,12 +139,12 @@ pub fn judge(
         (result_of_paired trades.now)) }
     ensures in_range { IfOk result IsVerdictInRange }
 {
-    paired_in_range(trades);
     let question = Question {
         rule,
         symbol: *symbol,
         table,
     };
-    let judged = judge_records(alloc, &question, entries, trades)?;
+    let given = given_by_records(alloc, &question.scope(), entries, trades)?;
+    let judged = verdict_after(alloc, &question, &given)?;
     Ok(judged.into_verdict())
 }
