@@ -4,16 +4,17 @@
 //! of the command (`commands`) and hands it to `command_run`, which writes it, or one line, and
 //! says what follows for every command (`program` and `given_logs` say what the auditor's are).
 //! `audit` is the verdict on two logs (`log_verdict`);
-//! `judged_answers`, `verifying` and `sessions` go their own way from
+//! `judged_answers`, `verifying` (with `certificate_log`) and `sessions` go their own way from
 //! what is known of two logs before the rule is looked at; `expecting`, `converting` and
 //! `generating` are the commands that write logs. The contract of `run` is the claim of the
 //! project, composed from the contracts of the crates below; `laws` has what one call makes of
 //! what another wrote; `corollaries` has what follows over a shelf or a sink in memory.
 //!
-//! What a caller with logs of its own needs is given on under this crate's name: `requests` (the
-//! words), `decoding` and `judging`.
+//! The face of the library for a caller with logs of its own, which no program of this repository
+//! is: `requests` (the words), `decoding` and `judging`.
 #![tactic(auto)]
 
+mod certificate_log;
 mod commands;
 mod converting;
 pub mod corollaries;
