@@ -6,6 +6,6 @@ use Rattle.desk_program.proofs.run_desk_program.Goals as goal
 pub returns : goal.returns
 returns c =
     let ends = c.answer_command_line.ensures in
-    let from = ends.1.1 in
-    let begins = from.1.0 in
-    (_, (ends.0, (ends.1.0, (from.0, ((begins.0, (ap digest_file_opener_state begins.1.0 ∙ c.new-opener.ensures, begins.1.1)), from.1.1)))))
+    let from = ends.2 in
+    let begins = from.1 in
+    (_, (ends.0, ends.1, (from.0, (begins.0, ap digest_file_opener_state begins.1 ∙ c.new-opener.ensures, begins.2), from.2)))
