@@ -1,5 +1,5 @@
 -- What a day of two logs that were read comes to.
-use Rattle.std.proofs.Common.{◌≡◌, ◌∙◌, sym, ap, ap₂, subst, refl, ◌⊎◌, ⊎_elim, ℕ, Bool, List, Option, Some, Result, Ok, Err}
+use Rattle.std.proofs.Common.{◌≡◌, ◌∙◌, sym, ap, ap₂, subst, refl, ◌⊎◌, ⊎_elim, ℕ, Bool, true, List, Option, Some, Result, Ok, Err}
 use Rattle.std.specs.Prelude.{option_map, IsOkAnd}
 use Rattle.std.proofs.lemmas.Option.{same_Some}
 use Rattle.audit_base.specs.declared.faults.BadPlace.{BadPlace}
@@ -92,7 +92,7 @@ module _ (r : Reading) (request : FilingRequest) (orders trades : Source) (names
             is = λ kept.
                 turns (before_rule.Read ended) reads digests kept (filed_turn kept cases.items) (Ok records) same (record {
                   verdicts = is.verdicts;
-                  takes = is.takes;
+                  are = is.are;
                   is =
                       ap (filed_turn kept) is.is.1
                       ∙ ap (λ (long : Option (List ℕ)). day_turn kept long (cases_of_day request.label the_rule digests (symbols_of_whole_day reads.entries records) is.verdicts)) (sym is.is.0);
@@ -110,7 +110,7 @@ module _ (r : Reading) (request : FilingRequest) (orders trades : Source) (names
             is = λ kept.
                 turns (before_rule.Read ended) reads digests kept (unfiled_turn kept answer.status answer.text.items) (Ok records) same (record {
                   verdicts = is.verdicts;
-                  takes = is.takes;
+                  are = is.are;
                   is =
                       ap₂ (unfiled_turn kept) is.is.status_is is.is.text_is
                       ∙ ap (λ (long : Option (List ℕ)). day_turn kept long (cases_of_day request.label the_rule digests (symbols_of_whole_day reads.entries records) is.verdicts)) (sym is.is.is);

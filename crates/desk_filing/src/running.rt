@@ -3,6 +3,7 @@
 ghost use Rattle.std.specs.Prelude.{◌≡◌, ℕ, List, Some, map};
 ghost use Rattle.std.specs.Option.{option_map};
 ghost use Rattle.std.specs.String.{string_bytes};
+ghost use Rattle.audit_base.specs.declared.terms.Which.{Which};
 ghost use Rattle.desk_filing.specs.DigestOpeners.{KeepsDatabases};
 ghost use Rattle.desk_filing.specs.Laws.{OneFilingTurn};
 ghost use Rattle.desk_filing.specs.Runs.{FilesAsked, FilesRequest, filing_call};

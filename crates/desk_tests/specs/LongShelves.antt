@@ -2,7 +2,7 @@
 use Rattle.std.specs.Prelude.{ℕ, Bool, false, List, Option, None}
 use Rattle.audit_base.specs.declared.terms.Which.{Which}
 use Rattle.audit_base.specs.declared.terms.Which.TheVariants.{Orders, Trades}
-use Rattle.log_source.specs.Sources.{Slot}
+use Rattle.log_source.specs.Sources.{Slot, any_bytes}
 use Rattle.desk_tests.specs.declared.long_shelf.LongSlot.{LongSlot}
 use Rattle.desk_tests.specs.declared.long_shelf.LongShelf.{LongShelf}
 
@@ -12,6 +12,7 @@ long_state slot = record {
   started = slot.started;
   left = None;
   taken = slot.taken;
+  gave = any_bytes;
   starts = slot.starts;
   faults = 0;
 }
