@@ -49,7 +49,7 @@ use Rattle.log_verdict.specs.BothLogs.{IsUnreadOfTwoLogs, ReadsLogs, ReadsWithin
 use Rattle.record_verdict.specs.Scopes.{admission_of}
 
 -- the digests of both logs are those of what their slots gave
-pub digests_of_both : (r : Reading) (digests : LogDigests) → ((bytes : List ℕ) → (r.after Orders).gave bytes ≡ true → digests.orders ≡ digest_of bytes) → ((bytes : List ℕ) → (r.after Trades).gave bytes ≡ true → digests.trades ≡ digest_of bytes)
+digests_of_both : (r : Reading) (digests : LogDigests) → ((bytes : List ℕ) → (r.after Orders).gave bytes ≡ true → digests.orders ≡ digest_of bytes) → ((bytes : List ℕ) → (r.after Trades).gave bytes ≡ true → digests.trades ≡ digest_of bytes)
     → AreDigestsOfGiven r digests
 digests_of_both r digests first second Orders = first
 digests_of_both r digests first second Trades = second
@@ -147,11 +147,16 @@ module _ (r : Reading) (request : FilingRequest) (orders trades : Source) (names
       (either (before_rule.Unpaired finding) reads)
 
   -- what the logs come to
-  pub judges_given : (given : DayBeforeRule) (digests : LogDigests) → AreDigestsOfGiven r digests → (made : FilingOutcome) → JudgesGiven request.label the_rule digests given made → AreRead given
+  judges_given : (given : DayBeforeRule) (digests : LogDigests) → AreDigestsOfGiven r digests → (made : FilingOutcome) → JudgesGiven request.label the_rule digests given made → AreRead given
       → ReadsJudged r request made
   judges_given (before_rule.Read ended) digests are made judges reads = judges_read ended digests are made judges reads
   judges_given (before_rule.Unpaired finding) digests are (judged.Cases cases) judges reads = absurd judges
   judges_given (before_rule.Unpaired finding) digests are (judged.Refused answer) judges reads = judges_unpaired finding digests are answer judges reads
+
+  -- by the digest of each
+  pub judges_digested : (given : DayBeforeRule) (digests : LogDigests) → ((bytes : List ℕ) → (r.after Orders).gave bytes ≡ true → digests.orders ≡ digest_of bytes) → ((bytes : List ℕ) → (r.after Trades).gave bytes ≡ true → digests.trades ≡ digest_of bytes)
+      → (made : FilingOutcome) → JudgesGiven request.label the_rule digests given made → AreRead given → ReadsJudged r request made
+  judges_digested given digests first second made judges reads = judges_given given digests (digests_of_both r digests first second) made judges reads
 
   -- the same of logs that were not read into records
   pub judges_without : (why : NoRecords) (result : Result FilingOutcome Halt) → JudgesWithout why result → IsUnreadOfTwoLogs r orders trades why → JudgesLogs r request result

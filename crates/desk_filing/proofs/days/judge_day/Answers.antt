@@ -1,10 +1,10 @@
-use Rattle.desk_filing.proofs.DayLemmas.{ends_without_at, judges_given, judges_without, digests_of_both}
+use Rattle.desk_filing.proofs.DayLemmas.{ends_without_at, judges_digested, judges_without}
 use Rattle.desk_filing.proofs.days.judge_day.Goals as goal
 
 pub returns-in_ok-judged_logs-in-Ok-clause-judges : goal.returns-in_ok-judged_logs-in-Ok-clause-judges
 returns-in_ok-judged_logs-in-Ok-clause-judges g c =
-    judges_given _ c.args.request.now c.args.orders.now c.args.trades.now c.requires.names c.args.rule c.requires.asked c.in-Ok.given _
-    (digests_of_both _ _ c.digest.ensures c.digest-in-Ok.ensures)
+    judges_digested _ c.args.request.now c.args.orders.now c.args.trades.now c.requires.names c.args.rule c.requires.asked c.in-Ok.given _
+    c.digest.ensures c.digest-in-Ok.ensures
     _ c.in_ok-judged_logs-in-Ok.ensures (rw (c.whole.ensures, c.of.ensures) at c.in-Ok.ensures.decides)
 
 pub returns-in-Err-clause-judges : goal.returns-in-Err-clause-judges
