@@ -1,5 +1,5 @@
 //! The call that files or checks, and the close of the database after it.
-ghost use Rattle.std.specs.Prelude.{map};
+ghost use Rattle.std.specs.Prelude.{◌≡◌, map};
 ghost use Rattle.std.specs.String.{string_bytes};
 ghost use Rattle.digest_database_files.specs.ClosedFilings.{FilesThenCloses};
 
