@@ -7,8 +7,7 @@ use super::terms::{Life, Side};
 /// An order of a history: a new order or a replacement.
 /// A list of these is an order list where their places rise strictly, there are fewer than 2^32,
 /// and each target is a lower index of the same side.
-// The fields are laid out by their sizes after the key, so that none of an order's bytes is a gap,
-// and what the audits read of an order, which is all but its key, lies together.
+// The small fields stand together after the key, so that few of an order's bytes are gaps.
 #[derive(Clone, Copy, Debug, PartialEq, Eq)]
 pub struct Order {
     pub key: Key,

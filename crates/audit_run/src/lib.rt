@@ -4,7 +4,7 @@
 //! of the command (`commands`) and hands it to `command_run`, which writes it, or one line, and
 //! says what follows for every command (`program` and `given_logs` say what the auditor's are).
 //! `audit` is the verdict on two logs (`log_verdict`);
-//! `judged_answers`, `verifying` (with `certificate_log`) and `sessions` go their own way from
+//! `judged_answers`, `verifying` and `sessions` go their own way from
 //! what is known of two logs before the rule is looked at; `expecting`, `converting` and
 //! `generating` are the commands that write logs. The contract of `run` is the claim of the
 //! project, composed from the contracts of the crates below; `laws` has what one call makes of
@@ -14,7 +14,6 @@
 //! is: `requests` (the words), `decoding` and `judging`.
 #![tactic(auto)]
 
-mod certificate_log;
 mod commands;
 mod converting;
 pub mod corollaries;

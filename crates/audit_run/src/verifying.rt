@@ -15,7 +15,6 @@ ghost use Rattle.log_verdict.specs.Collecting.{TouchesOnly};
 ghost use Rattle.log_verdict.specs.Steps.{reading_by, reading_within, KeepsShelfLogs, FaultsNeverFall};
 ghost use Rattle.record_verdict.specs.BeforeRule.{AreResolvedTradesInRange, IsJudgeable};
 
-use super::certificate_log::take_certificate;
 use super::given_logs::GivenBeforeRule;
 use super::program::Auditor;
 use audit_base::faults::NoMemory;
@@ -28,6 +27,7 @@ use audit_report::statuses::Status;
 use command_run::answers::{Answer, answer_without, done_answer, finding_answer, unread_answer};
 use command_run::laws::{both_logs_decide, read_logs_decide};
 use log_source::shelf::Shelf;
+use log_source::take::take_log;
 use log_verdict::both_logs::read_both;
 use log_verdict::reading::ReadingFault;
 use log_verdict::sources::Source;
@@ -123,7 +123,7 @@ fn answer_certificate<F: Shelf>(
     ensures within { StaysWithinAt (reading_within limit F.Shelf shelf.old shelf.new)
         Which.Trades result }
 {
-    match take_certificate(alloc, shelf, name, limit) {
+    match take_log(alloc, shelf, Which::Trades, name, limit) {
         Ok(certificate) => Ok(verify_answer(alloc, symbol, given, &certificate)?),
         Err(fault) => unread_answer(alloc, Which::Trades, ReadingFault::from(fault)),
     }

@@ -21,7 +21,7 @@ use Rattle.day_symbols.proofs.SymbolLemmas.{is-same}
 use Rattle.day_records.specs.DayOrders.{HasHistory, HaveHistories, order_symbols}
 use Rattle.day_records.proofs.DayOrderLemmas.{empty-history}
 use Rattle.day_records.specs.KeptOrders.{KeptEntries}
-use Rattle.day_records.specs.KeptTrades.{KeptDeals, with_trade}
+use Rattle.day_records.specs.KeptTrades.{KeptTradeList, with_trade}
 use Rattle.day_records.proofs.NumberedLemmas.{left-more, left-same, none-left}
 use Rattle.day_records.specs.declared.kept_records.KeptRecords.{KeptRecords}
 use Rattle.day_records.specs.DayTrades.{AreBegun, HaveKeptRecords}
@@ -58,11 +58,11 @@ begun-more orders kept own one are begun = record {
     ]
 
 -- the symbol with these trades
-abbrev kept_with : List ℕ → List (ℕ × TradeRecord) → KeptDeals
+abbrev kept_with : List ℕ → List (ℕ × TradeRecord) → KeptTradeList
 kept_with symbol trades = record { symbol = symbol; trades = trades }
 
 -- of a log without trades nothing is kept of a symbol
-none-kept : (symbol : List ℕ) (kept : KeptDeals) → kept ≡ kept_with symbol [] → HasSymbolTrades [] symbol kept
+none-kept : (symbol : List ℕ) (kept : KeptTradeList) → kept ≡ kept_with symbol [] → HasSymbolTrades [] symbol kept
 unfolding trades_of_symbol
 none-kept symbol kept is = is
 
@@ -131,7 +131,7 @@ own-more : (entries : List OrderRecord) (trades : List TradeRecord) (x : TradeRe
     → HasKeptRecords entries trades x.symbol was → HasKeptRecords entries (trades ++ x ∷ []) x.symbol now
 own-more entries trades x was now place at takes is = record {
   orders_are = takes.orders_are ∙ is.orders_are;
-  trades_are = takes.trades_are ∙ ap (λ (kept : KeptDeals). with_trade kept place x) is.trades_are ∙ ap (kept_with x.symbol) (own-trades trades x place at);
+  trades_are = takes.trades_are ∙ ap (λ (kept : KeptTradeList). with_trade kept place x) is.trades_are ∙ ap (kept_with x.symbol) (own-trades trades x place at);
 }
 
 -- a symbol that no record has is kept with its records where it is kept without any
@@ -186,7 +186,7 @@ met-inside share own_share old room entries trades x symbols new index place sha
 pub is-own : (share : DayShare) (entries : List OrderRecord) (trades : List TradeRecord) (x : TradeRecord) (room : List KeptRecords) (index place : ℕ) (was : KeptRecords)
     → IsTradeMet share entries trades x room index place → slice_get room place ≡ Some was → x.symbol ≡ was.trades.symbol
 is-own share entries trades x room index place was met there =
-    sym (ap (λ (kept : KeptDeals). kept.symbol) (met.places.each index x.symbol was met.inside met.got (ap (slice_get room) (sym met.at) ∙ there)).trades_are)
+    sym (ap (λ (kept : KeptTradeList). kept.symbol) (met.places.each index x.symbol was met.inside met.got (ap (slice_get room) (sym met.at) ∙ there)).trades_are)
 
 -- it has taken the trade
 pub has-taken : (share : DayShare) (entries : List OrderRecord) (trades : List TradeRecord) (x : TradeRecord) (room : List KeptRecords) (index place number : ℕ) (was now : KeptRecords)

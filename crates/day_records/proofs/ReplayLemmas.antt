@@ -15,7 +15,7 @@ use Rattle.instruction_history.specs.Draft.{IsHistoryKnown}
 use Rattle.instruction_history.specs.Flaws.{flaw_finding}
 use Rattle.instruction_history.specs.HistoryOrFlaw.{ForRecords, HasFewRecords, IsHistoryOrFlaw, TakesOwnRecord}
 use Rattle.day_records.specs.KeptOrders.{KeptEntries}
-use Rattle.day_records.specs.KeptTrades.{KeptDeals}
+use Rattle.day_records.specs.KeptTrades.{KeptTradeList}
 use Rattle.day_records.proofs.NumberedLemmas.{comes-last, comes-within}
 use Rattle.matching_core.specs.declared.deals_or_flaw.DealsOrFlaw.{DealsOrFlaw}
 use Rattle.matching_core.specs.DealsSoFar.{AreTradesKnown, IsDealsOrFlaw}
@@ -112,9 +112,9 @@ times-next listed i one old new got takes so_far =
 
 -- Both.
 
-pub gives : (admission : Admission) (own : KeptRecords) (orders : KeptEntries) (trades : KeptDeals) (known : HistoryOrFlaw) (first last : SymbolDuringTrades) → orders ≡ own.orders → trades ≡ own.trades
+pub gives : (admission : Admission) (own : KeptRecords) (orders : KeptEntries) (trades : KeptTradeList) (known : HistoryOrFlaw) (first last : SymbolDuringTrades) → orders ≡ own.orders → trades ≡ own.trades
     → KnowsHistory orders.entries known → ForRecords known (λ symbol entries. IsSymbolDuringTrades admission entries [] symbol first) → KnowsTrades trades.trades first last → GivesSymbolDuringTrades admission own last
 gives admission own orders trades known first last orders_are trades_are history_known begins trades_known = λ entries all symbol has.
     trades_known admission entries symbol
     (begins symbol entries (history_known symbol entries (sym (ap (λ (e : KeptEntries). e.entries) (orders_are ∙ has.orders_are)))))
-    all (sym (ap (λ (t : KeptDeals). t.trades) (trades_are ∙ has.trades_are)))
+    all (sym (ap (λ (t : KeptTradeList). t.trades) (trades_are ∙ has.trades_are)))

@@ -9,14 +9,14 @@ use Rattle.day_records.specs.DayOrders.{HasHistory, IsEmptyOf}
 use Rattle.instruction_history.specs.declared.history_or_flaw.HistoryOrFlaw.{HistoryOrFlaw}
 use Rattle.instruction_history.specs.HistoryOrFlaw.{IsHistoryOrFlaw}
 use Rattle.day_records.specs.KeptOrders.{KeptEntries}
-use Rattle.day_records.specs.KeptTrades.{KeptDeals, with_trade}
+use Rattle.day_records.specs.KeptTrades.{KeptTradeList, with_trade}
 use Rattle.record_verdict.specs.declared.scopes.Admission.{Admission}
 use Rattle.day_records.specs.declared.kept_records.KeptRecords.{KeptRecords}
 use Rattle.day_records.specs.declared.symbol_during_trades.SymbolDuringTrades.{SymbolDuringTrades}
 use Rattle.day_records.specs.SymbolDuringTrades.{IsSymbolDuringTrades}
 
 -- the symbol is kept with its trades among these, with their places in the log
-abbrev pub HasSymbolTrades : List TradeRecord → List ℕ → KeptDeals → Type 0
+abbrev pub HasSymbolTrades : List TradeRecord → List ℕ → KeptTradeList → Type 0
 HasSymbolTrades trades symbol kept =
     kept ≡ record { symbol = symbol; trades = trades_of_symbol symbol trades }
 
@@ -27,7 +27,7 @@ pub record HasKeptRecords (entries : List OrderRecord) (trades : List TradeRecor
   pub trades_are : HasSymbolTrades trades symbol kept.trades
 
 -- the symbol is kept without any trade
-abbrev pub HasNoTrades : List ℕ → KeptDeals → Type 0
+abbrev pub HasNoTrades : List ℕ → KeptTradeList → Type 0
 HasNoTrades symbol kept = kept ≡ record { symbol = symbol; trades = [] }
 
 -- these orders are kept, and no trade of their symbol

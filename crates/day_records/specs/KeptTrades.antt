@@ -70,11 +70,11 @@ abbrev pub trades_of : List ℕ → List ℕ → List KeptTrade → List (ℕ ×
 trades_of symbol bytes trades = map (λ kept. (kept.place, trade_of symbol bytes kept)) trades
 
 -- A symbol, and its trades with their places.
-pub record KeptDeals : Type 0 where
+pub record KeptTradeList : Type 0 where
   pub symbol : List ℕ
   pub trades : List (ℕ × TradeRecord)
 
 -- the same with one trade more
-abbrev pub with_trade : KeptDeals → ℕ → TradeRecord → KeptDeals
+abbrev pub with_trade : KeptTradeList → ℕ → TradeRecord → KeptTradeList
 with_trade kept place trade =
     record { symbol = kept.symbol; trades = kept.trades ++ (place, trade) ∷ [] }

@@ -135,9 +135,9 @@ pub struct KeptTrades {
 }
 
 impl Model for KeptTrades {
-    ghost use Rattle.day_records.specs.KeptTrades.{KeptDeals, trades_of, AreTradesInside};
+    ghost use Rattle.day_records.specs.KeptTrades.{KeptTradeList, trades_of, AreTradesInside};
 
-    ghost Value = { KeptDeals };
+    ghost Value = { KeptTradeList };
 
     ghost view = { λ kept. record {
       symbol = kept.symbol;

@@ -12,7 +12,7 @@ use Rattle.day_records.specs.declared.day_trades.DayRecords.{DayRecords}
 use Rattle.day_records.specs.declared.kept_records.KeptRecords.{KeptRecords}
 use Rattle.day_records.specs.declared.symbol_during_trades.SymbolDuringTrades.{SymbolDuringTrades}
 use Rattle.day_records.specs.DayTrades.{HasTradesOf}
-use Rattle.day_records.specs.KeptTrades.{KeptDeals}
+use Rattle.day_records.specs.KeptTrades.{KeptTradeList}
 use Rattle.day_records.specs.KeptRecords.{GivesSymbolDuringTrades, HasFewKeptRecords, HasKeptRecords, times_if}
 use Rattle.day_records.specs.SymbolDuringTrades.{GivesBeforeRule, HasFewOfSymbol, IsSymbolDuringTrades}
 use Rattle.day_verdicts.specs.SymbolWalks.{HasJudgedShare, HasJudgedUpTo, IsGivenOf, IsNext, JudgesNext, TradesFitPlaces}
@@ -79,7 +79,7 @@ module _ {share : DayShare} {admission : Admission} {ended : DayRecords} {n : �
     given-of : (entries : List OrderRecord) (trades : List TradeRecord) → HasTradesOf share admission entries ended trades → IsGivenOf admission asked symbol given times entries trades
     given-of entries trades has = record {
       before = ends admission entries trades symbol (own-trades symbol_trades gives entries trades has) has.count;
-      times_are = times_are ∙ ap (λ (kept : KeptDeals). times_if asked kept.trades) (own-records entries trades has).trades_are;
+      times_are = times_are ∙ ap (λ (kept : KeptTradeList). times_if asked kept.trades) (own-records entries trades has).trades_are;
     }
 
     module _ {K : Type 0} (has_judged : K → K → List OrderRecord → List TradeRecord → List (List ℕ) → Type 0) (first old : K) (is : HasJudgedUpTo admission (has_judged first) share ended n old) where

@@ -1,7 +1,7 @@
 //! What is known of a history after some of its records, record by record.
 //!
-//! Nothing is kept of an order but its `cancelled`. A replacement that is not placed has its own
-//! place there from the start.
+//! Of an order everything is kept but its key, which the numbering of the keys has. A replacement
+//! that is not placed has its own place as `cancelled` from the start.
 ghost use Rattle.std.specs.Prelude.{◌≡◌, ◌<◌, ◌^◌, [], ◌∷◌, ◌++◌, List, vec_len, length, IfSome, IfOk, OnOk, Some};
 ghost use Rattle.std.specs.Option.{ForSome};
 ghost use Rattle.audit_base.specs.Histories.{key_of};

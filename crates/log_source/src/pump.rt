@@ -9,9 +9,9 @@ use crate::shelf::Shelf;
 use crate::take::TakeFault;
 use audit_base::terms::Which;
 
-/// The bytes of one read, 1 MiB: few enough to stay near the processor, and enough that what a read
-/// and a piece cost a feed is small beside their bytes.
-const PIECE: usize = 1_048_576;
+/// The bytes of one read, 128 KiB: few enough for a small stack, where they lie, and for the caches
+/// of a processor, and enough that what a read and a piece cost a feed is small beside their bytes.
+const PIECE: usize = 131_072;
 
 /// Hands the log of this name to the feed, piece by piece up to its end. `limit` is the greatest
 /// number of bytes that the log may have, `LONGEST_READ` at most. The causes of failure are those

@@ -1,5 +1,5 @@
 //! Taking a whole log into memory.
-ghost use Rattle.std.specs.Prelude.{◌≡◌, ◌≤◌, IfOk, vec_len};
+ghost use Rattle.std.specs.Prelude.{◌≡◌, ◌≤◌, IfOk, true, vec_len};
 ghost use Rattle.log_source.specs.Sources.{ChangesOneSlot, longest_read};
 ghost use Rattle.log_source.specs.Taking.{IsWholeLog, Takes};
 
@@ -88,6 +88,7 @@ pub fn take_log<F: Shelf>(
     ensures only { ChangesOneSlot F.tells F.log_of F.slot which shelf.old shelf.new }
     ensures slot { Takes F.Shelf which name.now limit shelf.old shelf.new result }
     ensures taken { IfOk result (λ log. (F.slot shelf.new which).taken ≡ vec_len log) }
+    ensures given { IfOk result (λ log. (F.slot shelf.new which).gave log.items ≡ true) }
     ensures within { IfOk result (λ log. vec_len log ≤ limit) }
     ensures whole { IfOk result (λ log. IsWholeLog F.Shelf which name.now shelf.old log.items) }
 {

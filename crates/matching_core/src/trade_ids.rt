@@ -1,4 +1,4 @@
-//! The ids of the trades so far, and where each of them came first.
+//! The ids of the trades so far, and where each of them was added last.
 //!
 //! Ids that rise are kept in a row without a map; an id that is not greater than all of these is
 //! looked up among them, and kept in a map.
@@ -13,7 +13,7 @@ use audit_base::names::Name;
 use seeded_hash::seed::HashSeed;
 use std::alloc::Global;
 
-/// For each trade id the place of its first trade.
+/// For each trade id the place of the trade that was added last with it.
 #[derive(Drop)]
 pub(crate) struct TradeIds {
     rising: RisingIds,

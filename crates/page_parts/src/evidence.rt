@@ -16,7 +16,7 @@ use page_markup::markup::Markup;
 use page_markup::words::Tag;
 use std::alloc::Global;
 
-/// The columns of the table; the last one is there where something is due.
+/// The columns of the table where nothing is due.
 const COLUMNS: [TableColumn; 10] = [
     TableColumn::Role,
     TableColumn::Mark,

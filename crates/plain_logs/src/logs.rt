@@ -27,8 +27,8 @@ pub struct DaySource<'a> {
     pub limit: u64,
 }
 
-/// The bytes of one read, 1 MiB, as where a log is handed to a feed.
-const PIECE: usize = 1_048_576;
+/// The bytes of one read, 128 KiB, as where a log is handed to a feed.
+const PIECE: usize = 131_072;
 
 /// Hands a piece to the feed, and writes the text that it gives. That text comes back, for its
 /// memory.
@@ -125,7 +125,7 @@ fn write_day<D: DayFeed, F: Shelf, K: Sink>(
 /// slot is as it was.
 ///
 /// No more is held than the bytes of a message that isn't all there and the text of two pieces of
-/// 1 MiB.
+/// 128 KiB.
 pub fn write_framed<F: Shelf, K: Sink>(
     alloc: Global,
     shelf: &mut F,

@@ -7,9 +7,9 @@ use Rattle.log_source.specs.declared.shelf.Shelf.{Ghosts as Shelf}
 
 -- Under each path the shelf has the file that is there, and they are known where the files are.
 -- No log is started in it, and no fault counted.
-pub record IsFreshOver {S : Type 0} (shelf : Shelf S) (known_words : Bool)
+pub record IsFreshOver {S : Type 0} (shelf : Shelf S) (known_files : Bool)
     (file_at : List ℕ → Option (List ℕ)) (fresh : S) : Type 0 where
-  pub tells : shelf.tells fresh ≡ known_words
+  pub tells : shelf.tells fresh ≡ known_files
   pub files : (which : Which) (path : List ℕ) → shelf.log_of fresh which path ≡ file_at path
   pub slots : (which : Which) → shelf.slot fresh which ≡ fresh_slot None
 
@@ -27,8 +27,8 @@ pub record RunEnds (S : Type 0) : Type 0 where
 -- the output holds
 abbrev pub BeginsOver : {S : Type 0} → Shelf S → Bool → (List ℕ → Option (List ℕ))
     → Option (List ℕ) → RunEnds S → Type 0
-BeginsOver shelf known_words file_at held ends =
-    IsFreshOver shelf known_words file_at ends.shelf × (ends.sink ≡ fresh_sink held)
+BeginsOver shelf known_files file_at held ends =
+    IsFreshOver shelf known_files file_at ends.shelf × (ends.sink ≡ fresh_sink held)
 
 -- such a shelf and such a sink over files and an output of which nothing is known, as those of
 -- the runtime

@@ -6,7 +6,7 @@ use Rattle.audit_base.specs.declared.records.TradeRecord.{TradeRecord}
 use Rattle.audit_base.specs.Histories.{symbol_of}
 use Rattle.audit_base.specs.Orders.{same_name}
 use Rattle.day_records.specs.KeptOrders.{KeptEntries}
-use Rattle.day_records.specs.KeptTrades.{KeptDeals}
+use Rattle.day_records.specs.KeptTrades.{KeptTradeList}
 use Rattle.symbol_offences.specs.declared.order_log.OrdersOfSymbol.{OrdersOfSymbol}
 use Rattle.symbol_offences.specs.declared.questions.KeepingOptions.{KeepingOptions}
 use Rattle.symbol_offences.specs.declared.trade_log.TradesOfSymbol.{TradesOfSymbol}
@@ -96,4 +96,4 @@ module _ {Q : Type 0} (symbol : List ℕ) (keeping : KeepingOptions) (old new : 
 pub own-trade_symbol : {Q : Type 0} (symbol : List ℕ) (keeping : KeepingOptions) (old : TradesOfSymbol Q) (trades : List TradeRecord) (trade : TradeRecord) → IsTradesOfSymbol symbol keeping old trades
     → same_name trade.symbol old.symbol ≡ true → trade.symbol ≡ old.records.symbol
 own-trade_symbol symbol keeping old trades trade has same =
-    same-text trade.symbol old.symbol same ∙ has.named ∙ sym (ap (λ (k : KeptDeals). k.symbol) has.records_are)
+    same-text trade.symbol old.symbol same ∙ has.named ∙ sym (ap (λ (k : KeptTradeList). k.symbol) has.records_are)

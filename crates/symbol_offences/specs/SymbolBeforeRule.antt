@@ -8,7 +8,7 @@ use Rattle.audit_base.specs.Trades.{trades_of_symbol}
 use Rattle.audit_base.specs.Verdicts.{paired_trades}
 use Rattle.further_checks.specs.FurtherRules.{times_of_symbol}
 use Rattle.day_records.specs.KeptOrders.{KeptEntries}
-use Rattle.day_records.specs.KeptTrades.{KeptDeals}
+use Rattle.day_records.specs.KeptTrades.{KeptTradeList}
 use Rattle.matching_core.specs.declared.deals_draft.ResolvedTrades.{ResolvedTrades}
 use Rattle.record_verdict.specs.declared.before_rule.BeforeRule.TheVariants as before_rule
 use Rattle.record_verdict.specs.declared.scopes.Scope.{Scope}
@@ -24,7 +24,7 @@ kept_history keeps symbol entries =
     record { symbol = symbol; entries = kept_if keeps (history symbol entries) }
 
 -- the trades of a symbol among these, each with its place, where they are kept
-abbrev pub kept_trades : Bool → List ℕ → List TradeRecord → KeptDeals
+abbrev pub kept_trades : Bool → List ℕ → List TradeRecord → KeptTradeList
 kept_trades keeps symbol trades =
     record { symbol = symbol; trades = kept_if keeps (trades_of_symbol symbol trades) }
 

@@ -5,7 +5,7 @@ use Rattle.audit_base.specs.declared.findings.Finding.{Finding}
 use Rattle.audit_base.specs.declared.records.OrderRecord.{OrderRecord}
 use Rattle.audit_base.specs.declared.records.TradeRecord.{TradeRecord}
 use Rattle.further_checks.specs.FurtherRules.{times_of_symbol}
-use Rattle.day_records.specs.KeptTrades.{KeptDeals, with_trade}
+use Rattle.day_records.specs.KeptTrades.{KeptTradeList, with_trade}
 use Rattle.log_verdict.specs.declared.both_logs.LogsBeforeRule.{LogsBeforeRule}
 use Rattle.log_verdict.specs.BothLogs.{AreLogsBeforeRule}
 use Rattle.record_verdict.specs.declared.scopes.Scope.{Scope}
@@ -28,7 +28,7 @@ pub record IsTradesOfSymbol {Q : Type 0} (symbol : List ℕ) (keeping : KeepingO
   pub records_are : kept.records ≡ kept_trades keeping.records symbol trades
 
 -- one trade more is kept, where records are
-abbrev pub with_trade_if : Bool → KeptDeals → ℕ → TradeRecord → KeptDeals
+abbrev pub with_trade_if : Bool → KeptTradeList → ℕ → TradeRecord → KeptTradeList
 with_trade_if keeps kept place trade = if keeps then with_trade kept place trade else kept
 
 -- one time more is kept, where times are
