@@ -1,5 +1,6 @@
 -- The words and the text of the further findings, as those of the others.
 use Rattle.std.specs.Prelude.{ℕ, List, [], ◌∷◌, ◌++◌, codes, decimal}
+use Rattle.audit_base.specs.declared.findings.OrderLine.{OrderLine}
 use Rattle.audit_base.specs.declared.terms.Which.TheVariants as which
 use Rattle.audit_report.specs.Lines.{line_text, log_word, order_line}
 use Rattle.further_checks.specs.declared.findings.FurtherFinding.{FurtherFinding}
@@ -14,6 +15,11 @@ further_word (TradeTime place order) = codes "trade-time"
 abbrev pub further_place : FurtherFinding → ℕ
 further_place (RestingPrice place resting incoming) = place
 further_place (TradeTime place order) = place
+
+-- the order that is shown first
+abbrev pub further_first : FurtherFinding → OrderLine
+further_first (RestingPrice place resting incoming) = resting
+further_first (TradeTime place order) = order
 
 -- the lines of the orders that are shown
 abbrev pub further_shown_text : FurtherFinding → List ℕ

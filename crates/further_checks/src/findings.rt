@@ -1,7 +1,7 @@
 //! What the further checks tell.
 ghost use Rattle.std.specs.Prelude.{◌≡◌};
 ghost use Rattle.further_checks.specs.FurtherRules.{asks_further, no_checks};
-ghost use Rattle.further_checks.specs.FurtherTexts.{further_place, further_word};
+ghost use Rattle.further_checks.specs.FurtherTexts.{further_first, further_place, further_word};
 
 use audit_base::findings::OrderLine;
 
@@ -59,6 +59,16 @@ impl FurtherFinding {
         match self {
             FurtherFinding::RestingPrice { .. } => b"resting-price",
             FurtherFinding::TradeTime { .. } => b"trade-time",
+        }
+    }
+
+    /// The order that is shown first: the resting order, or the one whose record is the later.
+    pub fn first_order(&self) -> OrderLine
+        ensures { result ≡ further_first self.now }
+    {
+        match self {
+            FurtherFinding::RestingPrice { resting, .. } => *resting,
+            FurtherFinding::TradeTime { order, .. } => *order,
         }
     }
 
