@@ -2,4 +2,3 @@ pub mod ListLemmas
 pub mod KindLemmas
 pub mod PlaceLemmas
 mod FirstLemmas
-mod TextLemmas

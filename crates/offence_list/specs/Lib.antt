@@ -6,4 +6,3 @@ pub mod ContinuousLists
 pub mod Offences
 pub mod Laws
 pub mod OffenceTexts
-pub mod TextLaws

@@ -2,11 +2,11 @@
 //! a call are those of its kind, and how they are written.
 //!
 //! Here: `offences` has what an offence is, and `kinds` what a first finding is of; `offence_lines`
-//! writes a line for each, and how many there are. The lists are made by the crates above.
+//! writes the line of one, and that of how many there are. Lists are made by the crates above.
 //!
 //! Proved: the definitions are the findings of the rules, asked of each deal, or of each place of
 //! continuous trading; the list begins with the finding of the verdict and is empty where the log
-//! is accepted (`laws`); each text is exactly that of its list (`text_laws`).
+//! is accepted (`laws`); each line is exactly that of its finding.
 #![tactic(auto)]
 
 pub mod answers;
@@ -14,4 +14,3 @@ pub mod kinds;
 pub mod laws;
 pub mod offence_lines;
 pub mod offences;
-pub mod text_laws;
