@@ -4,7 +4,7 @@ use Rattle.std.specs.Prelude.{IsTrue, ◌&&◌, ◌||◌, IfErr, IfOk, IfSome, l
 use Rattle.std.specs.Char.{is_ascii_graphic}
 use Rattle.std.specs.Io.{StartsWith}
 use Rattle.std.specs.Io.KnownBytes.{Appends}
-use Rattle.std.specs.List.{list_all, starts_with}
+use Rattle.std.specs.List.{flat_map, list_all, starts_with}
 use Rattle.std.proofs.KnownBytes.{Appends-nil, Appends-trans}
 use Rattle.std.proofs.lemmas.Grind.{flat_map-append}
 use Rattle.std.proofs.lemmas.List.{take_at}
@@ -22,6 +22,7 @@ use Rattle.command_run.specs.Runs.{AnswersCommand, IsAnswerToReadLogs, IsEarlyTe
 use Rattle.command_run.specs.VerdictAnswers.{IsAnswerWith}
 use Rattle.command_run.specs.Writing.{AnswersStop, AnswersText, HasWritten}
 use Rattle.desk_words.specs.DressWords.{HasSohWord}
+use Rattle.desk_words.specs.declared.dress_words.BadMessages.{BadMessages}
 use Rattle.desk_words.specs.declared.dress_words.DayDress.{DayDress}
 use Rattle.desk_words.specs.declared.dress_words.DayDress.TheVariants.{OnLines}
 use Rattle.desk_words.specs.declared.requests.DeskRequest.{DeskRequest}
@@ -29,7 +30,6 @@ use Rattle.desk_words.specs.declared.requests.DeskRequest.TheVariants.{Early, Wh
 use Rattle.desk_words.specs.declared.requests.EarlyRequest.TheVariants.{Orders as GeneratedOrders, Plain}
 use Rattle.fix_days.specs.declared.faults.BadMessage.{BadMessage}
 use Rattle.fix_days.specs.Fronts.{BeginsReadings}
-use Rattle.fix_days.specs.Laws.{written_line}
 use Rattle.fix_days.specs.Lines.{is_graphic, is_soh_text}
 use Rattle.log_source.specs.declared.shelf.Shelf.{Ghosts as Shelf}
 use Rattle.log_source.specs.declared.take.TakeFault.{TakeFault}
@@ -45,9 +45,8 @@ use Rattle.plain_logs.specs.declared.day_ends.DayEnd.{DayEnd}
 use Rattle.plain_logs.specs.declared.day_ends.PlainFault.{PlainFault}
 use Rattle.plain_logs.specs.declared.day_ends.PlainFault.TheVariants as plain
 use Rattle.plain_logs.specs.PlainLogs.{ReadsFrontOf, StopsWriting, TakesUpTo, WritesUpToEnd}
-use Rattle.plain_logs.specs.PlainTexts.{plain_text}
 use Rattle.desk_run.specs.Digesting.{stop_of_take}
-use Rattle.desk_run.specs.PlainAnswers.{bad_line, day_reading, IsPlainAnswer, plain_status, text_for_soh}
+use Rattle.desk_run.specs.PlainAnswers.{bad_line, day_reading, day_writes, IsPlainAnswer, plain_status, text_for_soh}
 use Rattle.desk_run.specs.PlainMessages.{WritesMessages, WritesMessagesOf, WritesOfFront, WritesUnfailing}
 use Rattle.desk_run.specs.PlainWriting.{FailsAt, WritesDay, WritesToEnd, WritesToStop, WritesWithin}
 use Rattle.desk_run.specs.Requests.{desk_command_of}
@@ -59,15 +58,15 @@ first-ends r orders trades Orders = orders
 first-ends r orders trades Trades = trades
 
 -- What is known of a log of the shelf, as of the order log of a call.
-module _ {F : Type 0} (shelves : Shelf F) (reads : List ℕ → List (List ℕ) → Option BadMessage → Type 0) (old new : F) (name : List ℕ) (sink_old sink_new : SinkState) where
+module _ {F : Type 0} (shelves : Shelf F) (writes : List ℕ → List ℕ) (reads : List ℕ → List (List ℕ) → Option BadMessage → Type 0) (old new : F) (name : List ℕ) (sink_old sink_new : SinkState) where
   abbrev r : Reading
   r = desk_reading shelves old new
 
   front-read : (front : List ℕ) (bodies : List (List ℕ)) → ReadsFrontOf shelves reads Orders name old new front bodies → ReadsFront r (step_of r Orders name) front
   front-read front bodies of = record { taken = of.taken; known = of.known }
 
-  pub writes-day : (result : Result DayEnd PlainFault) → TakesUpTo shelves Orders name longest_read old new result → IfOk result (WritesUpToEnd shelves reads Orders name longest_read old new sink_old sink_new)
-      → IfErr result (StopsWriting shelves reads Orders name old new sink_old sink_new) → WritesDay r reads name sink_old sink_new result
+  pub writes-day : (result : Result DayEnd PlainFault) → TakesUpTo shelves Orders name longest_read old new result → IfOk result (WritesUpToEnd shelves writes reads Orders name longest_read old new sink_old sink_new)
+      → IfErr result (StopsWriting shelves writes reads Orders name old new sink_old sink_new) → WritesDay r writes reads name sink_old sink_new result
   writes-day (Ok end) slot is stops = record {
     bytes = is.bytes;
     bodies = is.bodies;
@@ -93,7 +92,7 @@ module _ {F : Type 0} (shelves : Shelf F) (reads : List ℕ → List (List ℕ) 
   takes-later (Err (plain.Log why)) slot = slot.later
   takes-later (Err plain.Sink) slot = slot.later
 
-  pub writes-within : (result : Result DayEnd PlainFault) → TouchesOnly r Orders → TakesUpTo shelves Orders name longest_read old new result → IfOk result (WritesUpToEnd shelves reads Orders name longest_read old new sink_old sink_new)
+  pub writes-within : (result : Result DayEnd PlainFault) → TouchesOnly r Orders → TakesUpTo shelves Orders name longest_read old new result → IfOk result (WritesUpToEnd shelves writes reads Orders name longest_read old new sink_old sink_new)
       → WritesWithin r result
   writes-within (Ok end) only slot is = λ begins.
       first-ends r (subst (λ (n : ℕ). n ≤ longest_read) is.count is.within) (subst (λ (s : Slot). s.taken ≤ r.limit) (sym only.other) (begins Trades))
@@ -105,8 +104,8 @@ nothing-first : (log : Option (List ℕ)) → IfSome log (λ xs. StartsWith xs [
 nothing-first None = tt
 nothing-first (Some xs) = refl
 
-pub nothing-written : (r : Reading) (reads : List ℕ → List (List ℕ) → Option BadMessage → Type 0) (name : List ℕ) (sink : SinkState) → WritesDay r reads name sink sink (Err (plain.Log take.Memory))
-nothing-written r reads name sink = record {
+pub nothing-written : (r : Reading) (writes : List ℕ → List ℕ) (reads : List ℕ → List (List ℕ) → Option BadMessage → Type 0) (name : List ℕ) (sink : SinkState) → WritesDay r writes reads name sink sink (Err (plain.Log take.Memory))
+nothing-written r writes reads name sink = record {
   cause = tt;
   early = record {
     front = [];
@@ -132,18 +131,18 @@ module _ (r : Reading) (day : List ℕ) (dress : DayDress) (only : TouchesOnly r
   reaches = record { steps = []; logs = []; lead = (record { at = refl; later = only.later }, day-ends); read = refl; next = refl }
 
   -- what was written of a front begins every answer
-  begins-answer : (front : List ℕ) (bodies : List (List ℕ)) → BeginsReadings (day_reading dress) front bodies → BeginsEveryAnswer command [] front (plain_text bodies)
+  begins-answer : (front : List ℕ) (bodies : List (List ℕ)) → BeginsReadings (day_reading dress) front bodies → BeginsEveryAnswer command [] front (flat_map (day_writes dress) bodies)
   begins-answer front bodies begins more later status answer is =
-      let rest = begins more is.is.bodies is.bad is.is.read in
-      let text : answer ≡ plain_text bodies ++ (plain_text rest.0 ++ bad_line is.bad) =
-      is.answer.text_is ∙ ap (λ (t : List ℕ). t ++ bad_line is.bad) (is.is.text_is ∙ ap plain_text rest.1 ∙ flat_map-append written_line bodies rest.0)
-      ∙ append_assoc (plain_text bodies) (plain_text rest.0) (bad_line is.bad) in
-      subst (λ (t : List ℕ). StartsWith t (plain_text bodies)) (sym text) (take_at (plain_text bodies) (plain_text rest.0 ++ bad_line is.bad) (length (plain_text bodies)) refl)
+      let rest = begins more is.items is.bad is.read in
+      let text : answer ≡ flat_map (day_writes dress) bodies ++ (flat_map (day_writes dress) rest.0 ++ bad_line is.bad) =
+      is.answer.text_is ∙ ap (λ (t : List ℕ). t ++ bad_line is.bad) (ap (flat_map (day_writes dress)) rest.1 ∙ flat_map-append (day_writes dress) bodies rest.0)
+      ∙ append_assoc (flat_map (day_writes dress) bodies) (flat_map (day_writes dress) rest.0) (bad_line is.bad) in
+      subst (λ (t : List ℕ). StartsWith t (flat_map (day_writes dress) bodies)) (sym text) (take_at (flat_map (day_writes dress) bodies) (flat_map (day_writes dress) rest.0 ++ bad_line is.bad) (length (flat_map (day_writes dress) bodies)) refl)
 
-  early-at : (front : List ℕ) (bodies : List (List ℕ)) → ReadsFront r last front → BeginsReadings (day_reading dress) front bodies → IsEarlyAt r command [] last (plain_text bodies)
+  early-at : (front : List ℕ) (bodies : List (List ℕ)) → ReadsFront r last front → BeginsReadings (day_reading dress) front bodies → IsEarlyAt r command [] last (flat_map (day_writes dress) bodies)
   early-at front bodies read begins = record { front = front; read = read; begins = begins-answer front bodies begins }
 
-  early-text : (front : List ℕ) (bodies : List (List ℕ)) → ReadsFront r last front → BeginsReadings (day_reading dress) front bodies → IsEarlyText r command (plain_text bodies)
+  early-text : (front : List ℕ) (bodies : List (List ℕ)) → ReadsFront r last front → BeginsReadings (day_reading dress) front bodies → IsEarlyText r command (flat_map (day_writes dress) bodies)
   early-text front bodies read begins = inl (record { last = last; reads = reaches; early = early-at front bodies read begins })
 
   whole-front : (bytes : List ℕ) → IsRead r last bytes → ReadsFront r last bytes
@@ -162,21 +161,21 @@ module _ (r : Reading) (day : List ℕ) (dress : DayDress) (only : TouchesOnly r
   by-bad (Some bad) text is = is
 
   module _ (sink_old sink_new : SinkState) where
-    module _ (end : DayEnd) (is : WritesToEnd r (day_reading dress) day sink_old sink_new end) where
-      rest-of : (status : Status) (text : List ℕ) → IsAnswerWith (plain_status end.bad) (end.text.items ++ bad_line end.bad) status text → ReadingDecides r command status (plain_text is.bodies ++ text)
+    module _ (end : DayEnd) (is : WritesToEnd r (day_writes dress) (day_reading dress) day sink_old sink_new end) where
+      rest-of : (status : Status) (text : List ℕ) → IsAnswerWith (plain_status end.bad) (end.text.items ++ bad_line end.bad) status text → ReadingDecides r command status (flat_map (day_writes dress) is.bodies ++ text)
       rest-of status text answer =
-          let whole : plain_text is.bodies ++ text ≡ (plain_text is.bodies ++ end.text.items) ++ bad_line end.bad =
-          ap (λ (t : List ℕ). plain_text is.bodies ++ t) answer.text_is ∙ sym (append_assoc (plain_text is.bodies) end.text.items (bad_line end.bad)) in
-          let plain : plain_text is.bodies ++ end.text.items ≡ plain_text (is.bodies ++ is.ends.more) =
-          ap (λ (t : List ℕ). plain_text is.bodies ++ t) is.ends.text_is ∙ sym (flat_map-append written_line is.bodies is.ends.more) in
-          let says : IsPlainAnswer (day_reading dress is.bytes) (plain_status end.bad) (plain_text is.bodies ++ text) = record {
-            plain = plain_text is.bodies ++ end.text.items;
+          let whole : flat_map (day_writes dress) is.bodies ++ text ≡ (flat_map (day_writes dress) is.bodies ++ end.text.items) ++ bad_line end.bad =
+          ap (λ (t : List ℕ). flat_map (day_writes dress) is.bodies ++ t) answer.text_is ∙ sym (append_assoc (flat_map (day_writes dress) is.bodies) end.text.items (bad_line end.bad)) in
+          let plain : flat_map (day_writes dress) is.bodies ++ end.text.items ≡ flat_map (day_writes dress) (is.bodies ++ is.ends.more) =
+          ap (λ (t : List ℕ). flat_map (day_writes dress) is.bodies ++ t) is.ends.text_is ∙ sym (flat_map-append (day_writes dress) is.bodies is.ends.more) in
+          let says : IsPlainAnswer (day_writes dress) (day_reading dress is.bytes) (plain_status end.bad) (flat_map (day_writes dress) is.bodies ++ text) = record {
+            items = is.bodies ++ is.ends.more;
             bad = end.bad;
-            is = record { bodies = is.bodies ++ is.ends.more; read = is.ends.read; text_is = plain };
-            answer = record { status_is = refl; text_is = whole };
+            read = is.ends.read;
+            answer = record { status_is = refl; text_is = whole ∙ ap (λ (t : List ℕ). t ++ bad_line end.bad) plain };
           } in
-          subst (λ (s : Status). ReadingDecides r command s (plain_text is.bodies ++ text)) (sym answer.status_is)
-          (by-bad end.bad (plain_text is.bodies ++ text) (record {
+          subst (λ (s : Status). ReadingDecides r command s (flat_map (day_writes dress) is.bodies ++ text)) (sym answer.status_is)
+          (by-bad end.bad (flat_map (day_writes dress) is.bodies ++ text) (record {
             steps = last ∷ [];
             logs = is.bytes ∷ [];
             lead = reaches.lead;
@@ -185,35 +184,35 @@ module _ (r : Reading) (day : List ℕ) (dress : DayDress) (only : TouchesOnly r
             answer = says;
           }))
 
-      pub rest-at-end : (result : Result Answer Stop) → MatchResult result (IsAnswerOfKind (IsAnswerWith (plain_status end.bad) (end.text.items ++ bad_line end.bad))) (λ why. why ≡ stop.Memory) → DecidesRest r command (plain_text is.bodies) result
+      pub rest-at-end : (result : Result Answer Stop) → MatchResult result (IsAnswerOfKind (IsAnswerWith (plain_status end.bad) (end.text.items ++ bad_line end.bad))) (λ why. why ≡ stop.Memory) → DecidesRest r command (flat_map (day_writes dress) is.bodies) result
       rest-at-end (Ok answer) says = rest-of answer.status answer.text.items says
-      rest-at-end (Err why) says = subst (RestStops r command (plain_text is.bodies)) (sym says) (early-text is.bytes is.bodies (whole-front is.bytes is.read) is.begins)
+      rest-at-end (Err why) says = subst (RestStops r command (flat_map (day_writes dress) is.bodies)) (sym says) (early-text is.bytes is.bodies (whole-front is.bytes is.read) is.begins)
 
-      pub end-written : SinkStays sink_old sink_new → HasWritten sink_old sink_new (plain_text is.bodies)
+      pub end-written : SinkStays sink_old sink_new → HasWritten sink_old sink_new (flat_map (day_writes dress) is.bodies)
       end-written stays = record { stays = stays; wrote = is.wrote.wrote }
 
-    module _ (fault : TakeFault) (is : WritesToStop r (day_reading dress) day sink_old sink_new (IsLogStop r Orders day (stop_of_take Orders fault))) where
-      pub stop-written : SinkStays sink_old sink_new → HasWritten sink_old sink_new (plain_text is.early.bodies)
+    module _ (fault : TakeFault) (is : WritesToStop r (day_writes dress) (day_reading dress) day sink_old sink_new (IsLogStop r Orders day (stop_of_take Orders fault))) where
+      pub stop-written : SinkStays sink_old sink_new → HasWritten sink_old sink_new (flat_map (day_writes dress) is.early.bodies)
       stop-written stays = record { stays = stays; wrote = is.early.wrote.wrote }
 
-    pub rest-at-stop : (fault : TakeFault) (is : WritesToStop r (day_reading dress) day sink_old sink_new (IsLogStop r Orders day (stop_of_take Orders fault))) → RestStops r command (plain_text is.early.bodies) (stop_of_take Orders fault)
+    pub rest-at-stop : (fault : TakeFault) (is : WritesToStop r (day_writes dress) (day_reading dress) day sink_old sink_new (IsLogStop r Orders day (stop_of_take Orders fault))) → RestStops r command (flat_map (day_writes dress) is.early.bodies) (stop_of_take Orders fault)
     rest-at-stop take.Fault is = record {
       last = last;
       reads = reaches;
       cause = is.cause.1;
-      text_is = record { early = plain_text is.early.bodies; is_early = early-at is.early.front is.early.bodies is.early.read is.early.begins; text_is = refl };
+      text_is = record { early = flat_map (day_writes dress) is.early.bodies; is_early = early-at is.early.front is.early.bodies is.early.read is.early.begins; text_is = refl };
     }
     rest-at-stop take.TooLong is = record {
       last = last;
       reads = reaches;
       cause = is.cause.1;
-      text_is = record { early = plain_text is.early.bodies; is_early = early-at is.early.front is.early.bodies is.early.read is.early.begins; text_is = refl };
+      text_is = record { early = flat_map (day_writes dress) is.early.bodies; is_early = early-at is.early.front is.early.bodies is.early.read is.early.begins; text_is = refl };
     }
     rest-at-stop take.Memory is = early-text is.early.front is.early.bodies is.early.read is.early.begins
 
-    pub sink-failed : WritesOfFront r (day_reading dress) day (FailsAt sink_old sink_new) → AnswersCommand r command sink_old sink_new status.WriteFault
+    pub sink-failed : WritesOfFront r (day_writes dress) (day_reading dress) day (FailsAt sink_old sink_new) → AnswersCommand r command sink_old sink_new status.WriteFault
     sink-failed is = record {
-      text = plain_text is.bodies;
+      text = flat_map (day_writes dress) is.bodies;
       is = inr (early-text is.front is.bodies is.read is.begins);
       wrote = is.wrote.part;
       cause = is.wrote.cause;
@@ -234,9 +233,9 @@ three false b c other same e is = cc
 graphic : (text : List ℕ) → list_all is_ascii_graphic text ≡ list_all is_graphic text
 graphic text = refl
 
-pub soh-fits : (word : Option (List ℕ)) → HasSohWord (OnLines word) → IsTrue (is_soh_text (text_for_soh word))
-soh-fits None is = refl
-soh-fits (Some text) is =
+pub soh-fits : (word : Option (List ℕ)) (bad : BadMessages) → HasSohWord (OnLines word bad) → IsTrue (is_soh_text (text_for_soh word))
+soh-fits None bad is = refl
+soh-fits (Some text) bad is =
     three (nat_le 1 (length text)) (nat_le (length text) 5) (list_all is_ascii_graphic text) (list_all is_graphic text) (starts_with nat_eq (soh ∷ []) text) (graphic text) is
 
 -- what is said of both slots where the sink failed, or the day ended
@@ -250,61 +249,61 @@ stays-on a b c first second =
     record { tells = second.tells ∙ first.tells; sure = second.sure ∙ first.sure; later = omega (arith, early, late) }
 
 -- Where the day did not come to its end, whole messages were written.
-module _ (r : Reading) (reads : List ℕ → List (List ℕ) → Option BadMessage → Type 0) (name : List ℕ) (old mid new : SinkState) where
+module _ (r : Reading) (writes : List ℕ → List ℕ) (reads : List ℕ → List (List ℕ) → Option BadMessage → Type 0) (name : List ℕ) (old mid new : SinkState) where
   -- the line of a stop behind them
   abbrev Behind : List ℕ → Type 0
-  Behind line = WritesOfFront r reads name (λ text. Appends old.wrote new.wrote (text ++ line))
+  Behind line = WritesOfFront r writes reads name (λ text. Appends old.wrote new.wrote (text ++ line))
 
-  behind : (line : List ℕ) → Appends mid.wrote new.wrote line → WritesOfFront r reads name (WritesUnfailing old mid) → Behind line
+  behind : (line : List ℕ) → Appends mid.wrote new.wrote line → WritesOfFront r writes reads name (WritesUnfailing old mid) → Behind line
   behind line then early = record {
     front = early.front;
     bodies = early.bodies;
     read = early.read;
     begins = early.begins;
-    wrote = Appends-trans old.wrote mid.wrote new.wrote (plain_text early.bodies) line early.wrote.wrote then;
+    wrote = Appends-trans old.wrote mid.wrote new.wrote (flat_map writes early.bodies) line early.wrote.wrote then;
   }
 
   -- nothing behind them
-  same-sink : new ≡ mid → WritesOfFront r reads name (WritesUnfailing old mid) → WritesOfFront r reads name (WritesUnfailing old new)
-  same-sink same early = subst (λ (s : SinkState). WritesOfFront r reads name (WritesUnfailing old s)) (sym same) early
+  same-sink : new ≡ mid → WritesOfFront r writes reads name (WritesUnfailing old mid) → WritesOfFront r writes reads name (WritesUnfailing old new)
+  same-sink same early = subst (λ (s : SinkState). WritesOfFront r writes reads name (WritesUnfailing old s)) (sym same) early
 
-  fault-messages : (result : Status) → result ≡ status.WriteFault → WritesMessages r reads name old new result
-  fault-messages result is = subst (WritesMessages r reads name old new) (sym is) tt
+  fault-messages : (result : Status) → result ≡ status.WriteFault → WritesMessages r writes reads name old new result
+  fault-messages result is = subst (WritesMessages r writes reads name old new) (sym is) tt
 
-  line-messages : (the_status : Status) (line : List ℕ) (result : Status) → (Appends mid.wrote new.wrote line → WritesMessages r reads name old new the_status) → AnswersText mid new the_status line result → WritesMessages r reads name old new result
-  line-messages the_status line result gives (inl all) = subst (WritesMessages r reads name old new) (sym all.status_is) (gives all.wrote)
+  line-messages : (the_status : Status) (line : List ℕ) (result : Status) → (Appends mid.wrote new.wrote line → WritesMessages r writes reads name old new the_status) → AnswersText mid new the_status line result → WritesMessages r writes reads name old new result
+  line-messages the_status line result gives (inl all) = subst (WritesMessages r writes reads name old new) (sym all.status_is) (gives all.wrote)
   line-messages the_status line result gives (inr fault) = fault-messages result fault.status_is
 
-  stop-messages : (early : WritesOfFront r reads name (WritesUnfailing old mid)) (fault : TakeFault) (result : Status) → AnswersStop mid new (stop_of_take Orders fault) result → WritesMessages r reads name old new result
+  stop-messages : (early : WritesOfFront r writes reads name (WritesUnfailing old mid)) (fault : TakeFault) (result : Status) → AnswersStop mid new (stop_of_take Orders fault) result → WritesMessages r writes reads name old new result
   stop-messages early take.Fault result answers = line-messages status.ReadFault (read_fault_line Orders) result (λ wrote. behind (read_fault_line Orders) wrote early) answers
   stop-messages early take.TooLong result answers = line-messages status.TooLong (too_long_line Orders) result (λ wrote. behind (too_long_line Orders) wrote early) answers
-  stop-messages early take.Memory result answers = subst (WritesMessages r reads name old new) (sym answers.status_is) (same-sink answers.nothing early)
+  stop-messages early take.Memory result answers = subst (WritesMessages r writes reads name old new) (sym answers.status_is) (same-sink answers.nothing early)
 
-  pub stopped-messages : (fault : TakeFault) (stops : Type 0) (result : Status) → WritesToStop r reads name old mid stops → AnswersStop mid new (stop_of_take Orders fault) result → WritesMessages r reads name old new result
+  pub stopped-messages : (fault : TakeFault) (stops : Type 0) (result : Status) → WritesToStop r writes reads name old mid stops → AnswersStop mid new (stop_of_take Orders fault) result → WritesMessages r writes reads name old new result
   stopped-messages fault stops result is answers = stop-messages is.early fault result answers
 
   -- the end of the day, with or without a bad message
-  by-end : (bad : Option BadMessage) → WritesMessages r reads name old new (plain_status bad)
+  by-end : (bad : Option BadMessage) → WritesMessages r writes reads name old new (plain_status bad)
   by-end None = tt
   by-end (Some bad) = tt
 
-  end-messages : (end : DayEnd) (is : WritesToEnd r reads name old mid end) (front : ReadsFront r (step_of r Orders name) is.bytes) (decided : Result Answer Stop) (result : Status)
+  end-messages : (end : DayEnd) (is : WritesToEnd r writes reads name old mid end) (front : ReadsFront r (step_of r Orders name) is.bytes) (decided : Result Answer Stop) (result : Status)
       → MatchResult decided (IsAnswerOfKind (IsAnswerWith (plain_status end.bad) (end.text.items ++ bad_line end.bad))) (λ why. why ≡ stop.Memory)
-      → MatchResult decided (λ answer. AnswersText mid new answer.status answer.text.items result) (λ why. AnswersStop mid new why result) → WritesMessages r reads name old new result
+      → MatchResult decided (λ answer. AnswersText mid new answer.status answer.text.items result) (λ why. AnswersStop mid new why result) → WritesMessages r writes reads name old new result
   end-messages end is front (Ok answer) result says answers =
-      line-messages answer.status answer.text.items result (λ wrote. subst (WritesMessages r reads name old new) (sym says.status_is) (by-end end.bad)) answers
+      line-messages answer.status answer.text.items result (λ wrote. subst (WritesMessages r writes reads name old new) (sym says.status_is) (by-end end.bad)) answers
   end-messages end is front (Err why) result says answers =
       stop-messages (record { front = is.bytes; bodies = is.bodies; read = front; begins = is.begins; wrote = is.wrote }) take.Memory result (subst (λ (w : Stop). AnswersStop mid new w result) says answers)
 
 -- the same of a day that was read to its end
-pub ended-messages : (r : Reading) (day : List ℕ) (dress : DayDress) (only : TouchesOnly r Orders) (old mid new : SinkState) (end : DayEnd) (is : WritesToEnd r (day_reading dress) day old mid end) (decided : Result Answer Stop) (result : Status)
+pub ended-messages : (r : Reading) (day : List ℕ) (dress : DayDress) (only : TouchesOnly r Orders) (old mid new : SinkState) (end : DayEnd) (is : WritesToEnd r (day_writes dress) (day_reading dress) day old mid end) (decided : Result Answer Stop) (result : Status)
     → MatchResult decided (IsAnswerOfKind (IsAnswerWith (plain_status end.bad) (end.text.items ++ bad_line end.bad))) (λ why. why ≡ stop.Memory)
-    → MatchResult decided (λ answer. AnswersText mid new answer.status answer.text.items result) (λ why. AnswersStop mid new why result) → WritesMessages r (day_reading dress) day old new result
+    → MatchResult decided (λ answer. AnswersText mid new answer.status answer.text.items result) (λ why. AnswersStop mid new why result) → WritesMessages r (day_writes dress) (day_reading dress) day old new result
 ended-messages r day dress only old mid new end is decided result says answers =
-    end-messages r (day_reading dress) day old mid new end is (whole-front r day dress only is.bytes is.read) decided result says answers
+    end-messages r (day_writes dress) (day_reading dress) day old mid new end is (whole-front r day dress only is.bytes is.read) decided result says answers
 
 -- where memory ran out before any word was answered
 pub words-messages : (request : DeskRequest) (r : Reading) (sink : SinkState) → WritesMessagesOf request r sink sink status.Memory
-words-messages (Early (Plain day dress)) r sink = (nothing-written r (day_reading dress) day sink).early
+words-messages (Early (Plain day dress)) r sink = (nothing-written r (day_writes dress) (day_reading dress) day sink).early
 words-messages (Early (GeneratedOrders start count form)) r sink = tt
 words-messages (Whole request) r sink = tt

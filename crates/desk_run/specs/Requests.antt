@@ -33,7 +33,7 @@ use Rattle.log_verdict.specs.LogVerdicts.{Log, log_in}
 use Rattle.session_audit.specs.Texts.{phases_text}
 use Rattle.symbol_offences.specs.declared.questions.OffenceQuestion.{OffenceQuestion}
 use Rattle.symbol_offences.specs.OffenceAnswers.{IsOffencesAnswer}
-use Rattle.desk_run.specs.PlainAnswers.{day_reading, IsPlainAnswer}
+use Rattle.desk_run.specs.PlainAnswers.{day_reading, day_writes, IsPlainAnswer}
 use Rattle.desk_run.specs.WrittenLogs.{IsGeneratedAnswer, IsWrittenLogAnswer}
 
 -- the share that is asked for; the whole day where none is given
@@ -137,7 +137,7 @@ abbrev pub IsEarlyAnswer : EarlyRequest → List (List ℕ) → Status → List 
 IsEarlyAnswer (GeneratedOrders start count form) bytes status text =
     IsGeneratedAnswer start count form status text
 IsEarlyAnswer (Plain day dress) bytes status text =
-    IsPlainAnswer (day_reading dress (log_read_at bytes 0)) status text
+    IsPlainAnswer (day_writes dress) (day_reading dress (log_read_at bytes 0)) status text
 
 -- what a command answers to the logs that it has read, its status and its text
 abbrev pub IsDeskAnswer : DeskRequest → List (List ℕ) → Status → List ℕ → Type 0

@@ -1,11 +1,11 @@
-//! The answer to `plain`: the messages of a day, each as a line of a FIX log, written while the day
-//! is read.
+//! The answer to `plain`: the messages of a day, each as a line of a FIX log, or a report of its bad
+//! ones, written while the day is read.
 ghost use Rattle.std.specs.Prelude.{◌≡◌, ◌++◌, IfOk, IsTrue, MatchResult};
 ghost use Rattle.audit_report.specs.declared.statuses.Status.TheVariants as status;
 ghost use Rattle.command_run.specs.Deciding.{IsAnswerOfKind};
 ghost use Rattle.command_run.specs.Runs.{AnswersCommand, AnswersTooLong};
 ghost use Rattle.command_run.specs.VerdictAnswers.{IsAnswerWith};
-ghost use Rattle.desk_run.specs.PlainAnswers.{bad_line, bad_place_of, day_reading, plain_status, text_for_soh};
+ghost use Rattle.desk_run.specs.PlainAnswers.{bad_line, bad_place_of, day_reading, day_writes, lines_reading, lines_writes, plain_status, text_for_soh};
 ghost use Rattle.desk_run.specs.PlainMessages.{WritesMessages};
 ghost use Rattle.desk_run.specs.PlainWriting.{WritesDay, WritesWithin};
 ghost use Rattle.desk_run.specs.Requests.{desk_command_of};
@@ -14,7 +14,8 @@ ghost use Rattle.desk_words.specs.DressWords.{HasSohWord};
 ghost use Rattle.desk_words.specs.declared.requests.DeskRequest.TheVariants.{Early};
 ghost use Rattle.desk_words.specs.declared.requests.EarlyRequest.TheVariants.{Plain};
 ghost use Rattle.fix_days.specs.Framed.{IsFramedReading};
-ghost use Rattle.fix_days.specs.Lines.{IsLineReading, is_soh_text};
+ghost use Rattle.fix_days.specs.Laws.{written_line};
+ghost use Rattle.fix_days.specs.Lines.{is_soh_text};
 ghost use Rattle.log_source.specs.Sinks.{SinkStays};
 ghost use Rattle.log_verdict.specs.declared.stops.Stop.TheVariants as stop;
 ghost use Rattle.log_verdict.specs.Collecting.{TouchesOnly};
@@ -29,7 +30,7 @@ use audit_report::statuses::Status;
 use command_run::answers::{Answer, done_answer, malformed_answer};
 use command_run::writing::write_answer;
 use command_words::paths::PathText;
-use desk_words::dress_words::{DayDress, SohWord};
+use desk_words::dress_words::{BadMessages, DayDress, SohWord};
 use fix_days::faults::BadMessage;
 use fix_days::lines::SohGhost;
 use fix_messages::feeds::frame_reason;
@@ -40,7 +41,9 @@ use log_source::take::TakeFault;
 use log_verdict::runs::RunEnd;
 use log_verdict::stops::Stop;
 use plain_logs::day_ends::{DayEnd, PlainFault};
-use plain_logs::logs::{DaySource, write_framed, write_on_lines};
+use plain_logs::logs::{
+    DaySource, write_bad_report, write_framed, write_good_on_lines, write_on_lines,
+};
 use std::alloc::Global;
 use std::marker::Brand;
 
@@ -94,7 +97,7 @@ fn write_day_framed<F: Shelf, K: Sink>(
     ensures logs { KeepsShelfLogs F.Shelf shelf.old shelf.new }
     ensures only { TouchesOnly (desk_reading F.Shelf shelf.old shelf.new) Which.Orders }
     ensures stays { SinkStays (K.state out.old) (K.state out.new) }
-    ensures writes { WritesDay (desk_reading F.Shelf shelf.old shelf.new) IsFramedReading day.now
+    ensures writes { WritesDay (desk_reading F.Shelf shelf.old shelf.new) written_line IsFramedReading day.now
         (K.state out.old) (K.state out.new) result }
     ensures within { WritesWithin (desk_reading F.Shelf shelf.old shelf.new) result }
 {
@@ -106,22 +109,23 @@ fn write_day_framed<F: Shelf, K: Sink>(
     write_framed(alloc, shelf, &day, out)
 }
 
-/// Writes a day whose messages stand on lines, up to its end. The text of `S`, which is `soh`,
-/// stands for SOH in them.
+/// Writes a day whose messages stand on lines, up to its end, by what is done with bad messages. The
+/// text of `S`, which is `soh`, stands for SOH in them.
 fn write_day_lines<S: SohGhost, F: Shelf, K: Sink>(
     alloc: Global,
     shelf: &mut F,
     out: &mut K,
     day: &PathText,
     soh: Vec<u8>,
+    bad: BadMessages,
 ) -> Result<DayEnd, PlainFault>
     requires soh { soh.items ≡ S.text }
     requires is { IsTrue (is_soh_text S.text) }
     ensures logs { KeepsShelfLogs F.Shelf shelf.old shelf.new }
     ensures only { TouchesOnly (desk_reading F.Shelf shelf.old shelf.new) Which.Orders }
     ensures stays { SinkStays (K.state out.old) (K.state out.new) }
-    ensures writes { WritesDay (desk_reading F.Shelf shelf.old shelf.new) (IsLineReading S.text)
-        day.now (K.state out.old) (K.state out.new) result }
+    ensures writes { WritesDay (desk_reading F.Shelf shelf.old shelf.new) (lines_writes bad)
+        (lines_reading bad S.text) day.now (K.state out.old) (K.state out.new) result }
     ensures within { WritesWithin (desk_reading F.Shelf shelf.old shelf.new) result }
 {
     let day = DaySource {
@@ -129,7 +133,11 @@ fn write_day_lines<S: SohGhost, F: Shelf, K: Sink>(
         name: day.as_str(),
         limit: LONGEST_READ,
     };
-    write_on_lines::<S, F, K>(alloc, shelf, &day, soh, out)
+    match bad {
+        BadMessages::EndDay => write_on_lines::<S, F, K>(alloc, shelf, &day, soh, out),
+        BadMessages::LeftOut => write_good_on_lines::<S, F, K>(alloc, shelf, &day, soh, out),
+        BadMessages::Reported => write_bad_report::<S, F, K>(alloc, shelf, &day, soh, out),
+    }
 }
 
 /// The same, whatever text stands for SOH.
@@ -139,16 +147,17 @@ fn write_day_on_lines<F: Shelf, K: Sink>(
     out: &mut K,
     day: &PathText,
     soh: Vec<u8>,
+    bad: BadMessages,
 ) -> Result<DayEnd, PlainFault>
     requires { IsTrue (is_soh_text soh.items) }
     ensures logs { KeepsShelfLogs F.Shelf shelf.old shelf.new }
     ensures only { TouchesOnly (desk_reading F.Shelf shelf.old shelf.new) Which.Orders }
     ensures stays { SinkStays (K.state out.old) (K.state out.new) }
-    ensures writes { WritesDay (desk_reading F.Shelf shelf.old shelf.new) (IsLineReading soh.items)
-        day.now (K.state out.old) (K.state out.new) result }
+    ensures writes { WritesDay (desk_reading F.Shelf shelf.old shelf.new) (lines_writes bad)
+        (lines_reading bad soh.items) day.now (K.state out.old) (K.state out.new) result }
     ensures within { WritesWithin (desk_reading F.Shelf shelf.old shelf.new) result }
 {
-    write_day_lines::<Brand, F, K>(alloc, shelf, out, day, soh)
+    write_day_lines::<Brand, F, K>(alloc, shelf, out, day, soh, bad)
 }
 
 /// The text that stands for SOH: the word that is given, or SOH itself.
@@ -173,14 +182,14 @@ fn write_day<F: Shelf, K: Sink>(
     ensures logs { KeepsShelfLogs F.Shelf shelf.old shelf.new }
     ensures only { TouchesOnly (desk_reading F.Shelf shelf.old shelf.new) Which.Orders }
     ensures stays { SinkStays (K.state out.old) (K.state out.new) }
-    ensures writes { WritesDay (desk_reading F.Shelf shelf.old shelf.new) (day_reading dress.now)
-        day.now (K.state out.old) (K.state out.new) result }
+    ensures writes { WritesDay (desk_reading F.Shelf shelf.old shelf.new) (day_writes dress.now)
+        (day_reading dress.now) day.now (K.state out.old) (K.state out.new) result }
     ensures within { WritesWithin (desk_reading F.Shelf shelf.old shelf.new) result }
 {
     match dress {
         DayDress::Framed => write_day_framed(alloc, shelf, out, day),
-        DayDress::OnLines(word) => match Vec::from_slice(alloc, soh_of(word)) {
-            Ok(soh) => write_day_on_lines(alloc, shelf, out, day, soh),
+        DayDress::OnLines(word, bad) => match Vec::from_slice(alloc, soh_of(word)) {
+            Ok(soh) => write_day_on_lines(alloc, shelf, out, day, soh, *bad),
             Err(_) => Err(PlainFault::Log(TakeFault::Memory)),
         },
     }
@@ -203,7 +212,8 @@ pub(crate) fn run_plain<F: Shelf, K: Sink>(
         (desk_command_of (Early (Plain day.now dress.now)))
         (K.state out.old) (K.state out.new) result.status }
     ensures messages { WritesMessages (desk_reading F.Shelf shelf.old shelf.new)
-        (day_reading dress.now) day.now (K.state out.old) (K.state out.new) result.status }
+        (day_writes dress.now) (day_reading dress.now) day.now (K.state out.old) (K.state out.new)
+        result.status }
     ensures too_long { AnswersTooLong (desk_reading F.Shelf shelf.old shelf.new)
         result.status }
 {

@@ -206,6 +206,10 @@ plain_help = text_of_lines (
     ∷ codes "    --lines             finds the messages on lines, behind anything, from 8=FIX on;"
     ∷ codes "                        lines without a message are passed over"
     ∷ codes "    --soh TEXT          with --lines: TEXT, 1 to 5 bytes from 0x21 to 0x7E, is for SOH"
+    ∷ codes "    --skip              with --lines: leaves bad messages out, each with the rest of its"
+    ∷ codes "                        line, where else the first of them ends the day"
+    ∷ codes "    --bad               with --lines: writes where the bad messages are and why, how many"
+    ∷ codes "                        there are, and how many messages in all; not with --skip"
     ∷ codes "    Example: desk plain day.log --lines --soh '|' >orders.fix"
     ∷ [])
 

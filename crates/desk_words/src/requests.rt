@@ -113,7 +113,8 @@ pub enum DeskRequest {
 /// - `digest ORDERS TRADES`;
 /// - `orders START COUNT`, and after them `--form FORM`, once or not at all;
 /// - `convert LOG FORM PATH FORM`;
-/// - `plain DAY`, and after it `--lines`, or `--lines` and `--soh TEXT` in either order;
+/// - `plain DAY`, and after it nothing, or in any order `--lines`, and with it, each at most once,
+///   `--soh TEXT`, and `--skip` or `--bad`, but not both;
 /// - `contents ORDERS TRADES`, and after them, in any order and each at most once,
 ///   `--orders-form FORM` and `--trades-form FORM`;
 /// - `help`, which `--help` asks for too, and `help COMMAND`, COMMAND being `audit`, `session`,

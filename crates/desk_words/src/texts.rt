@@ -251,6 +251,10 @@ fn plain_help() -> &'static [u8]
     --lines             finds the messages on lines, behind anything, from 8=FIX on;
                         lines without a message are passed over
     --soh TEXT          with --lines: TEXT, 1 to 5 bytes from 0x21 to 0x7E, is for SOH
+    --skip              with --lines: leaves bad messages out, each with the rest of its
+                        line, where else the first of them ends the day
+    --bad               with --lines: writes where the bad messages are and why, how many
+                        there are, and how many messages in all; not with --skip
     Example: desk plain day.log --lines --soh '|' >orders.fix
 "
 }

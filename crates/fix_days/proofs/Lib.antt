@@ -11,5 +11,7 @@ pub mod LookLemmas
 pub mod LineLemmas
 pub mod LineUniqueLemmas
 pub mod LineSomeLemmas
+pub mod AloneLemmas
+pub mod AlikeLemmas
 pub mod FrontLemmas
 pub mod LineFrontLemmas

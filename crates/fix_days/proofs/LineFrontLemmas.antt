@@ -73,7 +73,7 @@ module _ {B S : Type 0} (soh : List ℕ) (feed : LineFeed B S) (day : List ℕ) 
         searched = is.searched;
       },
     )
-    with-split (Some bad) is = (is.bodies, is.has, record { bodies = is.bodies; has = refl; is_bad = is.is_bad })
+    with-split (Some bad) is = (is.bodies, is.has, record { dress = is.dress; bodies = is.bodies; has = refl; is_bad = is.is_bad })
 
     with-join : (bad : Option BadMessage) (bodies : List (List ℕ)) → has_taken feed.bodies bodies → IsLineFeedWith soh (λ (taker : B) handed. handed ≡ bodies) feed bad day → IsLineFeedWith soh has_taken feed bad day
     with-join None bodies has is = record {
@@ -92,7 +92,7 @@ module _ {B S : Type 0} (soh : List ℕ) (feed : LineFeed B S) (day : List ℕ) 
       messages = is.messages;
       searched = is.searched;
     }
-    with-join (Some bad) bodies has is = record { bodies = is.bodies; has = subst (has_taken feed.bodies) (sym is.has) has; is_bad = is.is_bad }
+    with-join (Some bad) bodies has is = record { dress = is.dress; bodies = is.bodies; has = subst (has_taken feed.bodies) (sym is.has) has; is_bad = is.is_bad }
 
     pub lines-split : IsLineFeedOf soh has_taken feed day → (bodies : List (List ℕ)) × has_taken feed.bodies bodies × HasReadLines soh feed day bodies
     lines-split is = with-split feed.bad is

@@ -11,8 +11,10 @@ use Rattle.log_source.specs.Handing.{HandsOnMore}
 use Rattle.fix_framing.specs.declared.frames.FrameFault.{FrameFault}
 use Rattle.fix_days.specs.declared.faults.BadMessage.{BadMessage}
 use Rattle.fix_days.specs.declared.lines.LineFeed.{LineFeed}
+use Rattle.fix_days.specs.Answers.{HasReadBodies}
 use Rattle.fix_days.specs.Lines.{BeginsWithFault, BeginsWithMessage, FirstBeginning, HasNoLineEnd, IsBadOnLines, is_graphic, is_soh_text, IsLeftAfter, IsLineReading}
 use Rattle.fix_days.specs.LineFeeds.{HasLines, IsLineFeedOf, IsLineFeedWith, IsLineFeedWithinLimit, StopsAtBadLine}
+use Rattle.fix_days.specs.Fronts.{count_before, HasReadLines}
 use Rattle.fix_days.specs.LineSteps.{DropsTo, EndsLines, HasDay, ShutsAt, TakesLine, TakesNoLine, unread}
 use Rattle.fix_days.specs.Looks.{IsMessageAt}
 use Rattle.fix_days.specs.Searches.{HasNoneFrom, IsFirstFrom, IsSearched}
@@ -184,9 +186,15 @@ module _ {B S : Type 0} (soh : List ℕ) (has_taken : B → List (List ℕ) → 
       let left : IsLeftAfter soh day h.bodies h.left =
       subst (λ (t : List ℕ). IsLeftAfter soh t h.bodies h.left) (append-nil day) (subst (IsLeftAfter soh (day ++ []) h.bodies) (append-nil h.left) (h.messages [] (nothing-follows true))) in
       record {
-        bodies = h.bodies;
-        has = subst (λ (b : B). has_taken b h.bodies) (sym drops.bodies) h.has;
-        read = subst (IsLineReading soh day h.bodies) (sym (drops.bad ∙ good)) (record { left = h.left; messages = left; none = search-end h.left (unread old) old.searched h.searched none });
+        dress = ap (λ (v : Vec ℕ). v.items) drops.dress ∙ h.dress;
+        read = record {
+          bodies = h.bodies;
+          has = record {
+            has = subst (λ (b : B). has_taken b h.bodies) (sym drops.bodies) h.has;
+            counted = ap (λ (b : Option BadMessage). count_before b new.count) (drops.bad ∙ good) ∙ drops.count ∙ h.counted;
+          };
+          read = subst (IsLineReading soh day h.bodies) (sym (drops.bad ∙ good)) (record { left = h.left; messages = left; none = search-end h.left (unread old) old.searched h.searched none });
+        };
       }
 
   pub kept-six : (feed : LineFeed B S) (length_held : ℕ) → length_held ≡ length feed.held.items → feed.next + 6 ≤ length_held → HasNoneFrom (unread feed) feed.searched → (left : List ℕ) → IsSearched left (unread feed) feed.searched
@@ -269,16 +277,26 @@ module _ {B S : Type 0} (soh : List ℕ) (has_taken : B → List (List ℕ) → 
       → ((more : List ℕ) → MayFollow ended more → BeginsWithFault soh (drop (old.next + step) old.held.items ++ more) fault) → TakesNoLine soh has_taken ended old new
   stops-bad old new step fault found shuts false fails = λ day h.
       subst (λ (b : Option BadMessage). IsLineFeedWith soh has_taken new b day) (sym shuts.bad) (record {
+        dress = ap (λ (v : Vec ℕ). v.items) shuts.dress ∙ h.dress;
         bodies = h.bodies;
         has = subst (λ (b : B). has_taken b h.bodies) (sym shuts.bodies) h.has;
         is_bad = λ more. bad-line false old step fault _ found fails refl day h more (λ is. absurd (cc is));
       })
-  stops-bad old new step fault found shuts true fails = λ day h. record {
-    bodies = h.bodies;
-    has = subst (λ (b : B). has_taken b h.bodies) (sym shuts.bodies) h.has;
-    read = subst (IsLineReading soh day h.bodies) (sym shuts.bad) (subst (λ (t : List ℕ). IsBadOnLines soh t h.bodies (record { place = old.count + 1; offset = old.base + (old.next + step); fault = fault })) (append-nil day)
-        (bad-line true old step fault _ found fails refl day h [] (nothing-follows true)));
-  }
+  stops-bad old new step fault found shuts true fails = λ day h.
+      let few : old.count ≡ length h.bodies = h.counted in
+      let same : (old.count + 1) - 1 ≡ old.count = omega arith in
+      record {
+        dress = ap (λ (v : Vec ℕ). v.items) shuts.dress ∙ h.dress;
+        read = record {
+          bodies = h.bodies;
+          has = record {
+            has = subst (λ (b : B). has_taken b h.bodies) (sym shuts.bodies) h.has;
+            counted = ap (λ (b : Option BadMessage). count_before b new.count) shuts.bad ∙ same ∙ few;
+          };
+          read = subst (IsLineReading soh day h.bodies) (sym shuts.bad) (subst (λ (t : List ℕ). IsBadOnLines soh t h.bodies (record { place = old.count + 1; offset = old.base + (old.next + step); fault = fault })) (append-nil day)
+              (bad-line true old step fault _ found fails refl day h [] (nothing-follows true)));
+        };
+      }
 
   -- a piece was handed on
   pub fed-lines : (old new : LineFeed B S) (piece day : List ℕ) → new.soh ≡ old.soh → new.held.items ≡ old.held.items ++ piece → new.base ≡ old.base → new.next ≡ old.next → new.searched ≡ old.searched → new.bodies ≡ old.bodies → new.count ≡ old.count
@@ -312,6 +330,7 @@ module _ {B S : Type 0} (soh : List ℕ) (has_taken : B → List (List ℕ) → 
   shut-more feed bad day piece is stands =
       let was = lines-shut feed bad day is stands in
       subst (λ (b : Option BadMessage). IsLineFeedWith soh has_taken feed b (day ++ piece)) (sym is) (record {
+        dress = was.dress;
         bodies = was.bodies;
         has = was.has;
         is_bad = λ more. subst (λ (t : List ℕ). IsBadOnLines soh t was.bodies bad) (sym (append_assoc day piece more)) (was.is_bad (piece ++ more));
@@ -349,8 +368,22 @@ module _ {B S : Type 0} (soh : List ℕ) (has_taken : B → List (List ℕ) → 
   pub end-shut : (feed : LineFeed B S) (bad : BadMessage) (day : List ℕ) → feed.bad ≡ Some bad → IsLineFeedOf soh has_taken feed day → EndsLines soh has_taken feed day
   end-shut feed bad day is stands =
       let was = lines-shut feed bad day is stands in
+      let one = was.is_bad [] in
+      let place = one.place in
+      let few : bad.place - 1 ≡ length was.bodies = omega (arith, place) in
       record {
-        bodies = was.bodies;
-        has = was.has;
-        read = subst (IsLineReading soh day was.bodies) (sym is) (subst (λ (t : List ℕ). IsBadOnLines soh t was.bodies bad) (append-nil day) (was.is_bad []));
+        dress = was.dress;
+        read = record {
+          bodies = was.bodies;
+          has = record { has = was.has; counted = ap (λ (b : Option BadMessage). count_before b feed.count) is ∙ few };
+          read = subst (IsLineReading soh day was.bodies) (sym is) (subst (λ (t : List ℕ). IsBadOnLines soh t was.bodies bad) (append-nil day) one);
+        };
       }
+
+  -- the reading, without the number of its bodies
+  pub ends-reading : (feed : LineFeed B S) (day : List ℕ) → EndsLines soh has_taken feed day → HasReadBodies (has_taken feed.bodies) (IsLineReading soh day) feed.bad
+  ends-reading feed day ends = record { bodies = ends.read.bodies; has = ends.read.has.has; read = ends.read.read }
+
+-- a feed that has been handed nothing has read nothing
+pub anew : {B S : Type 0} (soh : List ℕ) (feed : LineFeed B S) → feed.soh.items ≡ soh → is_soh_text soh ≡ true → feed.held.items ≡ [] → feed.base ≡ 0 → feed.next ≡ 0 → feed.searched ≡ 0 → feed.count ≡ 0 → feed.bad ≡ None → HasReadLines soh feed [] []
+anew soh feed dress is held base next searched count none = nothing-read soh (λ taker handed. handed ≡ []) feed dress is held base next searched count none refl

@@ -12,7 +12,7 @@ use Rattle.fix_days.specs.Lines.{begins_message, FirstBeginning, follows_digit, 
 use Rattle.fix_days.specs.Searches.{HasNoneFrom, IsFirstFrom, IsSearched}
 
 -- six bytes decide whether a text begins a message
-starts-same : (text more p : List ℕ) → length p ≤ length text → starts_with nat_eq (text ++ more) p ≡ starts_with nat_eq text p
+pub starts-same : (text more p : List ℕ) → length p ≤ length text → starts_with nat_eq (text ++ more) p ≡ starts_with nat_eq text p
 starts-same text more p long = ap (pointwise nat_eq p) (take-append-le (length p) text more long)
 
 begins-same : (text more : List ℕ) → 6 ≤ length text → begins_message (text ++ more) ≡ begins_message text
@@ -20,7 +20,7 @@ begins-same text more long =
     ap (λ (b : Bool). b || starts_with nat_eq (text ++ more) (codes "8=FIXT")) (starts-same text more (codes "8=FIX.") long)
     ∙ ap (λ (b : Bool). starts_with nat_eq text (codes "8=FIX.") || b) (starts-same text more (codes "8=FIXT") long)
 
-starts-long : (text p : List ℕ) → starts_with nat_eq text p ≡ true → length p ≤ length text
+pub starts-long : (text p : List ℕ) → starts_with nat_eq text p ≡ true → length p ≤ length text
 starts-long text p starts =
     let size = ap length (split-at text p starts) ∙ length-append p (drop (length p) text) in omega (arith, size)
 
@@ -31,7 +31,7 @@ begins-six text begins = by-first (starts_with nat_eq text (codes "8=FIX.")) ref
     by-first true is = starts-long text (codes "8=FIX.") is
     by-first false is = starts-long text (codes "8=FIXT") (sym (ap (λ (b : Bool). b || starts_with nat_eq text (codes "8=FIXT")) is) ∙ begins)
 
-digit-more : (text more : List ℕ) (place : ℕ) → place ≤ length text → follows_digit (text ++ more) place ≡ follows_digit text place
+pub digit-more : (text more : List ℕ) (place : ℕ) → place ≤ length text → follows_digit (text ++ more) place ≡ follows_digit text place
 digit-more text more zero inside = refl
 digit-more text more (suc before) inside = ap is_ascii_digit (get_or_append_left text more 0 before (omega (arith, inside)))
 

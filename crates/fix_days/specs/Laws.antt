@@ -6,6 +6,8 @@ use Rattle.fix_framing.specs.Frames.{body_of, frame_text}
 use Rattle.fix_framing.specs.Framing.{IsFramed}
 use Rattle.fix_days.specs.declared.faults.BadMessage.{BadMessage}
 use Rattle.fix_days.specs.Framed.{IsFramedReading}
+use Rattle.fix_days.specs.LinesAlone.{DayMessage, IsReadByLines}
+use Rattle.fix_days.specs.LinesAlone.DayMessage.{Good}
 use Rattle.fix_days.specs.Lines.{is_soh_text, IsLineReading, StandFor}
 
 -- Each day, however long, has one reading: bodies up to the first bad message, and that one, if
@@ -26,6 +28,21 @@ pub record LineDaysAreReadOnce : Type 0 where
       (bad other : Option BadMessage) → IsTrue (is_soh_text soh_text)
       → IsLineReading soh_text day bodies bad → IsLineReading soh_text day others other
       → (bodies ≡ others) × (bad ≡ other)
+
+-- Each day on lines, however long and whatever text stands for SOH, has one list of messages where
+-- each line is read alone.
+pub record LinesAloneAreReadOnce : Type 0 where
+  pub some : (soh_text day : List ℕ) → IsTrue (is_soh_text soh_text)
+      → (messages : List DayMessage) × IsReadByLines soh_text day messages
+  pub one : (soh_text day : List ℕ) (messages others : List DayMessage)
+      → IsTrue (is_soh_text soh_text) → IsReadByLines soh_text day messages
+      → IsReadByLines soh_text day others → messages ≡ others
+
+-- A day on lines of which no message is bad has the same messages where each line is read alone.
+abbrev pub GoodDaysAreReadAlike : Type 0
+GoodDaysAreReadAlike =
+    (soh_text day : List ℕ) (bodies : List (List ℕ)) → IsTrue (is_soh_text soh_text)
+    → IsLineReading soh_text day bodies None → IsReadByLines soh_text day (map Good bodies)
 
 -- Where SOH is given as the text for SOH, bytes stand for themselves, as without such a text.
 abbrev pub SohStandsForItself : Type 0

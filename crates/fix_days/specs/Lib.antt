@@ -6,6 +6,8 @@ pub mod Feeds
 -- what is read of a day on lines
 pub mod Lines
 pub mod LineFeeds
+-- what is read of a day on lines where bad messages are passed over
+pub mod LinesAlone
 -- what was read of a day that may go on
 pub mod Fronts
 -- what holds of every day

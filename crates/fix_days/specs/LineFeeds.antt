@@ -31,6 +31,7 @@ pub record HasLines {B S : Type 0} (soh : List ℕ) (has_taken : B → List (Lis
 -- handed on.
 pub record StopsAtBadLine {B S : Type 0} (soh : List ℕ) (has_taken : B → List (List ℕ) → Type 0)
     (feed : LineFeed B S) (bad : BadMessage) (day : List ℕ) : Type 0 where
+  pub dress : feed.soh.items ≡ soh
   pub bodies : List (List ℕ)
   pub has : has_taken feed.bodies bodies
   pub is_bad : (more : List ℕ) → IsBadOnLines soh (day ++ more) bodies bad

@@ -3,7 +3,8 @@ use Rattle.std.specs.Prelude.{◌≡◌, ℕ, ◌+◌, ◌<◌, ◌≤◌, Bool,
 use Rattle.log_source.specs.Sources.{longest_read}
 use Rattle.fix_framing.specs.declared.frames.FrameFault.{FrameFault}
 use Rattle.fix_days.specs.declared.lines.LineFeed.{LineFeed}
-use Rattle.fix_days.specs.Answers.{HasReadBodies}
+use Rattle.fix_days.specs.Answers.{HasCounted, HasReadBodies}
+use Rattle.fix_days.specs.Fronts.{line_count}
 use Rattle.fix_days.specs.Lines.{IsLineReading}
 use Rattle.fix_days.specs.LineFeeds.{HasLines, IsLineFeedOf}
 
@@ -24,6 +25,7 @@ pub record ShutsAt {B S : Type 0} (place : ℕ) (fault : FrameFault) (old new : 
     : Type 0 where
   pub bad : new.bad
       ≡ Some (record { place = old.count + 1; offset = old.base + place; fault = fault })
+  pub dress : new.soh ≡ old.soh
   pub bodies : new.bodies ≡ old.bodies
 
 -- The feed has read some day that is no longer than a log that is read may be.
@@ -37,11 +39,12 @@ pub record HasDay {B S : Type 0} (soh : List ℕ) (has_taken : B → List (List 
 abbrev pub unread : {B S : Type 0} → LineFeed B S → List ℕ
 unread feed = drop feed.next feed.held.items
 
--- what was read of a day at its end: its reading
-abbrev pub EndsLines : {B S : Type 0} → List ℕ → (B → List (List ℕ) → Type 0) → LineFeed B S
-    → List ℕ → Type 0
-EndsLines soh has_taken feed day =
-    HasReadBodies (has_taken feed.bodies) (IsLineReading soh day) feed.bad
+-- What was read of a day at its end: its reading, with the number of its bodies.
+pub record EndsLines {B S : Type 0} (soh : List ℕ) (has_taken : B → List (List ℕ) → Type 0)
+    (feed : LineFeed B S) (day : List ℕ) : Type 0 where
+  pub dress : feed.soh.items ≡ soh
+  pub read : HasReadBodies (HasCounted (has_taken feed.bodies) (line_count feed))
+      (IsLineReading soh day) feed.bad
 
 -- what the feed stands for where no message is left to take: the day so far, or its reading where
 -- it has ended

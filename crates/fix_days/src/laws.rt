@@ -1,6 +1,6 @@
 //! Laws of days, apart from the code. Nothing is computed here: a law is a function's contract, so
 //! that the check proves it.
-ghost use Rattle.fix_days.specs.Laws.{FixLogsAreDays, FramedDaysAreReadOnce, LineDaysAreReadOnce, SohStandsForItself, WrittenDaysAreRead};
+ghost use Rattle.fix_days.specs.Laws.{FixLogsAreDays, FramedDaysAreReadOnce, GoodDaysAreReadAlike, LineDaysAreReadOnce, LinesAloneAreReadOnce, SohStandsForItself, WrittenDaysAreRead};
 
 /// Each day that is read as framed, however long, has one reading: a list of bodies, and the first
 /// bad message after them, if there is one.
@@ -12,6 +12,17 @@ pub fn days_have_one_reading()
 /// reading: a list of bodies, and the first bad message after them, if there is one.
 pub fn days_on_lines_have_one_reading()
     ensures { LineDaysAreReadOnce }
+{}
+
+/// Each day on lines, however long and whatever text stands for SOH in it, has one list of messages,
+/// good and bad, where each line is read alone.
+pub fn lines_alone_have_one_reading()
+    ensures { LinesAloneAreReadOnce }
+{}
+
+/// A day on lines of which no message is bad has the same messages where each line is read alone.
+pub fn good_days_are_read_alike()
+    ensures { GoodDaysAreReadAlike }
 {}
 
 /// With SOH given as the text for SOH, the bytes of a day on lines stand for themselves.

@@ -2,8 +2,8 @@
 //! SOH. What is after a message on its line is searched as a line is.
 ghost use Rattle.std.specs.Prelude.{◌≡◌, ◌+◌, ◌≤◌, ◌<◌, ◌^◌, [], ℕ, Bool, List, None, IfOk, OnOk, MatchBool, IsTrue, length, drop, vec_len};
 ghost use Rattle.std.specs.List.{list_all};
-ghost use Rattle.fix_days.specs.Answers.{HasReadBodies};
-ghost use Rattle.fix_days.specs.Fronts.{HasReadLines};
+ghost use Rattle.fix_days.specs.Answers.{HasCounted, HasReadBodies};
+ghost use Rattle.fix_days.specs.Fronts.{HasReadLines, line_count};
 ghost use Rattle.fix_days.specs.Lines.{IsLineReading, is_graphic, is_soh_text};
 ghost use Rattle.fix_days.specs.LineFeeds.{IsLineFeedOf, IsLineFeedWithinLimit};
 ghost use Rattle.fix_days.specs.LineSteps.{DropsTo, EndsLines, HasDay, ShutsAt, TakesLine, TakesNoLine, unread};
@@ -14,7 +14,7 @@ use crate::beginnings::first_beginning;
 use crate::bodies::Bodies;
 use crate::faults::BadMessage;
 use crate::looking::{Look, look_at};
-use crate::read_day::ReadDay;
+use crate::read_day::{DayCount, ReadDay};
 use audit_base::faults::NoMemory;
 use audit_base::sizes::SOH;
 use fix_framing::frames::FrameFault;
@@ -240,6 +240,52 @@ impl<B: Bodies, S: SohGhost> LineFeed<B, S> {
             return Ok(());
         }
         self.take_messages(true)
+    }
+
+    // How many bodies were handed on.
+    fn handed_on(&self) -> u32
+        ensures { result ≡ line_count self.now }
+    {
+        match self.bad {
+            Some(bad) => bad.place.saturating_sub(1),
+            None => self.count,
+        }
+    }
+
+    // Forgets the day. What has been handed its bodies, the text for SOH and the memory stay.
+    fn clear(&mut self)
+        requires soh { self.old.soh.items ≡ S.text }
+        requires is { IsTrue (is_soh_text S.text) }
+        ensures anew { HasReadLines S.text self.new [] [] }
+        ensures bodies { self.new.bodies ≡ self.old.bodies }
+    {
+        self.held.clear();
+        self.base = 0;
+        self.next = 0;
+        self.searched = 0;
+        self.message.clear();
+        self.count = 0;
+        self.bad = None;
+    }
+
+    /// Ends the day, as `close`, and says how many bodies were handed on. The feed may then be
+    /// handed another day, whose bodies the same taker is handed behind those of this one.
+    pub fn end_day(&mut self) -> Result<DayCount, NoMemory>
+        requires is { IsTrue (is_soh_text S.text) }
+        requires within { IsLineFeedWithinLimit S.text B.has_taken self.old }
+        ensures ends { (day : List ℕ) → IsLineFeedOf S.text B.has_taken self.old day
+            → IfOk result (λ end. HasReadBodies
+            (HasCounted (B.has_taken self.new.bodies) end.bodies) (IsLineReading S.text day)
+            end.bad) }
+        ensures anew { OnOk result (HasReadLines S.text self.new [] []) }
+    {
+        self.end_lines()?;
+        let end = DayCount {
+            bodies: self.handed_on(),
+            bad: self.bad,
+        };
+        self.clear();
+        Ok(end)
     }
 
     /// The taker, which has been handed exactly the bodies of the messages of the day that has

@@ -9,3 +9,13 @@ pub struct ReadDay<B> {
     /// The first bad message, if there is one.
     pub bad: Option<BadMessage>,
 }
+
+/// A day that was ended: how many bodies were handed on, up to the first bad message, and that, if
+/// there is one.
+#[derive(Clone, Copy, Debug)]
+pub struct DayCount {
+    /// Below 2^32.
+    pub bodies: u32,
+    /// The first bad message, if there is one.
+    pub bad: Option<BadMessage>,
+}

@@ -5,11 +5,11 @@ use Rattle.std.proofs.lemmas.List.{append-nil, drop_all, drop_at}
 use Rattle.fix_days.specs.declared.faults.BadMessage.{BadMessage}
 use Rattle.fix_days.specs.declared.framed.FramedFeed.{FramedFeed}
 use Rattle.fix_days.specs.declared.lines.LineFeed.{LineFeed}
-use Rattle.fix_days.specs.Answers.{HasReadBodies}
+use Rattle.fix_days.specs.Answers.{HasCounted, HasReadBodies}
 use Rattle.fix_days.specs.Feeds.{IsFramedFeedOf, IsFramedFeedWithinLimit}
 use Rattle.fix_days.specs.Framed.{IsFramedReading}
 use Rattle.fix_days.specs.Fronts.{BeginsReadings, framed_count, HasReadFramed, HasReadLines, line_count}
-use Rattle.fix_days.specs.Laws.{FitsMessage, FramedDaysAreReadOnce, LineDaysAreReadOnce}
+use Rattle.fix_days.specs.Laws.{FitsMessage, FramedDaysAreReadOnce, LineDaysAreReadOnce, written_line}
 use Rattle.fix_days.specs.LineFeeds.{IsLineFeedOf, IsLineFeedWithinLimit}
 use Rattle.fix_days.specs.Lines.{is_soh_text, IsLineReading}
 use Rattle.fix_days.proofs.FrontLemmas.{framed-begins, framed-counted, framed-join, framed-split}
@@ -18,7 +18,9 @@ use Rattle.fix_days.proofs.LineLemmas.{soh-some}
 use Rattle.log_source.specs.Feeds.{HasRoom}
 use Rattle.log_source.specs.Handing.{HandsOnMore}
 use Rattle.plain_logs.specs.declared.day_ends.DayEnd.{DayEnd}
+use Rattle.plain_logs.specs.declared.day_ends.LineEnd.{LineEnd}
 use Rattle.plain_logs.specs.declared.lines.PlainLines.{PlainLines}
+use Rattle.plain_logs.specs.AloneFeeds.{EndsLine}
 use Rattle.plain_logs.specs.DayFeeds.{EndsDay, EndsReading, HasGivenFramed, HasGivenLines, HasReadWithinLimit, HasRoomForPiece, ReadsPiece}
 use Rattle.plain_logs.specs.Laws.{FramedBodiesFit, LineBodiesFit}
 use Rattle.plain_logs.specs.PlainTexts.{IsTextBehind, plain_text}
@@ -63,7 +65,7 @@ module _ (reads : List ℕ → List (List ℕ) → Option BadMessage → Type 0)
       }
 
   -- the day ends
-  ended : (skipped : ℕ) (day : List ℕ) (bodies its : List (List ℕ)) (end : DayEnd) → skipped ≡ length bodies → BeginsReadings reads day bodies → reads day its end.bad → IsTextBehind skipped its end.text.items → EndsReading reads day bodies end
+  ended : (skipped : ℕ) (day : List ℕ) (bodies its : List (List ℕ)) (end : DayEnd) → skipped ≡ length bodies → BeginsReadings reads day bodies → reads day its end.bad → IsTextBehind skipped its end.text.items → EndsReading written_line reads day bodies end
   ended skipped day bodies its end all begins read has =
       let rest = begins [] its end.bad (subst (λ (t : List ℕ). reads t its end.bad) (sym (append-nil day)) read) in
       record {
@@ -89,7 +91,7 @@ module _ {W : Type 0} (skipped : ℕ) where
 
   pub framed-on : (old mid new : FramedFeed (PlainLines W)) (piece : List ℕ) → FramedBodiesFit → FramedDaysAreReadOnce → skipped ≡ framed_count old
       → HandsOnMore (IsFramedFeedOf handed old) (IsFramedFeedOf handed mid) piece → ((day : List ℕ) (bodies : List (List ℕ)) → HasReadFramed mid day bodies → HasReadFramed new day bodies) → new.messages.bodies.text.items ≡ []
-      → ReadsPiece IsFramedReading HasGivenFramed old new piece mid.messages.bodies.text.items
+      → ReadsPiece written_line IsFramedReading HasGivenFramed old new piece mid.messages.bodies.text.items
   framed-on old mid new piece fit once all hands kept given day bodies has =
       let parts = framed-split mid (day ++ piece) handed (hands day (framed-stands old day bodies all has)) in
       let begins = framed-begins mid (day ++ piece) parts.0 parts.2 in
@@ -102,7 +104,7 @@ module _ {W : Type 0} (skipped : ℕ) where
       }
 
   pub framed-ends : (feed : FramedFeed (PlainLines W)) (lines : PlainLines W) (end : DayEnd) → FramedBodiesFit → skipped ≡ framed_count feed → end.text.items ≡ lines.text.items
-      → ((day : List ℕ) → IsFramedFeedOf handed feed day → HasReadBodies (handed lines) (IsFramedReading day) end.bad) → EndsDay IsFramedReading HasGivenFramed feed end
+      → ((day : List ℕ) → IsFramedFeedOf handed feed day → HasReadBodies (handed lines) (IsFramedReading day) end.bad) → EndsDay written_line IsFramedReading HasGivenFramed feed end
   framed-ends feed lines end fit all text says day bodies has =
       let read = says day (framed-stands feed day bodies all has) in
       ended IsFramedReading fit skipped day bodies read.bodies end (all ∙ framed-counted feed day bodies has.read) (framed-begins feed day bodies has.read) read.read (subst (IsTextBehind skipped read.bodies) (sym text) read.has)
@@ -120,7 +122,7 @@ module _ {W : Type 0} (skipped : ℕ) where
 
     pub lines-on : (old mid new : LineFeed (PlainLines W) S) (piece : List ℕ) → LineBodiesFit → LineDaysAreReadOnce → skipped ≡ line_count old
         → HandsOnMore (IsLineFeedOf soh handed old) (IsLineFeedOf soh handed mid) piece → ((day : List ℕ) (bodies : List (List ℕ)) → HasReadLines soh mid day bodies → HasReadLines soh new day bodies) → new.bodies.text.items ≡ []
-        → ReadsPiece (IsLineReading soh) (HasGivenLines soh) old new piece mid.bodies.text.items
+        → ReadsPiece written_line (IsLineReading soh) (HasGivenLines soh) old new piece mid.bodies.text.items
     lines-on old mid new piece fit once all hands kept given day bodies has =
         let parts = lines-split soh mid (day ++ piece) handed (hands day (lines-stands old day bodies all has)) in
         let begins = lines-begins soh (soh-some soh has.is) mid (day ++ piece) parts.0 parts.2 in
@@ -133,10 +135,24 @@ module _ {W : Type 0} (skipped : ℕ) where
         }
 
     pub lines-ends : (feed : LineFeed (PlainLines W) S) (lines : PlainLines W) (end : DayEnd) → LineBodiesFit → skipped ≡ line_count feed → end.text.items ≡ lines.text.items
-        → ((day : List ℕ) → IsLineFeedOf soh handed feed day → HasReadBodies (handed lines) (IsLineReading soh day) end.bad) → EndsDay (IsLineReading soh) (HasGivenLines soh) feed end
+        → ((day : List ℕ) → IsLineFeedOf soh handed feed day → HasReadBodies (handed lines) (IsLineReading soh day) end.bad) → EndsDay written_line (IsLineReading soh) (HasGivenLines soh) feed end
     lines-ends feed lines end fit all text says day bodies has =
         let read = says day (lines-stands feed day bodies all has) in
         ended (IsLineReading soh) (fit soh) skipped day bodies read.bodies end (all ∙ lines-counted soh feed day bodies has.read) (lines-begins soh (soh-some soh has.is) feed day bodies has.read) read.read (subst (IsTextBehind skipped read.bodies) (sym text) read.has)
+
+    -- a line ends
+    pub line-ends : (feed : LineFeed (PlainLines W) S) (lines : PlainLines W) (end : LineEnd) → LineBodiesFit → skipped ≡ line_count feed → end.text.items ≡ lines.text.items
+        → ((day : List ℕ) → IsLineFeedOf soh handed feed day → HasReadBodies (HasCounted (handed lines) end.bodies) (IsLineReading soh day) end.bad) → EndsLine soh feed end
+    line-ends feed lines end fit all text says day bodies has =
+        let read = says day (lines-stands feed day bodies all has) in
+        let rest = lines-begins soh (soh-some soh has.is) feed day bodies has.read [] read.bodies end.bad (subst (λ (t : List ℕ). IsLineReading soh t read.bodies end.bad) (sym (append-nil day)) read.read) in
+        record {
+          more = rest.0;
+          read = subst (λ (bs : List (List ℕ)). IsLineReading soh day bs end.bad) rest.1 read.read;
+          text_is = text ∙ read.has.has.text_is (fit soh day read.bodies end.bad read.read) ∙ ap (λ (bs : List (List ℕ)). plain_text (drop skipped bs)) rest.1
+              ∙ ap plain_text (drop_at bodies rest.0 skipped (sym (all ∙ lines-counted soh feed day bodies has.read)));
+          counted = read.has.counted ∙ ap length rest.1;
+        }
 
 none-read : (bodies rest : List (List ℕ)) → [] ≡ bodies ++ rest → bodies ≡ []
 none-read [] rest same = refl

@@ -1,6 +1,9 @@
 mod ListLemmas
 mod FitLemmas
+mod GoodLemmas
 mod TextLemmas
 mod FeedLemmas
+mod AloneLemmas
+mod ByLinesLemmas
 mod PassLemmas
 mod SlotLemmas

@@ -2,6 +2,7 @@
 use Rattle.std.proofs.Common.{◌≡◌, ℕ, ◌+◌, ◌≤◌, true, List, [], ◌∷◌, ◌++◌, length, take, Option, Some, None, Err, ap, refl, sym, subst, ◌∙◌, inl, inr, arith}
 use Rattle.std.specs.Prelude.{IfSome, IsSome}
 use Rattle.std.specs.Io.{StartsWith}
+use Rattle.std.specs.List.{flat_map}
 use Rattle.std.specs.Io.KnownBytes.{Appends, Consumes}
 use Rattle.std.proofs.KnownBytes.{Appends-nil, Appends-trans, Consumes-trans}
 use Rattle.std.proofs.Math.Seq.{take-append-add}
@@ -10,7 +11,6 @@ use Rattle.std.proofs.lemmas.List.{length-append, length-take, take_at}
 use Rattle.audit_base.specs.declared.terms.Which.{Which}
 use Rattle.fix_days.specs.declared.faults.BadMessage.{BadMessage}
 use Rattle.fix_days.specs.Fronts.{BeginsReadings}
-use Rattle.fix_days.specs.Laws.{written_line}
 use Rattle.log_source.specs.Calls.{count_after}
 use Rattle.log_source.specs.Sinks.{AppendsPart, HasFailureCause, SinkState, SinkStays}
 use Rattle.log_source.specs.Sources.{ChangesOneSlot, RoseOrIsFull}
@@ -20,9 +20,8 @@ use Rattle.plain_logs.specs.declared.day_ends.PlainFault.TheVariants as plain
 use Rattle.plain_logs.specs.DayFeeds.{ReadsPiece}
 use Rattle.plain_logs.specs.Passing.{FailsAtMore, PassesPiece, WritesMore}
 use Rattle.plain_logs.specs.PlainLogs.{FailsAtFront, ReadsFrontOf, StopsWriting, WritesFront}
-use Rattle.plain_logs.specs.PlainTexts.{plain_text}
 
-pub record Passing {F D : Type 0} (shelves : shelf.Ghosts F) (reads : List ℕ → List (List ℕ) → Option BadMessage → Type 0) (has_read : D → List ℕ → List (List ℕ) → Type 0) (which : Which) (name : List ℕ) (limit : ℕ) (first now : F) (feed : D)
+pub record Passing {F D : Type 0} (shelves : shelf.Ghosts F) (writes : List ℕ → List ℕ) (reads : List ℕ → List (List ℕ) → Option BadMessage → Type 0) (has_read : D → List ℕ → List (List ℕ) → Type 0) (which : Which) (name : List ℕ) (limit : ℕ) (first now : F) (feed : D)
     (sink_first sink_now : SinkState) (taken : ℕ) : Type 0 where
   pub only : ChangesOneSlot shelves.tells shelves.log_of shelves.slot which first now
   pub later : (shelves.slot first which).faults ≤ (shelves.slot now which).faults
@@ -37,7 +36,7 @@ pub record Passing {F D : Type 0} (shelves : shelf.Ghosts F) (reads : List ℕ �
   pub given : (shelves.slot now which).gave read ≡ true
   pub known : shelves.tells first ≡ true → IsSome (shelves.log_of first which name) × Consumes (shelves.log_of first which name) (shelves.slot now which).left read
   pub begins : BeginsReadings reads read bodies
-  pub wrote : Appends sink_first.wrote sink_now.wrote (plain_text bodies)
+  pub wrote : Appends sink_first.wrote sink_now.wrote (flat_map writes bodies)
   pub quiet : sink_now.faults ≡ sink_first.faults
   pub stays : SinkStays sink_first sink_now
 
@@ -48,24 +47,24 @@ consumes-front (Some xs) None bs is = absurd is
 consumes-front (Some xs) (Some ys) bs is = ap (take (length bs)) is ∙ take_at bs ys (length bs) refl
 
 -- the text of more bodies is behind that of the first ones
-pub text-more : (bodies more : List (List ℕ)) → plain_text (bodies ++ more) ≡ plain_text bodies ++ plain_text more
-text-more bodies more = flat_map-append written_line bodies more
+pub text-more : (writes : List ℕ → List ℕ) (bodies more : List (List ℕ)) → flat_map writes (bodies ++ more) ≡ flat_map writes bodies ++ flat_map writes more
+text-more writes bodies more = flat_map-append writes bodies more
 
-pub wrote-more : (a b c : SinkState) (bodies more : List (List ℕ)) → Appends a.wrote b.wrote (plain_text bodies) → Appends b.wrote c.wrote (plain_text more) → Appends a.wrote c.wrote (plain_text (bodies ++ more))
-wrote-more a b c bodies more first second =
-    subst (Appends a.wrote c.wrote) (sym (text-more bodies more)) (Appends-trans a.wrote b.wrote c.wrote (plain_text bodies) (plain_text more) first second)
+pub wrote-more : (writes : List ℕ → List ℕ) (a b c : SinkState) (bodies more : List (List ℕ)) → Appends a.wrote b.wrote (flat_map writes bodies) → Appends b.wrote c.wrote (flat_map writes more) → Appends a.wrote c.wrote (flat_map writes (bodies ++ more))
+wrote-more writes a b c bodies more first second =
+    subst (Appends a.wrote c.wrote) (sym (text-more writes bodies more)) (Appends-trans a.wrote b.wrote c.wrote (flat_map writes bodies) (flat_map writes more) first second)
 
-part-more : (a b c : SinkState) (bodies more : List (List ℕ)) → Appends a.wrote b.wrote (plain_text bodies) → AppendsPart b.wrote c.wrote (plain_text more) → AppendsPart a.wrote c.wrote (plain_text (bodies ++ more))
-part-more a b c bodies more first part =
+part-more : (writes : List ℕ → List ℕ) (a b c : SinkState) (bodies more : List (List ℕ)) → Appends a.wrote b.wrote (flat_map writes bodies) → AppendsPart b.wrote c.wrote (flat_map writes more) → AppendsPart a.wrote c.wrote (flat_map writes (bodies ++ more))
+part-more writes a b c bodies more first part =
     let short = part.short in
-    let whole : plain_text bodies ++ take part.count (plain_text more) ≡ take (length (plain_text bodies) + part.count) (plain_text (bodies ++ more)) =
-    sym (take-append-add (plain_text bodies) (plain_text more) part.count) ∙ ap (take (length (plain_text bodies) + part.count)) (sym (text-more bodies more)) in
-    let size : length (plain_text (bodies ++ more)) ≡ length (plain_text bodies) + length (plain_text more) =
-    ap length (text-more bodies more) ∙ length-append (plain_text bodies) (plain_text more) in
+    let whole : flat_map writes bodies ++ take part.count (flat_map writes more) ≡ take (length (flat_map writes bodies) + part.count) (flat_map writes (bodies ++ more)) =
+    sym (take-append-add (flat_map writes bodies) (flat_map writes more) part.count) ∙ ap (take (length (flat_map writes bodies) + part.count)) (sym (text-more writes bodies more)) in
+    let size : length (flat_map writes (bodies ++ more)) ≡ length (flat_map writes bodies) + length (flat_map writes more) =
+    ap length (text-more writes bodies more) ∙ length-append (flat_map writes bodies) (flat_map writes more) in
     record {
-      count = length (plain_text bodies) + part.count;
+      count = length (flat_map writes bodies) + part.count;
       short = omega (arith, short, size);
-      part = subst (Appends a.wrote c.wrote) whole (Appends-trans a.wrote b.wrote c.wrote (plain_text bodies) (take part.count (plain_text more)) first part.part);
+      part = subst (Appends a.wrote c.wrote) whole (Appends-trans a.wrote b.wrote c.wrote (flat_map writes bodies) (take part.count (flat_map writes more)) first part.part);
     }
 
 rose-since : (a b c : ℕ) → a ≤ b → RoseOrIsFull b c → RoseOrIsFull a c
@@ -81,22 +80,22 @@ stays-on a b c first second =
 cause-since : (a b c : SinkState) → SinkStays a b → HasFailureCause b c → HasFailureCause a c
 cause-since a b c stays cause = record { rose = rose-since a.faults b.faults c.faults stays.later cause.rose; reached = cause.reached }
 
-module _ {D : Type 0} (reads : List ℕ → List (List ℕ) → Option BadMessage → Type 0) (has_read : D → List ℕ → List (List ℕ) → Type 0) (old new : D) (piece : List ℕ) (sink_old sink_new : SinkState) where
+module _ {D : Type 0} (writes : List ℕ → List ℕ) (reads : List ℕ → List (List ℕ) → Option BadMessage → Type 0) (has_read : D → List ℕ → List (List ℕ) → Type 0) (old new : D) (piece : List ℕ) (sink_old sink_new : SinkState) where
   -- the text of a piece was written
-  pub piece-written : {T : Type 0} (text : List ℕ) (unit : T) → ReadsPiece reads has_read old new piece text → Appends sink_old.wrote sink_new.wrote text → sink_new.faults ≡ sink_old.faults
-      → (day : List ℕ) (bodies : List (List ℕ)) → has_read old day bodies → WritesMore reads has_read new (day ++ piece) bodies sink_old sink_new
+  pub piece-written : {T : Type 0} (text : List ℕ) (unit : T) → ReadsPiece writes reads has_read old new piece text → Appends sink_old.wrote sink_new.wrote text → sink_new.faults ≡ sink_old.faults
+      → (day : List ℕ) (bodies : List (List ℕ)) → has_read old day bodies → WritesMore writes reads has_read new (day ++ piece) bodies sink_old sink_new
   piece-written text unit on wrote quiet day bodies has =
       let more = on day bodies has in
       record { more = more.more; read = more.read; begins = more.begins; wrote = subst (Appends sink_old.wrote sink_new.wrote) more.text_is wrote; quiet = quiet }
 
   -- a part of it was written
-  pub piece-failed : (text : List ℕ) → ReadsPiece reads has_read old new piece text → AppendsPart sink_old.wrote sink_new.wrote text → HasFailureCause sink_old sink_new
-      → (day : List ℕ) (bodies : List (List ℕ)) → has_read old day bodies → FailsAtMore reads (day ++ piece) bodies sink_old sink_new
+  pub piece-failed : (text : List ℕ) → ReadsPiece writes reads has_read old new piece text → AppendsPart sink_old.wrote sink_new.wrote text → HasFailureCause sink_old sink_new
+      → (day : List ℕ) (bodies : List (List ℕ)) → has_read old day bodies → FailsAtMore writes reads (day ++ piece) bodies sink_old sink_new
   piece-failed text on part cause day bodies has =
       let more = on day bodies has in
       record { more = more.more; begins = more.begins; part = subst (AppendsPart sink_old.wrote sink_new.wrote) more.text_is part; cause = cause }
 
-module _ {F : Type 0} (shelves : shelf.Ghosts F) (reads : List ℕ → List (List ℕ) → Option BadMessage → Type 0) (which : Which) (name : List ℕ) (first new : F) where
+module _ {F : Type 0} (shelves : shelf.Ghosts F) (writes : List ℕ → List ℕ) (reads : List ℕ → List (List ℕ) → Option BadMessage → Type 0) (which : Which) (name : List ℕ) (first new : F) where
   -- a front of the log was read
   pub front-of-log : (left : Option (List ℕ)) (read : List ℕ) (bodies : List (List ℕ)) → length read ≤ (shelves.slot new which).taken
       → (shelves.tells first ≡ true → IsSome (shelves.log_of first which name) × Consumes (shelves.log_of first which name) left read) → BeginsReadings reads read bodies
@@ -108,7 +107,7 @@ module _ {F : Type 0} (shelves : shelf.Ghosts F) (reads : List ℕ → List (Lis
   }
 
   -- nothing was read yet
-  pub nothing-read : (a : SinkState) → WritesFront shelves reads which name first new a a
+  pub nothing-read : (a : SinkState) → WritesFront shelves writes reads which name first new a a
   nothing-read a = record {
     front = [];
     bodies = [];
@@ -122,28 +121,28 @@ module _ {F : Type 0} (shelves : shelf.Ghosts F) (reads : List ℕ → List (Lis
       nothing-first (Some xs) = refl
 
   -- the sink failed at a piece
-  pub fails-at : (a b c : SinkState) (left : Option (List ℕ)) (read : List ℕ) (bodies : List (List ℕ)) → SinkStays a b → Appends a.wrote b.wrote (plain_text bodies) → FailsAtMore reads read bodies b c → length read ≤ (shelves.slot new which).taken
-      → (shelves.tells first ≡ true → IsSome (shelves.log_of first which name) × Consumes (shelves.log_of first which name) left read) → FailsAtFront shelves reads which name first new a c
+  pub fails-at : (a b c : SinkState) (left : Option (List ℕ)) (read : List ℕ) (bodies : List (List ℕ)) → SinkStays a b → Appends a.wrote b.wrote (flat_map writes bodies) → FailsAtMore writes reads read bodies b c → length read ≤ (shelves.slot new which).taken
+      → (shelves.tells first ≡ true → IsSome (shelves.log_of first which name) × Consumes (shelves.log_of first which name) left read) → FailsAtFront shelves writes reads which name first new a c
   fails-at a b c left read bodies stays wrote fails few known = record {
     front = read;
     bodies = bodies ++ fails.more;
     of = front-of-log left read (bodies ++ fails.more) few known fails.begins;
-    part = part-more a b c bodies fails.more wrote fails.part;
+    part = part-more writes a b c bodies fails.more wrote fails.part;
     cause = cause-since a b c stays fails.cause;
   }
 
   -- reading stopped after a front
-  pub stops-after : (a b : SinkState) (left : Option (List ℕ)) (read : List ℕ) (bodies : List (List ℕ)) → Appends a.wrote b.wrote (plain_text bodies) → b.faults ≡ a.faults → BeginsReadings reads read bodies → length read ≤ (shelves.slot new which).taken
-      → (shelves.tells first ≡ true → IsSome (shelves.log_of first which name) × Consumes (shelves.log_of first which name) left read) → WritesFront shelves reads which name first new a b
+  pub stops-after : (a b : SinkState) (left : Option (List ℕ)) (read : List ℕ) (bodies : List (List ℕ)) → Appends a.wrote b.wrote (flat_map writes bodies) → b.faults ≡ a.faults → BeginsReadings reads read bodies → length read ≤ (shelves.slot new which).taken
+      → (shelves.tells first ≡ true → IsSome (shelves.log_of first which name) × Consumes (shelves.log_of first which name) left read) → WritesFront shelves writes reads which name first new a b
   stops-after a b left read bodies wrote quiet begins few known = record { front = read; bodies = bodies; of = front-of-log left read bodies few known begins; wrote = wrote; quiet = quiet }
 
   -- a piece was not passed on
   pub stops-at-piece : {D : Type 0} (T : Type 0) (has_read : D → List ℕ → List (List ℕ) → Type 0) (feed fed : D) (count : ℕ) (buf : List ℕ) (a b c : SinkState) (left next : Option (List ℕ)) (read : List ℕ) (bodies : List (List ℕ)) (fault : PlainFault)
-      → PassesPiece {T = T} reads has_read feed fed (take count buf) b c (Err fault) → has_read feed read bodies → SinkStays a b → Appends a.wrote b.wrote (plain_text bodies) → b.faults ≡ a.faults → BeginsReadings reads read bodies
+      → PassesPiece {T = T} writes reads has_read feed fed (take count buf) b c (Err fault) → has_read feed read bodies → SinkStays a b → Appends a.wrote b.wrote (flat_map writes bodies) → b.faults ≡ a.faults → BeginsReadings reads read bodies
       → length read + count ≤ (shelves.slot new which).taken → (shelves.tells first ≡ true → IsSome (shelves.log_of first which name) × Consumes (shelves.log_of first which name) left read) → Consumes left next (take count buf)
-      → StopsWriting shelves reads which name first new a c fault
+      → StopsWriting shelves writes reads which name first new a c fault
   stops-at-piece T has_read feed fed count buf a b c left next read bodies (plain.Log why) is has stays wrote quiet begins few known moved =
-      stops-after a c left read bodies (subst (λ (s : SinkState). Appends a.wrote s.wrote (plain_text bodies)) (sym is.1) wrote) (subst (λ (s : SinkState). s.faults ≡ a.faults) (sym is.1) quiet) begins (omega (arith, few)) known
+      stops-after a c left read bodies (subst (λ (s : SinkState). Appends a.wrote s.wrote (flat_map writes bodies)) (sym is.1) wrote) (subst (λ (s : SinkState). s.faults ≡ a.faults) (sym is.1) quiet) begins (omega (arith, few)) known
   stops-at-piece T has_read feed fed count buf a b c left next read bodies plain.Sink is has stays wrote quiet begins few known moved =
       let size = length-append read (take count buf) in
       let part = length-take count buf in

@@ -1,12 +1,14 @@
-//! Feeds of a day that give the plain text of its messages as they are handed its bytes.
-ghost use Rattle.std.specs.Prelude.{◌≡◌, [], ℕ, List, Option, IfOk, IsTrue};
+//! Feeds of a day that give what is written of it as they are handed its bytes.
+ghost use Rattle.std.specs.Prelude.{◌≡◌, [], ℕ, List, Option, IfOk, IsTrue, OnOk};
 ghost use Rattle.fix_days.specs.declared.faults.BadMessage.{BadMessage as BadMessageSpec};
 ghost use Rattle.fix_days.specs.Framed.{IsFramedReading};
 ghost use Rattle.fix_days.specs.Fronts.{framed_count, line_count};
+ghost use Rattle.fix_days.specs.Laws.{written_line};
 ghost use Rattle.fix_days.specs.Lines.{IsLineReading, is_soh_text};
+ghost use Rattle.plain_logs.specs.AloneFeeds.{EndsLine};
 ghost use Rattle.plain_logs.specs.DayFeeds.{EndsDay, HasGivenFramed, HasGivenLines, HasReadWithinLimit, HasRoomForPiece, ReadsPiece};
 
-use crate::day_ends::DayEnd;
+use crate::day_ends::{DayEnd, LineEnd};
 use crate::laws::bodies_fit_messages;
 use crate::lines::{PlainLines, SkippedGhost};
 use audit_base::faults::NoMemory;
@@ -17,10 +19,13 @@ use log_source::feed::Feed;
 use std::alloc::Global;
 use std::marker::Brand;
 
-/// What is handed a day piece by piece, and gives at each the plain text of the messages that it
-/// makes whole.
+/// What is handed a day piece by piece, and gives at each the text of what is read with it: bodies,
+/// each as a message of FIX 4.4 on a line, or other items.
 pub(crate) trait DayFeed: Drop {
-    // What is read of a whole day.
+    // What is written of a body, or of another item.
+    ghost writes: { List ℕ → List ℕ };
+
+    // What is read of a whole day: bodies, or other items.
     ghost reads: { List ℕ → List (List ℕ) → Option BadMessageSpec → Type 0 };
 
     // The feed has been handed this day, has read exactly these bodies of it, and gave their text.
@@ -31,12 +36,12 @@ pub(crate) trait DayFeed: Drop {
     fn feed(&mut self, alloc: Global, piece: &[u8], spare: Vec<u8>) -> Result<Vec<u8>, NoMemory>
         requires { HasRoomForPiece has_read self.old piece.now }
         ensures { IfOk result
-            (λ text. ReadsPiece reads has_read self.old self.new piece.now text.items) };
+            (λ text. ReadsPiece writes reads has_read self.old self.new piece.now text.items) };
 
     /// The text of what ends with the day, and the first bad message.
     fn close(self) -> Result<DayEnd, NoMemory>
         requires { HasReadWithinLimit has_read self }
-        ensures { IfOk result (λ end. EndsDay reads has_read self end) };
+        ensures { IfOk result (λ end. EndsDay writes reads has_read self end) };
 }
 
 /// A feed of a framed day that has been handed nothing.
@@ -55,7 +60,7 @@ fn feed_framed<W: SkippedGhost>(
 ) -> Result<Vec<u8>, NoMemory>
     requires room { HasRoomForPiece HasGivenFramed feed.old piece.now }
     requires skipped { W.skipped ≡ framed_count feed.old }
-    ensures { IfOk result (λ text. ReadsPiece IsFramedReading HasGivenFramed
+    ensures { IfOk result (λ text. ReadsPiece written_line IsFramedReading HasGivenFramed
         feed.old feed.new piece.now text.items) }
 {
     // Laws that the text rests on. They compute nothing.
@@ -69,7 +74,7 @@ fn feed_framed<W: SkippedGhost>(
 fn close_framed<W: SkippedGhost>(feed: FramedFeed<PlainLines<W>>) -> Result<DayEnd, NoMemory>
     requires within { HasReadWithinLimit HasGivenFramed feed }
     requires skipped { W.skipped ≡ framed_count feed }
-    ensures { IfOk result (λ end. EndsDay IsFramedReading HasGivenFramed feed end) }
+    ensures { IfOk result (λ end. EndsDay written_line IsFramedReading HasGivenFramed feed end) }
 {
     bodies_fit_messages();
     let day = feed.close()?;
@@ -80,6 +85,8 @@ fn close_framed<W: SkippedGhost>(feed: FramedFeed<PlainLines<W>>) -> Result<DayE
 }
 
 impl DayFeed for FramedFeed<PlainLines<Brand>> {
+    ghost writes = { written_line };
+
     ghost reads = { IsFramedReading };
 
     ghost has_read = { HasGivenFramed };
@@ -111,7 +118,7 @@ fn feed_lines<W: SkippedGhost, S: SohGhost>(
 ) -> Result<Vec<u8>, NoMemory>
     requires room { HasRoomForPiece (HasGivenLines S.text) feed.old piece.now }
     requires skipped { W.skipped ≡ line_count feed.old }
-    ensures { IfOk result (λ text. ReadsPiece (IsLineReading S.text) (HasGivenLines S.text)
+    ensures { IfOk result (λ text. ReadsPiece written_line (IsLineReading S.text) (HasGivenLines S.text)
         feed.old feed.new piece.now text.items) }
 {
     bodies_fit_messages();
@@ -126,7 +133,7 @@ fn close_lines<W: SkippedGhost, S: SohGhost>(
 ) -> Result<DayEnd, NoMemory>
     requires within { HasReadWithinLimit (HasGivenLines S.text) feed }
     requires skipped { W.skipped ≡ line_count feed }
-    ensures { IfOk result (λ end. EndsDay (IsLineReading S.text) (HasGivenLines S.text) feed end) }
+    ensures { IfOk result (λ end. EndsDay written_line (IsLineReading S.text) (HasGivenLines S.text) feed end) }
 {
     bodies_fit_messages();
     let day = feed.close()?;
@@ -136,7 +143,30 @@ fn close_lines<W: SkippedGhost, S: SohGhost>(
     })
 }
 
+/// Ends the line that the feed was handed, which may then be handed another one.
+pub(crate) fn end_line<W: SkippedGhost, S: SohGhost>(
+    alloc: Global,
+    feed: &mut LineFeed<PlainLines<W>, S>,
+    spare: Vec<u8>,
+) -> Result<LineEnd, NoMemory>
+    requires within { HasReadWithinLimit (HasGivenLines S.text) feed.old }
+    requires skipped { W.skipped ≡ line_count feed.old }
+    ensures ends { IfOk result (EndsLine S.text feed.old) }
+    ensures anew { OnOk result (HasGivenLines S.text feed.new [] []) }
+{
+    bodies_fit_messages();
+    let end = feed.end_day()?;
+    let lines = feed.replace(PlainLines::in_memory_of(alloc, spare));
+    Ok(LineEnd {
+        text: lines.text,
+        bodies: end.bodies,
+        bad: end.bad,
+    })
+}
+
 impl<S: SohGhost> DayFeed for LineFeed<PlainLines<Brand>, S> {
+    ghost writes = { written_line };
+
     ghost reads = { IsLineReading S.text };
 
     ghost has_read = { HasGivenLines S.text };

@@ -1,8 +1,10 @@
 //! Laws of plain days, apart from the code. Nothing is computed here: a law is a function's
 //! contract, so that the check proves it.
-ghost use Rattle.plain_logs.specs.Laws.{FramedBodiesFit, LineBodiesFit, PlainIsRead, PlainOfFixLogs, PlainOfPlain};
+ghost use Rattle.plain_logs.specs.Laws.{FramedBodiesFit, GoodDaysAreWrittenAlike, GoodMessagesAreRead, LineBodiesFit, PlainIsRead, PlainOfFixLogs, PlainOfPlain};
 
-use fix_days::laws::{days_have_one_reading, fix_logs_are_days, written_days_are_read_again};
+use fix_days::laws::{
+    days_have_one_reading, fix_logs_are_days, good_days_are_read_alike, written_days_are_read_again,
+};
 
 /// Each body that is read of a day fits a message.
 pub fn bodies_fit_messages()
@@ -27,4 +29,15 @@ pub fn fix_logs_are_plain()
 {
     days_have_one_reading();
     fix_logs_are_days();
+}
+
+/// What is written of a day on lines whose bad messages are left out is framed again as the bodies
+/// of its good messages; and where no message is bad, it is what is written of the whole day.
+pub fn good_messages_stay_plain()
+    ensures read { GoodMessagesAreRead }
+    ensures alike { GoodDaysAreWrittenAlike }
+{
+    bodies_fit_messages();
+    written_days_are_read_again();
+    good_days_are_read_alike();
 }

@@ -1,14 +1,19 @@
 //! A day of a shelf, made plain: its text is written to a sink while it is read.
 ghost use Rattle.std.specs.Prelude.{◌≡◌, ◌≤◌, [], IfErr, IfOk, OnOk, IsTrue};
 ghost use Rattle.fix_days.specs.Framed.{IsFramedReading};
+ghost use Rattle.fix_days.specs.Laws.{written_line};
 ghost use Rattle.fix_days.specs.Lines.{IsLineReading, is_soh_text};
 ghost use Rattle.log_source.specs.Sinks.{SinkStays};
 ghost use Rattle.log_source.specs.Sources.{ChangesOneSlot, longest_read};
+ghost use Rattle.plain_logs.specs.BadReports.{IsReadAsReport, whole_line};
 ghost use Rattle.plain_logs.specs.DayFeeds.{HasRoomForPiece};
+ghost use Rattle.plain_logs.specs.LinesAlone.{IsReadWithoutBad};
 ghost use Rattle.plain_logs.specs.Passing.{PassesPiece};
 ghost use Rattle.plain_logs.specs.PlainLogs.{StopsWriting, TakesUpTo, WritesUpToEnd, WritesWholeLog};
 
+use crate::by_lines::DayByLines;
 use crate::day_ends::{DayEnd, PlainFault};
+use crate::day_writers::{BadReport, GoodMessages};
 use crate::feeds::{DayFeed, framed_feed, line_feed};
 use audit_base::terms::Which;
 use fix_days::lines::SohGhost;
@@ -40,7 +45,7 @@ fn pass_piece<D: DayFeed, K: Sink>(
     out: &mut K,
 ) -> Result<Vec<u8>, PlainFault>
     requires { HasRoomForPiece D.has_read feed.old piece.now }
-    ensures passes { PassesPiece D.reads D.has_read feed.old feed.new piece.now
+    ensures passes { PassesPiece D.writes D.reads D.has_read feed.old feed.new piece.now
         (K.state out.old) (K.state out.new) result }
     ensures stays { SinkStays (K.state out.old) (K.state out.new) }
 {
@@ -68,10 +73,10 @@ fn pass_log<D: DayFeed, F: Shelf, K: Sink>(
     ensures stays { SinkStays (K.state out.old) (K.state out.new) }
     ensures slot { TakesUpTo F.Shelf day.now.which day.now.name.now day.now.limit
         shelf.old shelf.new result }
-    ensures whole { OnOk result (WritesWholeLog F.Shelf D.reads day.now.which
+    ensures whole { OnOk result (WritesWholeLog F.Shelf D.writes D.reads day.now.which
         day.now.name.now day.now.limit shelf.old shelf.new (K.state out.old) (K.state out.new)
         (D.has_read feed.new)) }
-    ensures stops { IfErr result (StopsWriting F.Shelf D.reads day.now.which
+    ensures stops { IfErr result (StopsWriting F.Shelf D.writes D.reads day.now.which
         day.now.name.now shelf.old shelf.new (K.state out.old) (K.state out.new)) }
 {
     shelf.start(day.which, day.name)?;
@@ -105,9 +110,9 @@ fn write_day<D: DayFeed, F: Shelf, K: Sink>(
     ensures stays { SinkStays (K.state out.old) (K.state out.new) }
     ensures slot { TakesUpTo F.Shelf day.now.which day.now.name.now day.now.limit
         shelf.old shelf.new result }
-    ensures ends { IfOk result (WritesUpToEnd F.Shelf D.reads day.now.which
+    ensures ends { IfOk result (WritesUpToEnd F.Shelf D.writes D.reads day.now.which
         day.now.name.now day.now.limit shelf.old shelf.new (K.state out.old) (K.state out.new)) }
-    ensures stops { IfErr result (StopsWriting F.Shelf D.reads day.now.which
+    ensures stops { IfErr result (StopsWriting F.Shelf D.writes D.reads day.now.which
         day.now.name.now shelf.old shelf.new (K.state out.old) (K.state out.new)) }
 {
     pass_log(alloc, shelf, day, &mut feed, out)?;
@@ -137,9 +142,9 @@ pub fn write_framed<F: Shelf, K: Sink>(
     ensures stays { SinkStays (K.state out.old) (K.state out.new) }
     ensures slot { TakesUpTo F.Shelf day.now.which day.now.name.now day.now.limit
         shelf.old shelf.new result }
-    ensures ends { IfOk result (WritesUpToEnd F.Shelf IsFramedReading day.now.which
+    ensures ends { IfOk result (WritesUpToEnd F.Shelf written_line IsFramedReading day.now.which
         day.now.name.now day.now.limit shelf.old shelf.new (K.state out.old) (K.state out.new)) }
-    ensures stops { IfErr result (StopsWriting F.Shelf IsFramedReading day.now.which
+    ensures stops { IfErr result (StopsWriting F.Shelf written_line IsFramedReading day.now.which
         day.now.name.now shelf.old shelf.new (K.state out.old) (K.state out.new)) }
 {
     write_day(alloc, shelf, day, framed_feed(alloc), out)
@@ -161,10 +166,65 @@ pub fn write_on_lines<S: SohGhost, F: Shelf, K: Sink>(
     ensures stays { SinkStays (K.state out.old) (K.state out.new) }
     ensures slot { TakesUpTo F.Shelf day.now.which day.now.name.now day.now.limit
         shelf.old shelf.new result }
-    ensures ends { IfOk result (WritesUpToEnd F.Shelf (IsLineReading S.text) day.now.which
+    ensures ends { IfOk result (WritesUpToEnd F.Shelf written_line (IsLineReading S.text) day.now.which
         day.now.name.now day.now.limit shelf.old shelf.new (K.state out.old) (K.state out.new)) }
-    ensures stops { IfErr result (StopsWriting F.Shelf (IsLineReading S.text) day.now.which
+    ensures stops { IfErr result (StopsWriting F.Shelf written_line (IsLineReading S.text) day.now.which
         day.now.name.now shelf.old shelf.new (K.state out.old) (K.state out.new)) }
 {
     write_day(alloc, shelf, day, line_feed::<S>(alloc, soh), out)
+}
+
+/// The same of a day whose messages stand on lines, where bad messages are left out: each line is
+/// read alone, and nothing of it behind a bad message. No bad message is answered.
+pub fn write_good_on_lines<S: SohGhost, F: Shelf, K: Sink>(
+    alloc: Global,
+    shelf: &mut F,
+    day: &DaySource<'_>,
+    soh: Vec<u8>,
+    out: &mut K,
+) -> Result<DayEnd, PlainFault>
+    requires limit { day.now.limit ≤ longest_read }
+    requires soh { soh.items ≡ S.text }
+    requires is { IsTrue (is_soh_text S.text) }
+    ensures only { ChangesOneSlot F.tells F.log_of F.slot day.now.which shelf.old shelf.new }
+    ensures stays { SinkStays (K.state out.old) (K.state out.new) }
+    ensures slot { TakesUpTo F.Shelf day.now.which day.now.name.now day.now.limit
+        shelf.old shelf.new result }
+    ensures ends { IfOk result (WritesUpToEnd F.Shelf written_line (IsReadWithoutBad S.text)
+        day.now.which day.now.name.now day.now.limit shelf.old shelf.new
+        (K.state out.old) (K.state out.new)) }
+    ensures stops { IfErr result (StopsWriting F.Shelf written_line (IsReadWithoutBad S.text)
+        day.now.which day.now.name.now shelf.old shelf.new
+        (K.state out.old) (K.state out.new)) }
+{
+    let feed = DayByLines::<GoodMessages, S>::over(alloc, soh);
+    write_day(alloc, shelf, day, feed, out)
+}
+
+/// Writes which messages of a day on lines are bad, each on a line as soon as its own line has
+/// ended; how many these are, and how many messages there are, is answered, and not written. Each
+/// line is read alone. No bad message is answered.
+pub fn write_bad_report<S: SohGhost, F: Shelf, K: Sink>(
+    alloc: Global,
+    shelf: &mut F,
+    day: &DaySource<'_>,
+    soh: Vec<u8>,
+    out: &mut K,
+) -> Result<DayEnd, PlainFault>
+    requires limit { day.now.limit ≤ longest_read }
+    requires soh { soh.items ≡ S.text }
+    requires is { IsTrue (is_soh_text S.text) }
+    ensures only { ChangesOneSlot F.tells F.log_of F.slot day.now.which shelf.old shelf.new }
+    ensures stays { SinkStays (K.state out.old) (K.state out.new) }
+    ensures slot { TakesUpTo F.Shelf day.now.which day.now.name.now day.now.limit
+        shelf.old shelf.new result }
+    ensures ends { IfOk result (WritesUpToEnd F.Shelf whole_line (IsReadAsReport S.text)
+        day.now.which day.now.name.now day.now.limit shelf.old shelf.new
+        (K.state out.old) (K.state out.new)) }
+    ensures stops { IfErr result (StopsWriting F.Shelf whole_line (IsReadAsReport S.text)
+        day.now.which day.now.name.now shelf.old shelf.new
+        (K.state out.old) (K.state out.new)) }
+{
+    let feed = DayByLines::<BadReport, S>::over(alloc, soh);
+    write_day(alloc, shelf, day, feed, out)
 }

@@ -163,7 +163,12 @@ const OFFENCE_OPTIONS: [OptionPart; 5] = [
 
 const ORDERS_OPTIONS: [OptionPart; 1] = [OptionPart::Form];
 
-const PLAIN_OPTIONS: [OptionPart; 2] = [OptionPart::Lines, OptionPart::Soh];
+const PLAIN_OPTIONS: [OptionPart; 4] = [
+    OptionPart::Lines,
+    OptionPart::Soh,
+    OptionPart::Skip,
+    OptionPart::Bad,
+];
 
 /// Words of these parts, and no options.
 fn lone_parts(parts: &'static [WordPart]) -> CommandParts {

@@ -105,15 +105,44 @@ fn rule_fault<'a>(
     None
 }
 
-/// What is wrong with an option beside the others.
-fn pair_fault<'a>(known: &[OptionPart], words: &'a [String]) -> Option<OptionFault<'a>> {
-    if is_given(known, words, OptionPart::Table) && is_given(known, words, OptionPart::Page) {
-        return Some(OptionFault::Both(OptionPart::Table, OptionPart::Page));
-    }
-    if is_given(known, words, OptionPart::Soh) && !is_given(known, words, OptionPart::Lines) {
-        return Some(OptionFault::Alone(OptionPart::Soh, OptionPart::Lines));
+/// What is wrong where both of two options are given.
+fn both_fault<'a>(
+    known: &[OptionPart],
+    words: &'a [String],
+    first: OptionPart,
+    other: OptionPart,
+) -> Option<OptionFault<'a>> {
+    if is_given(known, words, first) && is_given(known, words, other) {
+        return Some(OptionFault::Both(first, other));
     }
     None
+}
+
+/// What is wrong where an option is given without `--lines`.
+fn without_lines_fault<'a>(
+    known: &[OptionPart],
+    words: &'a [String],
+    option: OptionPart,
+) -> Option<OptionFault<'a>> {
+    if is_given(known, words, option) && !is_given(known, words, OptionPart::Lines) {
+        return Some(OptionFault::Alone(option, OptionPart::Lines));
+    }
+    None
+}
+
+/// What is wrong with an option beside the others.
+fn pair_fault<'a>(known: &[OptionPart], words: &'a [String]) -> Option<OptionFault<'a>> {
+    let fault = both_fault(known, words, OptionPart::Table, OptionPart::Page);
+    if fault.is_some() {
+        return fault;
+    }
+    for option in [OptionPart::Soh, OptionPart::Skip, OptionPart::Bad] {
+        let fault = without_lines_fault(known, words, option);
+        if fault.is_some() {
+            return fault;
+        }
+    }
+    both_fault(known, words, OptionPart::Skip, OptionPart::Bad)
 }
 
 /// What is wrong with these words as options of a command, by a rule where it has one.

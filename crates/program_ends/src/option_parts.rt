@@ -19,6 +19,8 @@ pub(crate) enum OptionPart {
     Records,
     Lines,
     Soh,
+    Skip,
+    Bad,
 }
 
 impl OptionPart {
@@ -36,6 +38,8 @@ impl OptionPart {
             OptionPart::Records => "--records",
             OptionPart::Lines => "--lines",
             OptionPart::Soh => "--soh",
+            OptionPart::Skip => "--skip",
+            OptionPart::Bad => "--bad",
         }
     }
 

@@ -1,8 +1,8 @@
 use Rattle.std.proofs.Common.{◌∙◌, ap, Err, inr, refl}
+use Rattle.std.specs.List.{flat_map}
 use Rattle.desk_words.specs.declared.requests.DeskRequest.TheVariants.{Early}
 use Rattle.desk_words.specs.declared.requests.EarlyRequest.TheVariants.{Plain}
-use Rattle.plain_logs.specs.PlainTexts.{plain_text}
-use Rattle.desk_run.specs.PlainAnswers.{day_reading}
+use Rattle.desk_run.specs.PlainAnswers.{day_reading, day_writes}
 use Rattle.desk_run.specs.TopCall.{desk_reading}
 use Rattle.desk_run.proofs.PlainLemmas.{end-written, ended-messages, ended-within, first_later, rest-at-end, rest-at-stop, sink-failed, stays-on, stop-written, stopped-messages}
 use Rattle.desk_run.proofs.plain.run_plain.Goals as goal
@@ -12,7 +12,7 @@ returns-in-Ok-clause-answers g c =
     let r = desk_reading g.F.Shelf c.args.shelf.now c.write_day.new.shelf in
     let only = c.in-Ok.ensures.only in
     let is = c.in-Ok.ensures.writes in
-    c.write_answer.ensures.rest (Early (Plain c.args.day.now c.args.dress.now)) r (g.K.Sink.state c.args.out.now) (plain_text is.bodies) refl
+    c.write_answer.ensures.rest (Early (Plain c.args.day.now c.args.dress.now)) r (g.K.Sink.state c.args.out.now) (flat_map (day_writes c.args.dress.now) is.bodies) refl
     (end-written r c.args.day.now c.args.dress.now only (g.K.Sink.state c.args.out.now) (g.K.Sink.state c.write_day.new.out) c.in-Ok.end is c.in-Ok.ensures.stays)
     (rest-at-end r c.args.day.now c.args.dress.now only (g.K.Sink.state c.args.out.now) (g.K.Sink.state c.write_day.new.out) c.in-Ok.end is c.end_or_stop.result c.end_or_stop.ensures)
 
@@ -32,7 +32,7 @@ returns-in-Err-Log-clause-answers g c =
     let r = desk_reading g.F.Shelf c.args.shelf.now c.write_day.new.shelf in
     let only = c.write_day.ensures.only in
     let is = rw (c.in-Err-Log.is ∙ ap Err c.in-Err-Log.field-0-is) at c.write_day.ensures.writes in
-    c.write_answer-in-Err-Log.ensures.rest (Early (Plain c.args.day.now c.args.dress.now)) r (g.K.Sink.state c.args.out.now) (plain_text is.early.bodies) refl
+    c.write_answer-in-Err-Log.ensures.rest (Early (Plain c.args.day.now c.args.dress.now)) r (g.K.Sink.state c.args.out.now) (flat_map (day_writes c.args.dress.now) is.early.bodies) refl
     (stop-written r c.args.day.now c.args.dress.now only (g.K.Sink.state c.args.out.now) (g.K.Sink.state c.write_day.new.out) c.in-Err-Log.fault is c.write_day.ensures.stays)
     (rw (c.stop_of_take.ensures, c.in-Err-Log.field-0-is) (rest-at-stop r c.args.day.now c.args.dress.now only (g.K.Sink.state c.args.out.now) (g.K.Sink.state c.write_day.new.out) c.in-Err-Log.fault is))
 
@@ -70,5 +70,5 @@ pub returns-in-Err-Log-clause-messages : goal.returns-in-Err-Log-clause-messages
 returns-in-Err-Log-clause-messages g c =
     let r = desk_reading g.F.Shelf c.args.shelf.now c.write_day.new.shelf in
     let is = rw (c.in-Err-Log.is ∙ ap Err c.in-Err-Log.field-0-is) at c.write_day.ensures.writes in
-    stopped-messages r (day_reading c.args.dress.now) c.args.day.now (g.K.Sink.state c.args.out.now) (g.K.Sink.state c.write_day.new.out) (g.K.Sink.state c.write_answer-in-Err-Log.new.out) c.in-Err-Log.fault _
+    stopped-messages r (day_writes c.args.dress.now) (day_reading c.args.dress.now) c.args.day.now (g.K.Sink.state c.args.out.now) (g.K.Sink.state c.write_day.new.out) (g.K.Sink.state c.write_answer-in-Err-Log.new.out) c.in-Err-Log.fault _
     c.write_answer-in-Err-Log.result.status is (rw (c.stop_of_take.ensures, c.in-Err-Log.field-0-is) at c.write_answer-in-Err-Log.ensures.writes)

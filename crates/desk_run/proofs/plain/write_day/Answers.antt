@@ -1,4 +1,4 @@
-use Rattle.desk_run.specs.PlainAnswers.{day_reading}
+use Rattle.desk_run.specs.PlainAnswers.{day_reading, day_writes}
 use Rattle.desk_run.specs.TopCall.{desk_reading}
 use Rattle.desk_run.proofs.PlainLemmas.{nothing-written}
 use Rattle.desk_run.proofs.plain.write_day.Goals as goal
@@ -13,4 +13,4 @@ returns-in-Ok-clause-writes g c =
 
 pub returns-in-Err-clause-writes : goal.returns-in-Err-clause-writes
 returns-in-Err-clause-writes g c =
-    nothing-written (desk_reading g.F.Shelf c.args.shelf.now c.args.shelf.now) (day_reading c.args.dress.now) c.args.day.now (g.K.Sink.state c.args.out.now)
+    nothing-written (desk_reading g.F.Shelf c.args.shelf.now c.args.shelf.now) (day_writes c.args.dress.now) (day_reading c.args.dress.now) c.args.day.now (g.K.Sink.state c.args.out.now)

@@ -1,4 +1,4 @@
-use Rattle.std.proofs.Common.{eqb, length, take, sym, ap, ◌∙◌, arith, w8}
+use Rattle.std.proofs.Common.{eqb, take, sym, ap, ◌∙◌, arith, w8}
 use lib.Count.{count_trailing_zeros}
 use Rattle.std.proofs.lemmas.List.{length-take-le}
 use Rattle.std.proofs.lemmas.Simd.{bitmask_splat, leading_from_mask_l, trailing_mask_l}
