@@ -13,3 +13,4 @@ mod DayLemmas
 mod OneTurnLemmas
 mod SameTurnLemmas
 mod SameCallLemmas
+mod WordLemmas

@@ -120,6 +120,14 @@ rule-read rule.Uniform = refl
 rule-read rule.Maximum = refl
 rule-read rule.Continuous = refl
 
+-- the word of a rule is no option, so no `--` is looked for behind it
+rule-plain : (the_rule : Rule) → is_path (rule_word the_rule) ≡ true
+rule-plain rule.Matching = refl
+rule-plain rule.Fair = refl
+rule-plain rule.Uniform = refl
+rule-plain rule.Maximum = refl
+rule-plain rule.Continuous = refl
+
 rule-long : (the_rule : Rule) → HasByte (rule_word the_rule)
 rule-long rule.Matching = omega arith
 rule-long rule.Fair = omega arith
@@ -162,10 +170,10 @@ asked_for the_rule symbol orders trades of_orders of_trades = Whole (Offences th
 
 asks-as : (the_rule : Rule) (symbol orders trades : List ℕ) (of_orders of_trades : Form) → is_symbol symbol ≡ true → is_path orders ≡ true → is_path trades ≡ true
     → desk_request_of (asking the_rule symbol orders trades of_orders of_trades) ≡ Some (asked_for the_rule symbol orders trades of_orders of_trades)
-asks-as the_rule symbol orders trades Csv Csv s o t = rw (rule-read the_rule, s, o, t) refl
-asks-as the_rule symbol orders trades Csv Fix s o t = rw (rule-read the_rule, s, o, t) refl
-asks-as the_rule symbol orders trades Fix Csv s o t = rw (rule-read the_rule, s, o, t) refl
-asks-as the_rule symbol orders trades Fix Fix s o t = rw (rule-read the_rule, s, o, t) refl
+asks-as the_rule symbol orders trades Csv Csv s o t = rw (rule-plain the_rule, rule-read the_rule, s, o, t) refl
+asks-as the_rule symbol orders trades Csv Fix s o t = rw (rule-plain the_rule, rule-read the_rule, s, o, t) refl
+asks-as the_rule symbol orders trades Fix Csv s o t = rw (rule-plain the_rule, rule-read the_rule, s, o, t) refl
+asks-as the_rule symbol orders trades Fix Fix s o t = rw (rule-plain the_rule, rule-read the_rule, s, o, t) refl
 
 -- the options of both logs
 abbrev options : PageLogs → List (List ℕ)

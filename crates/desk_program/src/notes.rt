@@ -3,6 +3,7 @@ use crate::ends::DeskEnd;
 use audit_report::statuses::Status;
 use case_run::statuses::CaseStatus;
 use desk_words::commands::asks_filing;
+use desk_words::word_order::marked_at;
 use log_source::shelf::Shelf;
 use log_verdict::stops::NoRecords;
 use program_ends::asked::{Asked, ProgramName};
@@ -14,12 +15,21 @@ use program_ends::noted_shelf::NotedShelf;
 use program_ends::notes::Notes;
 use program_ends::usage_notes::print_usage;
 
+/// The place of the database among words: right behind `--`, where `file` has its options before it,
+/// and else behind the command.
+fn database_place(words: &[String]) -> usize {
+    match marked_at(words, 6) {
+        Some(mark) => mark + 1,
+        None => 1,
+    }
+}
+
 /// The path of the database, where the words ask for a command with one.
 fn database_of(words: &[String]) -> Option<&str> {
     if !asks_filing(words) {
         return None;
     }
-    match words.get(1) {
+    match words.get(database_place(words)) {
         Some(path) => Some(path.as_str()),
         None => None,
     }

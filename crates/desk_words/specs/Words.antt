@@ -10,7 +10,7 @@ use Rattle.session_audit.specs.Phases.{ArePhases}
 use Rattle.command_words.specs.declared.options.Options.{Options}
 use Rattle.command_words.specs.Options.{options_in, or_csv}
 use Rattle.command_words.specs.PhaseWords.{phases_named}
-use Rattle.command_words.specs.WordForms.{is_path, nth_word, rule_named, symbol_named, word_equals}
+use Rattle.command_words.specs.WordForms.{is_path, nth_word, rule_named, word_equals}
 use Rattle.command_words.specs.Words.{names_logs, when_both, when_some}
 use Rattle.desk_words.specs.declared.commands.DeskCommand.{DeskCommand}
 use Rattle.desk_words.specs.declared.commands.DeskCommand.TheVariants as command
@@ -28,6 +28,7 @@ use Rattle.desk_words.specs.FurtherWords.{checks_fit_rule}
 use Rattle.desk_words.specs.LogWords.{desk_convert_asked, orders_asked}
 use Rattle.desk_words.specs.OffenceWords.{options_under}
 use Rattle.desk_words.specs.Options.{desk_options_in, is_table_or_page}
+use Rattle.desk_words.specs.WordOrder.{marked_at, plain_order, symbol_behind}
 
 -- the command that a word names
 abbrev pub desk_command_named : List ℕ → Option DeskCommand
@@ -93,22 +94,32 @@ desk_session_asked words =
     said.checks said.page))))
     else None
 
--- of `offences`, RULE, SYMBOL, and what the words after all others say as options by that rule
-abbrev pub offence_words : List (List ℕ) → Option OffenceWords
-offence_words words =
+-- of `offences`, RULE, SYMBOL, which may stand behind `--`, and what other words say as options by
+-- that rule
+abbrev pub offence_words : Option ℕ → List (List ℕ) → List (List ℕ) → Option OffenceWords
+offence_words mark words option_words =
     when_some (rule_named (nth_word words 1)) (λ the_rule.
-    when_some (symbol_named (nth_word words 2)) (λ symbol.
-    when_some (options_under the_rule (drop 5 words)) (λ said.
+    when_some (symbol_behind mark (nth_word words 2)) (λ symbol.
+    when_some (options_under the_rule option_words) (λ said.
     Some (record { rule = the_rule; symbol = symbol; said = said }))))
 
--- `offences RULE SYMBOL ORDERS TRADES` and options
-abbrev pub offences_asked : List (List ℕ) → Option DeskRequest
-offences_asked words =
-    if nat_le 5 (length words) && names_logs words 3 then
-    when_some (offence_words words) (λ asked.
+-- `offences RULE SYMBOL ORDERS TRADES`, and these words as options
+abbrev pub offences_with : Option ℕ → List (List ℕ) → List (List ℕ) → Option DeskRequest
+offences_with mark words option_words =
+    if names_logs words 3 then
+    when_some (offence_words mark words option_words) (λ asked.
     Some (Whole (Offences asked.rule asked.symbol (named_logs words 3 asked.said.forms)
     asked.said.records asked.said.checks)))
     else None
+
+-- `offences RULE SYMBOL ORDERS TRADES` and options
+abbrev pub offences_asked : Option ℕ → List (List ℕ) → Option DeskRequest
+offences_asked mark words =
+    if nat_le 5 (length words) then offences_with mark words (drop 5 words) else None
+
+-- the same, or `offences OPTIONS -- RULE SYMBOL ORDERS TRADES`
+abbrev pub offences_in_order : List (List ℕ) → Option DeskRequest
+offences_in_order words = offences_asked (marked_at 4 words) (plain_order 4 words)
 
 -- `digest ORDERS TRADES`
 abbrev pub digest_asked : List (List ℕ) → Option DeskRequest
@@ -149,7 +160,7 @@ help_asked words =
 abbrev pub desk_asked_by : DeskCommand → List (List ℕ) → Option DeskRequest
 desk_asked_by command.Audit words = desk_audit_asked words
 desk_asked_by command.Session words = desk_session_asked words
-desk_asked_by command.Offences words = offences_asked words
+desk_asked_by command.Offences words = offences_in_order words
 desk_asked_by command.Page words = None
 desk_asked_by command.Digest words = digest_asked words
 desk_asked_by command.File words = None

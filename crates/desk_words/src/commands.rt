@@ -1,10 +1,11 @@
 //! The words of each command. The first word names the command. A function gives the request
 //! where the words after it are those of its command, and nothing, with no memory taken, where
 //! they are not.
-ghost use Rattle.std.specs.Prelude.{◌≡◌, ◌+◌, ◌<◌, ◌≤◌, length, map, IfOk, IfSome, IsErr, IsSome, IsTrue};
+ghost use Rattle.std.specs.Prelude.{◌≡◌, ◌+◌, ◌<◌, ◌≤◌, length, map, None, Some, IfOk, IfSome, IsErr, IsSome, IsTrue};
 ghost use Rattle.std.specs.String.{string_bytes};
 ghost use Rattle.command_words.specs.WordForms.{nth_word};
 ghost use Rattle.desk_words.specs.FurtherWords.{checks_fit_rule};
+ghost use Rattle.desk_words.specs.WordOrder.{in_order};
 ghost use Rattle.desk_words.specs.Words as spec;
 
 use super::dress_words::dress_named;
@@ -13,13 +14,14 @@ use super::log_words::{desk_convert_request, orders_request};
 use super::offence_words::{OffenceOptions, options_under};
 use super::options::{DeskOptions, desk_options_in, is_table_or_page};
 use super::requests::{DeskRequest, EarlyRequest, NamedLogs, WholeRequest};
+use super::word_order::{marked_at, options_before, symbol_behind, words_from};
 use audit_base::faults::NoMemory;
 use audit_base::names::Name;
 use audit_base::terms::Rule;
 use command_words::options::{Options, options_in, or_csv};
 use command_words::paths::{LogPaths, log_paths, names_logs, path_of};
 use command_words::phase_words::phases_named;
-use command_words::word_forms::{is_path, is_word, rule_named, symbol_named, word_at};
+use command_words::word_forms::{is_path, is_word, rule_named, word_at};
 use std::alloc::Global;
 
 /// The commands, each with a word of its own.
@@ -238,30 +240,43 @@ struct OffenceWords {
     said: OffenceOptions,
 }
 
-/// What the words of `offences` say of rule, symbol and options, where they are well-formed.
-fn offence_words(words: &[String]) -> Option<OffenceWords>
+/// What the words of `offences` say of rule, symbol and options, where they are well-formed. They
+/// may stand behind `--`, which is at this index then.
+fn offence_words(
+    mark: Option<usize>,
+    words: &[String],
+    option_words: &[String],
+) -> Option<OffenceWords>
     requires { 5 ≤ length words.now }
-    ensures words { result ≡ spec.offence_words (map string_bytes words.now) }
+    ensures words { result ≡ spec.offence_words mark (map string_bytes words.now)
+        (map string_bytes option_words.now) }
     ensures fit { IfSome result
         (λ asked. IsTrue (checks_fit_rule asked.said.checks asked.rule)) }
 {
     let rule = rule_named(word_at(words, 1))?;
-    let symbol = symbol_named(word_at(words, 2))?;
-    let said = options_under(rule, &words[5..])?;
+    let symbol = symbol_behind(mark, word_at(words, 2))?;
+    let said = options_under(rule, option_words)?;
     Some(OffenceWords { rule, symbol, said })
 }
 
-/// `offences RULE SYMBOL ORDERS TRADES` with its options.
-fn offences_request(alloc: Global, words: &[String]) -> Result<Option<DeskRequest>, NoMemory>
-    ensures request { IfOk result
-        (λ made. made ≡ spec.offences_asked (map string_bytes words.now)) }
-    ensures memory { IsErr result → IsSome (spec.offences_asked (map string_bytes words.now)) }
+/// `offences RULE SYMBOL ORDERS TRADES`, and these words as options.
+fn offences_with(
+    alloc: Global,
+    mark: Option<usize>,
+    words: &[String],
+    option_words: &[String],
+) -> Result<Option<DeskRequest>, NoMemory>
+    requires { 5 ≤ length words.now }
+    ensures request { IfOk result (λ made. made ≡ spec.offences_with mark
+        (map string_bytes words.now) (map string_bytes option_words.now)) }
+    ensures memory { IsErr result → IsSome (spec.offences_with mark
+        (map string_bytes words.now) (map string_bytes option_words.now)) }
     ensures asked { IfOk result (λ made. IfSome made spec.MayBeAskedOfDesk) }
 {
-    if words.len() < 5 || !names_logs(words, 3) {
+    if !names_logs(words, 3) {
         return Ok(None);
     }
-    let Some(asked) = offence_words(words) else {
+    let Some(asked) = offence_words(mark, words, option_words) else {
         return Ok(None);
     };
     let logs = named_logs(alloc, words, 3, &asked.said.forms)?;
@@ -272,6 +287,56 @@ fn offences_request(alloc: Global, words: &[String]) -> Result<Option<DeskReques
         records: asked.said.records,
         checks: asked.said.checks,
     })))
+}
+
+/// `offences OPTIONS -- RULE SYMBOL ORDERS TRADES`, where `--` is at this index.
+fn offences_behind(
+    alloc: Global,
+    words: &[String],
+    mark: usize,
+) -> Result<Option<DeskRequest>, NoMemory>
+    requires first { 1 ≤ mark }
+    requires behind { mark + 5 ≡ length words.now }
+    ensures request { let ws = map string_bytes words.now in
+        IfOk result (λ made. made ≡ spec.offences_asked (Some mark) (in_order (Some mark) ws)) }
+    ensures memory { let ws = map string_bytes words.now in
+        IsErr result → IsSome (spec.offences_asked (Some mark) (in_order (Some mark) ws)) }
+    ensures asked { IfOk result (λ made. IfSome made spec.MayBeAskedOfDesk) }
+{
+    offences_with(
+        alloc,
+        Some(mark),
+        words_from(words, mark),
+        options_before(words, mark),
+    )
+}
+
+/// `offences RULE SYMBOL ORDERS TRADES` with its options behind them.
+fn offences_in_place(alloc: Global, words: &[String]) -> Result<Option<DeskRequest>, NoMemory>
+    ensures request { IfOk result
+        (λ made. made ≡ spec.offences_asked None (map string_bytes words.now)) }
+    ensures memory { IsErr result
+        → IsSome (spec.offences_asked None (map string_bytes words.now)) }
+    ensures asked { IfOk result (λ made. IfSome made spec.MayBeAskedOfDesk) }
+{
+    if words.len() < 5 {
+        return Ok(None);
+    }
+    offences_with(alloc, None, words, &words[5..])
+}
+
+/// `offences RULE SYMBOL ORDERS TRADES` with its options behind them, or before them and `--`.
+fn offences_request(alloc: Global, words: &[String]) -> Result<Option<DeskRequest>, NoMemory>
+    ensures request { IfOk result
+        (λ made. made ≡ spec.offences_in_order (map string_bytes words.now)) }
+    ensures memory { IsErr result
+        → IsSome (spec.offences_in_order (map string_bytes words.now)) }
+    ensures asked { IfOk result (λ made. IfSome made spec.MayBeAskedOfDesk) }
+{
+    match marked_at(words, 4) {
+        Some(mark) => offences_behind(alloc, words, mark),
+        None => offences_in_place(alloc, words),
+    }
 }
 
 /// `digest ORDERS TRADES`.

@@ -97,7 +97,8 @@ fn offences_help() -> &'static [u8]
     Judges the trades of one symbol by a rule, and writes the report of an audit. Where
     it is rejected, a line follows for each offence, and one with their number.
     RULE                matching, fair, uniform, maximum or continuous
-    SYMBOL              the symbol, as the logs have it
+    SYMBOL              the symbol, as the logs have it; where it begins with -, options
+                        stand before the other words, and -- between them
     ORDERS              the path of the order log
     TRADES              the path of the trade log
     --orders-form FORM  the form of the order log: csv, as without it, or fix
@@ -157,7 +158,8 @@ fn file_help() -> &'static [u8]
     DATABASE            the path of the database; it is made if it is not there
     LABEL               the label: 1 to 64 bytes, not begun by -, and not the word then
     RULE                matching, fair, uniform, maximum or continuous
-    SYMBOL              the symbol
+    SYMBOL              the symbol; where it begins with -, options stand before the
+                        other words, and -- between them
     ORDERS              the path of the order log
     TRADES              the path of the trade log
     --orders-form FORM  the form of the order log: csv, as without it, or fix

@@ -6,28 +6,45 @@ use crate::notes::Notes;
 use crate::option_faults::{OptionFault, option_fault};
 use crate::option_parts::{OptionList, OptionPart, option_named};
 use crate::word_parts::WordPart;
+use audit_base::names::read_name;
 use audit_base::terms::Rule;
 use command_words::word_forms::rule_named;
+use std::io;
 
-/// Says that a part has a word that does not fit.
+/// Says that a part has a word that does not fit. `--` stands before it, or nowhere.
 fn print_misfit<N: Notes>(
     notes: &N,
     program: &str,
     known: &CommandParts,
     part: WordPart,
     word: &str,
+    is_marked: bool,
 ) {
     let (name, wanted) = (part.name(), part.wanted());
-    let _written = if option_named(known.options, word).is_some() {
+    let _written = if is_marked && option_named(known.options, word).is_some() {
+        eprintln!(notes; "{program}: no {name} '{word}': options stand before '--'")
+    } else if option_named(known.options, word).is_some() {
         eprintln!(notes; "{program}: no {name} '{word}': options stand behind all other words")
     } else {
         eprintln!(notes; "{program}: no {name} '{word}': {wanted}")
     };
 }
 
+/// Whether a word may be given for a part: a symbol may begin with `-` behind `--` alone.
+fn takes_word(part: WordPart, word: &str, is_marked: bool) -> bool {
+    part.takes(word)
+        || is_marked && part == WordPart::Symbol && read_name(word.as_bytes()).is_some()
+}
+
 /// Says which is the first part that a word does not fit or that has none, and whether there is
-/// one.
-fn prints_part<N: Notes>(notes: &N, program: &str, known: &CommandParts, words: &[String]) -> bool {
+/// one. `--` stands before the words, or nowhere.
+fn prints_part<N: Notes>(
+    notes: &N,
+    program: &str,
+    known: &CommandParts,
+    words: &[String],
+    is_marked: bool,
+) -> bool {
     let mut rest = words.iter();
     for part in known.parts {
         let Some(word) = rest.next() else {
@@ -38,8 +55,8 @@ fn prints_part<N: Notes>(notes: &N, program: &str, known: &CommandParts, words: 
             let _written = eprintln!(notes; "{program}: no {name} is given: {wanted}");
             return true;
         };
-        if !part.takes(word.as_str()) {
-            print_misfit(notes, program, known, *part, word.as_str());
+        if !takes_word(*part, word.as_str(), is_marked) {
+            print_misfit(notes, program, known, *part, word.as_str(), is_marked);
             return true;
         }
     }
@@ -67,6 +84,13 @@ fn rule_in(known: &CommandParts, words: &[String]) -> Option<Rule> {
     None
 }
 
+/// Says that nothing may stand where a word does.
+fn write_too_much<N: Notes>(notes: &N, program: &str, word: &str) -> io::Result<()> {
+    eprintln!(notes;
+        "{program}: '{word}' is too much: nothing may stand behind the words before it"
+    )
+}
+
 /// Says that a word behind all parts is no option of the command.
 fn print_unknown<N: Notes>(notes: &N, program: &str, known: &CommandParts, word: &str) {
     let options = OptionList {
@@ -77,9 +101,7 @@ fn print_unknown<N: Notes>(notes: &N, program: &str, known: &CommandParts, word:
     } else if word.starts_with('-') {
         eprintln!(notes; "{program}: no option '{word}': there is none here")
     } else {
-        eprintln!(notes;
-            "{program}: '{word}' is too much: nothing may stand behind the words before it"
-        )
+        write_too_much(notes, program, word)
     };
 }
 
@@ -149,24 +171,91 @@ fn print_option_fault<N: Notes>(
     }
 }
 
+/// Says what is wrong with words as options of a command, by a rule where it has one, and whether
+/// something is.
+fn prints_option<N: Notes>(
+    notes: &N,
+    program: &str,
+    known: &CommandParts,
+    rule: Option<Rule>,
+    words: &[String],
+) -> bool {
+    match option_fault(known.options, words, rule) {
+        Some(fault) => {
+            print_option_fault(notes, program, known, rule, fault);
+            true
+        }
+        None => false,
+    }
+}
+
 /// Says what is wrong with the words behind that of a command, and whether something is: with a
-/// part, or else with an option.
+/// part, or else with an option behind the parts.
+fn prints_in_order<N: Notes>(
+    notes: &N,
+    program: &str,
+    known: &CommandParts,
+    words: &[String],
+) -> bool {
+    if prints_part(notes, program, known, words, false) {
+        return true;
+    }
+    let options = words_behind(words, known.parts.len());
+    prints_option(notes, program, known, rule_in(known, words), options)
+}
+
+/// The same of words that stand behind `--`, and of the options before it.
+fn prints_marked<N: Notes>(
+    notes: &N,
+    program: &str,
+    known: &CommandParts,
+    options: &[String],
+    words: &[String],
+) -> bool {
+    if prints_part(notes, program, known, words, true) {
+        return true;
+    }
+    if let Some(word) = words_behind(words, known.parts.len()).first() {
+        let _written = write_too_much(notes, program, word.as_str());
+        return true;
+    }
+    prints_option(notes, program, known, rule_in(known, words), options)
+}
+
+/// Whether a command has a symbol.
+fn has_symbol(known: &CommandParts) -> bool {
+    for part in known.parts {
+        if *part == WordPart::Symbol {
+            return true;
+        }
+    }
+    false
+}
+
+/// The place of `--` among the words behind that of a command of `desk` with a symbol, where it or
+/// an option is the first of them.
+fn mark_place(program: &str, known: &CommandParts, words: &[String]) -> Option<usize> {
+    let first = words.first()?;
+    if program != ProgramName::Desk.word() || !has_symbol(known) || !first.starts_with('-') {
+        return None;
+    }
+    words.iter().position(|word| word.as_str() == "--")
+}
+
+/// Says what is wrong with the words behind that of a command, in either order, and whether
+/// something is.
 fn prints_words<N: Notes>(
     notes: &N,
     program: &str,
     known: &CommandParts,
     words: &[String],
 ) -> bool {
-    if prints_part(notes, program, known, words) {
-        return true;
-    }
-    let rule = rule_in(known, words);
-    match option_fault(known.options, words_behind(words, known.parts.len()), rule) {
-        Some(fault) => {
-            print_option_fault(notes, program, known, rule, fault);
-            true
+    let mark = mark_place(program, known, words);
+    match mark {
+        Some(place) if place < words.len() => {
+            prints_marked(notes, program, known, &words[..place], &words[place + 1..])
         }
-        None => false,
+        _ => prints_in_order(notes, program, known, words),
     }
 }
 
