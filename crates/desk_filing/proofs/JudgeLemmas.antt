@@ -1,5 +1,5 @@
 -- What a verdict on two logs that were read comes to.
-use Rattle.std.proofs.Common.{◌≡◌, ◌∙◌, sym, ap, ap₂, subst, refl, inl, inr, ◌⊎◌, ⊎_elim, ℕ, Bool, false, List, Option, None, Some, Result}
+use Rattle.std.proofs.Common.{◌≡◌, ◌∙◌, sym, ap, ap₂, subst, refl, inl, inr, ◌⊎◌, ⊎_elim, ℕ, Bool, true, false, true≢false, List, Option, None, Some, Result}
 use Rattle.std.specs.Prelude.{option_map}
 use Rattle.std.proofs.lemmas.Option.{same_Some}
 use Rattle.audit_base.specs.declared.faults.BadPlace.{BadPlace}
@@ -20,14 +20,15 @@ use Rattle.case_keeper.specs.declared.case.Case.{Case}
 use Rattle.case_run.specs.declared.statuses.CaseStatus.{CaseStatus}
 use Rattle.case_run.specs.declared.statuses.CaseStatus.TheVariants as status
 use Rattle.log_digests.specs.declared.digests.LogDigests.{LogDigests}
+use Rattle.digest_keeper.specs.declared.digested.DigestedCase.{DigestedCase}
 use Rattle.digest_keeper.specs.declared.digested.KeptCase.{KeptCase}
 use Rattle.desk_filing.specs.DigestedVerdicts.{AreDigestsOfGiven}
 use Rattle.desk_filing.specs.declared.digested_verdicts.DigestedVerdict.{DigestedVerdict}
 use Rattle.desk_filing.specs.Causes.{ReadsDigestedLogs, ReadsGoodLogs, ReadsLogsFor}
 use Rattle.desk_filing.specs.Lines.{comparison_line}
-use Rattle.desk_filing.specs.Judging.{IsComparedVerdict, IsJudgedVerdict, TellsBadPlace}
-use Rattle.desk_filing.specs.Steps.{NamesLogs, ReadsBadPlace, ReadsJudged, ReadsRecords, ReadsRefusal, TellsOfKept}
-use Rattle.desk_filing.specs.Turns.{ChecksCase, FilingTurn, IsTurnOfLogs, IsTurnOfRecords, comparison_status, filed_turn, unfiled_turn}
+use Rattle.desk_filing.specs.Judging.{IsCaseOfVerdict, IsComparedVerdict, IsJudgedVerdict, TellsAbsent, TellsBadPlace, accepts_nothing}
+use Rattle.desk_filing.specs.Steps.{NamesLogs, ReadsBadPlace, ReadsCases, ReadsJudged, ReadsRecords, ReadsRefusal, TellsOfKept}
+use Rattle.desk_filing.specs.Turns.{ChecksCase, FilesUnlessAbsent, FilingTurn, IsTurnOfLogs, IsTurnOfRecords, comparison_status, filed_turn, unfiled_turn}
 use Rattle.case_run.specs.declared.answers.CaseAnswer.{CaseAnswer}
 use Rattle.desk_filing.specs.declared.answers.FilingOutcome.{FilingOutcome}
 use Rattle.desk_filing.specs.declared.answers.FilingOutcome.TheVariants as judged
@@ -42,6 +43,9 @@ use Rattle.log_verdict.specs.Steps.{Reading}
 use Rattle.log_verdict.specs.declared.sources.Source.{Source}
 use Rattle.record_verdict.specs.declared.questions.Question.{Question}
 use Rattle.record_verdict.specs.RecordVerdicts.{question, IsRecordVerdict, IsOutcomeByFinding}
+use Rattle.symbol_offences.specs.Laws.{AbsentHasNothing, FoundIsPresent}
+use Rattle.symbol_offences.specs.OffenceAnswers.{is_absent}
+use Rattle.desk_filing.proofs.AbsenceLemmas.{absent-accepted}
 
 -- a verdict on records is no bad place
 pub judged_sound : (q : Question) (entries : List OrderRecord) (paired : Result (List TradeRecord) Finding) (log : Which) (bad : BadPlace) → IsRecordVerdict q entries paired (verdict.Malformed log bad) → ⊥
@@ -112,30 +116,60 @@ module _ (r : Reading) (request : FilingRequest) (orders trades : Source) (names
     plain entries paired v is = subst (λ (t : Bool). IsRecordVerdict (question q.rule q.symbol t) entries paired v) table is
 
     -- `file`: a case, or a refusal
-    pub judges_symbol : request.command ≡ command.File q.rule q.symbol → (made : DigestedVerdict) (given : FilingOutcome) → ReadsVerdict r q orders trades made.verdict → AreDigestsOfGiven r made.digests
-        → IsJudgedVerdict made.digests request.label q made.verdict given → ReadsJudged r request given
-    judges_symbol asked made (judged.Cases cases) reads are is = ⊎_elim
-        (λ records. record {
-          read = records.good;
-          turn = record {
-            given = logs_of_records r request.logs (On made.verdict) records made.digests;
-            reads = digested made records are;
-            is = λ kept.
-                turn_of_records r request.logs (On made.verdict) records made.digests kept request refl (filed_turn kept cases.items)
-                (subst (λ (c : FilingCommand). IsTurnOfRecords made.digests kept request.label c (filed_turn kept cases.items) records.entries records.paired) (sym asked)
-                (record {
-                  the_verdict = made.verdict;
-                  on = plain records.entries records.paired made.verdict records.holds;
-                  is = ap (filed_turn kept) is.0;
-                }));
-          };
-        })
-        (λ place. absurd (is.1 place.log place.bad place.holds))
-        (either made.verdict reads)
-    judges_symbol asked made (judged.Refused answer) reads are is = ⊎_elim
-        (λ records. absurd (no_bad made.verdict records is.log is.bad is.is))
-        (λ place. refuses r request made.verdict answer is place)
-        (either made.verdict reads)
+    module _ (found_present : FoundIsPresent) (sound_absent : AbsentHasNothing) (asked : request.command ≡ command.File q.rule q.symbol) (made : DigestedVerdict) (reads : ReadsVerdict r q orders trades made.verdict) (are : AreDigestsOfGiven r made.digests) where
+      -- of records that say whether the symbol is absent
+      files : (records : ReadsRecords r request.logs (On made.verdict)) (absent : Bool) → accepts_nothing made.verdict ≡ absent → (kept : List KeptCase) (turn : FilingTurn)
+          → FilesUnlessAbsent absent made.digests kept request.label q.rule q.symbol records.entries records.paired turn → IsTurnOfLogs (logs_of_records r request.logs (On made.verdict) records made.digests) kept request turn
+      files records absent is kept turn says =
+          let same : absent ≡ is_absent q.symbol records.entries records.paired = sym is ∙ absent-accepted found_present sound_absent q records.entries records.paired made.verdict records.holds in
+          turn_of_records r request.logs (On made.verdict) records made.digests kept request refl turn
+          (subst (λ (c : FilingCommand). IsTurnOfRecords made.digests kept request.label c turn records.entries records.paired) (sym asked)
+          (subst (λ (b : Bool). FilesUnlessAbsent b made.digests kept request.label q.rule q.symbol records.entries records.paired turn) same says))
+
+      one-filed : (cases : List DigestedCase) → IsCaseOfVerdict made.digests request.label q made.verdict cases → ReadsCases r request cases
+      one-filed cases is = ⊎_elim
+          (λ records. record {
+            read = records.good;
+            turn = record {
+              given = logs_of_records r request.logs (On made.verdict) records made.digests;
+              reads = digested made records are;
+              is = λ kept. files records false is.something kept (filed_turn kept cases)
+                  (record {
+                    the_verdict = made.verdict;
+                    on = plain records.entries records.paired made.verdict records.holds;
+                    is = ap (filed_turn kept) is.one;
+                  });
+            };
+          })
+          (λ place. absurd (is.no_bad_place place.log place.bad place.holds))
+          (either made.verdict reads)
+
+      none-filed : (answer : CaseAnswer) → TellsAbsent q.symbol made.verdict answer → ReadsRefusal r request answer
+      none-filed answer is = ⊎_elim
+          (λ records. record {
+            read = subst (ReadsLogsFor r request.logs) (sym is.status_is) records.good;
+            not_done = λ e. refused (sym is.status_is ∙ e);
+            turn = record {
+              given = logs_of_records r request.logs (On made.verdict) records made.digests;
+              reads = digested made records are;
+              is = λ kept.
+                  files records true is.nothing kept (unfiled_turn kept answer.status answer.text.items)
+                  (ap₂ {C = FilingTurn} (λ s t. unfiled_turn kept s t) is.status_is is.text_is);
+            };
+          })
+          (λ place. absurd (true≢false (sym is.nothing ∙ ap accepts_nothing place.holds)))
+          (either made.verdict reads)
+        where
+          refused : status.Refused ≡ status.Done → ⊥
+          refused e = cc
+
+      pub judges_symbol : (given : FilingOutcome) → IsJudgedVerdict made.digests request.label q made.verdict given → ReadsJudged r request given
+      judges_symbol (judged.Cases cases) is = one-filed cases.items is
+      judges_symbol (judged.Refused answer) (inr is) = none-filed answer is
+      judges_symbol (judged.Refused answer) (inl is) = ⊎_elim
+          (λ records. absurd (no_bad made.verdict records is.log is.bad is.is))
+          (λ place. refuses r request made.verdict answer is place)
+          (either made.verdict reads)
 
     -- what is left where the comparison ends so
     abbrev compared : List KeptCase → Option CaseDifference → FilingTurn

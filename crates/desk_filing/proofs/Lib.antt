@@ -1,6 +1,7 @@
 mod PassLemmas
 mod LogLemmas
 mod LookLemmas
+mod AbsenceLemmas
 mod JudgeLemmas
 mod FilingLemmas
 mod CheckLemmas

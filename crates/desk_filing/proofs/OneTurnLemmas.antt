@@ -1,5 +1,5 @@
 -- What a command leaves is one: records have one verdict on a question, and a day has one list of verdicts.
-use Rattle.std.proofs.Common.{◌≡◌, ◌∙◌, sym, ap, subst, refl, ℕ, false, List, [], ◌∷◌, Option, None, Some, Result, Ok, Err, IsOk}
+use Rattle.std.proofs.Common.{◌≡◌, ◌∙◌, sym, ap, subst, refl, ℕ, Bool, true, false, List, [], ◌∷◌, Option, None, Some, Result, Ok, Err, IsOk}
 use Rattle.std.specs.Prelude.{MatchResult}
 use Rattle.audit_base.specs.declared.faults.BadPlace.{BadPlace}
 use Rattle.audit_base.specs.declared.findings.Finding.{Finding}
@@ -15,7 +15,7 @@ use Rattle.log_digests.specs.declared.digests.LogDigests.{LogDigests}
 use Rattle.digest_keeper.specs.declared.digested.KeptCase.{KeptCase}
 use Rattle.desk_filing.specs.Laws.{OneFilingTurn}
 use Rattle.desk_filing.specs.Lines.{comparison_line}
-use Rattle.desk_filing.specs.Turns.{ChecksCase, ChecksDigests, Compares, FilesDayOrNone, FilesVerdict, FilingTurn, IsBadTurn, IsFirstDifference, IsTurnOfRecords, cases_of_day, comparison_status, day_turn, digested_case, filed_turn, first_long, offence_in, symbols_of_whole_day, unfiled_turn}
+use Rattle.desk_filing.specs.Turns.{ChecksCase, ChecksDigests, Compares, FilesDayOrNone, FilesUnlessAbsent, FilesVerdict, FilingTurn, IsBadTurn, IsFirstDifference, IsTurnOfRecords, cases_of_day, comparison_status, day_turn, digested_case, filed_turn, first_long, offence_in, symbols_of_whole_day, unfiled_turn}
 use Rattle.desk_filing.specs.declared.differences.AuditedLogs.{AuditedLogs}
 use Rattle.desk_filing.specs.declared.differences.CaseDifference.{CaseDifference}
 use Rattle.desk_filing.specs.declared.differences.CaseDifference.TheVariants.{OfOrders, OfTrades, OfVerdict}
@@ -26,6 +26,7 @@ use Rattle.log_digests.specs.Digests.{digest_of}
 use Rattle.log_verdict.specs.LogVerdicts.{records_of_order_log, trades_of_trade_log}
 use Rattle.record_verdict.specs.Laws.{RecordVerdictIsOne}
 use Rattle.record_verdict.specs.RecordVerdicts.{question}
+use Rattle.symbol_offences.specs.OffenceAnswers.{is_absent}
 
 -- a shelf has one log under a name
 pub one_log : (found : Option (List ℕ)) (a b : List ℕ) → found ≡ Some a → found ≡ Some b → a ≡ b
@@ -63,6 +64,11 @@ module _ (one_verdict : RecordVerdictIsOne) (one_list : VerdictsAreOne) (kept : 
     one_filed the_rule symbol paired x y =
         x.is ∙ ap (λ (v : Verdict). filed_turn kept (digested_case label the_rule digests symbol v ∷ [])) (one_verdict (question the_rule symbol false) entries paired x.the_verdict y.the_verdict x.on y.on) ∙ sym y.is
 
+    one_symbol : (absent : Bool) (the_rule : Rule) (symbol : List ℕ) (paired : Result (List TradeRecord) Finding) → FilesUnlessAbsent absent digests kept label the_rule symbol entries paired a
+        → FilesUnlessAbsent absent digests kept label the_rule symbol entries paired b → a ≡ b
+    one_symbol true the_rule symbol paired x y = x ∙ sym y
+    one_symbol false the_rule symbol paired x y = one_filed the_rule symbol paired x y
+
     one_day : (the_rule : Rule) (paired : Result (List TradeRecord) Finding) → FilesDayOrNone digests kept label the_rule entries paired a → FilesDayOrNone digests kept label the_rule entries paired b → a ≡ b
     one_day the_rule (Ok trades) x y =
         x.is
@@ -88,7 +94,7 @@ module _ (one_verdict : RecordVerdictIsOne) (one_list : VerdictsAreOne) (kept : 
     one_check paired (Some found) x y = one_comparison found.case paired found.digests x y
 
     one_of_records : (c : FilingCommand) (paired : Result (List TradeRecord) Finding) → IsTurnOfRecords digests kept label c a entries paired → IsTurnOfRecords digests kept label c b entries paired → a ≡ b
-    one_of_records (command.File the_rule symbol) paired x y = one_filed the_rule symbol paired x y
+    one_of_records (command.File the_rule symbol) paired x y = one_symbol (is_absent symbol entries paired) the_rule symbol paired x y
     one_of_records (command.FileAll the_rule) paired x y = one_day the_rule paired x y
     one_of_records command.Check paired x y = one_check paired (kept_under kept label) x y
 

@@ -1,5 +1,5 @@
 -- What was filed is found to be the same: the verdict is one, and so are the digests.
-use Rattle.std.proofs.Common.{◌≡◌, ◌∙◌, sym, ap, subst, refl, ℕ, Bool, false, cond, List, [], ◌∷◌, ◌++◌, Option, None, Some, Result, Ok, Err, IsOk}
+use Rattle.std.proofs.Common.{◌≡◌, ◌∙◌, sym, ap, subst, refl, ℕ, Bool, true, false, cond, List, [], ◌∷◌, ◌++◌, Option, None, Some, Result, Ok, Err, IsOk}
 use Rattle.std.specs.Prelude.{MatchResult, find}
 use Rattle.std.specs.Option.{option_or}
 use Rattle.std.proofs.lemmas.List.Folds.{find-append}
@@ -19,9 +19,10 @@ use Rattle.log_digests.specs.declared.digests.LogDigests.{LogDigests}
 use Rattle.log_verdict.specs.LogVerdicts.{records_of_order_log, trades_of_trade_log}
 use Rattle.record_verdict.specs.Laws.{RecordVerdictIsOne}
 use Rattle.record_verdict.specs.RecordVerdicts.{question}
+use Rattle.symbol_offences.specs.OffenceAnswers.{is_absent}
 use Rattle.desk_filing.specs.Laws.{FiledIsSame}
 use Rattle.desk_filing.specs.Lines.{comparison_line}
-use Rattle.desk_filing.specs.Turns.{ChecksCase, FilesVerdict, FilingTurn, IsBadTurn, IsFirstDifference, IsTurnOfRecords, comparison_status, digested_case, digested_logs, filed_turn_by, first_known, offence_in, unfiled_turn}
+use Rattle.desk_filing.specs.Turns.{ChecksCase, FilesUnlessAbsent, FilesVerdict, FilingTurn, IsBadTurn, IsFirstDifference, IsTurnOfRecords, comparison_status, digested_case, digested_logs, filed_turn_by, first_known, offence_in, unfiled_turn}
 use Rattle.desk_filing.specs.declared.differences.AuditedLogs.{AuditedLogs}
 use Rattle.desk_filing.specs.declared.differences.CaseDifference.{CaseDifference}
 use Rattle.desk_filing.specs.declared.differences.CaseDifference.TheVariants.{OfOrders, OfTrades, OfVerdict}
@@ -76,6 +77,15 @@ module _ (one_verdict : RecordVerdictIsOne) (digests : LogDigests) (kept : List 
         ∙ ap (λ (d : Option CaseDifference). unfiled_turn filed.kept (comparison_status d) (comparison_line label d))
         (no_difference audit is.difference (subst (λ (v : Verdict). IsFirstDifference audit (record { digests = digests; offence = offence_in v }) is.difference) same is.compares.first))
 
+-- only of a symbol that is not absent a verdict is filed
+present : (absent : Bool) (digests : LogDigests) (kept : List KeptCase) (label : List ℕ) (the_rule : Rule) (symbol : List ℕ) (entries : List OrderRecord) (paired : Result (List TradeRecord) Finding) (turn : FilingTurn)
+    → FilesUnlessAbsent absent digests kept label the_rule symbol entries paired turn → turn.status ≡ status.Done → FilesVerdict digests kept label the_rule symbol entries paired turn
+present true digests kept label the_rule symbol entries paired turn is done = absurd (refused (sym (ap (λ (t : FilingTurn). t.status) is) ∙ done))
+  where
+    refused : status.Refused ≡ status.Done → ⊥
+    refused e = cc
+present false digests kept label the_rule symbol entries paired turn is done = is
+
 bad_not_done : (kept : List KeptCase) (turn : FilingTurn) (text : List ℕ) → turn ≡ unfiled_turn kept status.Malformed text → turn.status ≡ status.Done → ⊥
 bad_not_done kept turn text is done = let e : status.Malformed ≡ status.Done = sym (ap (λ (t : FilingTurn). t.status) is) ∙ done in cc
 
@@ -98,7 +108,9 @@ filed_is_same one_verdict logs kept request the_rule symbol filed checked files 
         → MatchResult said (IsTurnOfRecords (digested_logs files.orders files.trades).digests kept request.label (File the_rule symbol) filed entries) (IsBadTurn kept filed Trades)
         → MatchResult said (IsTurnOfRecords (digested_logs files.orders files.trades).digests filed.kept request.label Check checked entries) (IsBadTurn filed.kept checked Trades)
         → checked ≡ unfiled_turn filed.kept status.Done (comparison_line request.label None)
-    by_trades entries (Ok paired) first second = same_of_records one_verdict (digested_logs files.orders files.trades).digests kept request.label the_rule symbol entries paired filed first done checked second
+    by_trades entries (Ok paired) first second =
+        let digests = (digested_logs files.orders files.trades).digests in
+        same_of_records one_verdict digests kept request.label the_rule symbol entries paired filed (present (is_absent symbol entries paired) digests kept request.label the_rule symbol entries paired filed first done) done checked second
     by_trades entries (Err bad) first second = absurd (bad_not_done kept filed _ first done)
 
     by_orders : (said : Result (List OrderRecord) BadPlace) → (IsOk said → checks.trades ≡ files.trades) → Leaves request kept (File the_rule symbol) filed files.orders files.trades said → Leaves request filed.kept Check checked files.orders checks.trades said

@@ -1,10 +1,10 @@
 -- What a verdict comes to, as the functions of `file` and `check` pass it on.
-use Rattle.std.specs.Prelude.{◌≡◌, ◌≢◌, ◌⊎◌, ℕ, List, [], ◌∷◌, Option, None, Some, IsSomeAnd, Result, Err, MatchResult}
+use Rattle.std.specs.Prelude.{◌≡◌, ◌≢◌, ◌⊎◌, ◌==◌, ◌&&◌, ℕ, Bool, true, false, List, [], ◌∷◌, Option, None, Some, IsSomeAnd, Result, Err, MatchResult}
 use Rattle.audit_base.specs.declared.faults.BadPlace.{BadPlace}
 use Rattle.audit_base.specs.declared.terms.Which.{Which}
 use Rattle.audit_report.specs.Lines.{malformed_line}
 use Rattle.audit_report.specs.declared.verdicts.Verdict.{Verdict}
-use Rattle.audit_report.specs.declared.verdicts.Verdict.TheVariants.{Malformed}
+use Rattle.audit_report.specs.declared.verdicts.Verdict.TheVariants.{Accepted, Malformed, Rejected}
 use Rattle.audit_base.specs.declared.terms.Rule.{Rule}
 use Rattle.case_keeper.specs.declared.case.Case.{Case}
 use Rattle.case_keeper.specs.declared.case.Offence.{Offence}
@@ -24,6 +24,7 @@ use Rattle.desk_filing.specs.declared.differences.CaseDifference.{CaseDifference
 use Rattle.log_verdict.specs.declared.stops.NoRecords.{NoRecords}
 use Rattle.log_verdict.specs.declared.stops.NoRecords.TheVariants as norecords
 use Rattle.record_verdict.specs.declared.questions.Question.{Question}
+use Rattle.symbol_offences.specs.OffenceLines.{absent_line}
 
 -- both logs are in their grammar
 abbrev pub IsNoBadPlace : Verdict → Type 0
@@ -52,11 +53,33 @@ case_that_ended label the_rule digests symbol offence = record {
   digests = digests;
 }
 
--- what a verdict comes to: its case, or the answer that a log is not in its grammar
+-- the verdict accepts a symbol that has no order and no trade
+abbrev pub accepts_nothing : Verdict → Bool
+accepts_nothing (Accepted accepted) = accepted.orders == 0 && accepted.trades == 0
+accepts_nothing (Rejected finding) = false
+accepts_nothing (Malformed log bad) = false
+
+-- The verdict accepts a symbol that has no order and no trade, and the answer tells that it is
+-- absent.
+pub record TellsAbsent (symbol : List ℕ) (v : Verdict) (answer : CaseAnswer) : Type 0 where
+  pub nothing : accepts_nothing v ≡ true
+  pub status_is : answer.status ≡ status.Refused
+  pub text_is : answer.text.items ≡ absent_line symbol
+
+-- The case of a verdict on a symbol that is not absent.
+pub record IsCaseOfVerdict (digests : LogDigests) (label : List ℕ) (q : Question) (v : Verdict)
+    (cases : List DigestedCase) : Type 0 where
+  pub one : cases ≡ digested_case label q.rule digests q.symbol v ∷ []
+  pub no_bad_place : IsNoBadPlace v
+  pub something : accepts_nothing v ≡ false
+
+-- what a verdict comes to: its case, or the answer that a log is not in its grammar, or that the
+-- symbol is absent
 abbrev pub IsJudgedVerdict : LogDigests → List ℕ → Question → Verdict → FilingOutcome → Type 0
 IsJudgedVerdict digests label q v (judged.Cases cases) =
-    (cases.items ≡ digested_case label q.rule digests q.symbol v ∷ []) × IsNoBadPlace v
-IsJudgedVerdict digests label q v (judged.Refused answer) = TellsBadPlace v answer
+    IsCaseOfVerdict digests label q v cases.items
+IsJudgedVerdict digests label q v (judged.Refused answer) =
+    TellsBadPlace v answer ⊎ TellsAbsent q.symbol v answer
 
 -- The answer tells what differs first of two audits.
 pub record TellsFirst (label : List ℕ) (filed now : AuditedLogs) (answer : CaseAnswer) : Type 0 where

@@ -1,7 +1,7 @@
 -- What one command leaves, by the two logs that a shelf has and what is on file: what is on file
 -- after it, the text that it writes, and its status. `logs` is what the shelf has in a slot under a
 -- name.
-use Rattle.std.specs.Prelude.{◌≡◌, ◌≢◌, ℕ, false, List, [], ◌∷◌, ◌++◌, Option, None, Some, Result, Ok, Err, IsOk, map, nat_lt, length, find}
+use Rattle.std.specs.Prelude.{◌≡◌, ◌≢◌, ℕ, Bool, true, false, List, [], ◌∷◌, ◌++◌, Option, None, Some, Result, Ok, Err, IsOk, map, nat_lt, length, find}
 use Rattle.std.specs.List.{flat_map}
 use Rattle.audit_base.specs.Least.{first_answer}
 use Rattle.audit_base.specs.declared.faults.BadPlace.{BadPlace}
@@ -38,6 +38,8 @@ use Rattle.desk_filing.specs.declared.requests.FilingRequest.{FilingRequest}
 use Rattle.log_digests.specs.Digests.{digest_of}
 use Rattle.log_verdict.specs.LogVerdicts.{records_of_order_log, log_in, OfLogs}
 use Rattle.record_verdict.specs.RecordVerdicts.{IsRecordVerdict, question}
+use Rattle.symbol_offences.specs.OffenceAnswers.{is_absent}
+use Rattle.symbol_offences.specs.OffenceLines.{absent_line}
 
 -- What one command leaves: what is on file, the text that it writes, and its status.
 pub record FilingTurn : Type 0 where
@@ -188,6 +190,15 @@ pub record FilesVerdict (digests : LogDigests) (kept : List KeptCase) (label : L
   pub on : IsRecordVerdict (question the_rule symbol false) entries paired the_verdict
   pub is : turn ≡ filed_turn kept (digested_case label the_rule digests symbol the_verdict ∷ [])
 
+-- of a symbol that no record of two logs has, whose reports pair, nothing is filed, and it is told to
+-- be absent; of others the verdict is filed
+abbrev pub FilesUnlessAbsent : Bool → LogDigests → List KeptCase → List ℕ → Rule → List ℕ
+    → List OrderRecord → Result (List TradeRecord) Finding → FilingTurn → Type 0
+FilesUnlessAbsent true digests kept label the_rule symbol entries paired turn =
+    turn ≡ unfiled_turn kept status.Refused (absent_line symbol)
+FilesUnlessAbsent false digests kept label the_rule symbol entries paired turn =
+    FilesVerdict digests kept label the_rule symbol entries paired turn
+
 -- where the reports of the trade log do not pair, no symbol of the day is filed, and finding 4 is
 -- written
 abbrev pub FilesDayOrNone : LogDigests → List KeptCase → List ℕ → Rule → List OrderRecord
@@ -201,7 +212,8 @@ FilesDayOrNone digests kept label the_rule entries (Err finding) turn =
 abbrev pub IsTurnOfRecords : LogDigests → List KeptCase → List ℕ → FilingCommand → FilingTurn
     → List OrderRecord → Result (List TradeRecord) Finding → Type 0
 IsTurnOfRecords digests kept label (command.File the_rule symbol) turn entries paired =
-    FilesVerdict digests kept label the_rule symbol entries paired turn
+    FilesUnlessAbsent (is_absent symbol entries paired)
+    digests kept label the_rule symbol entries paired turn
 IsTurnOfRecords digests kept label (command.FileAll the_rule) turn entries paired =
     FilesDayOrNone digests kept label the_rule entries paired turn
 IsTurnOfRecords digests kept label command.Check turn entries paired =

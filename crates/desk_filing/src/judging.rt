@@ -1,7 +1,8 @@
 //! What the logs of `file` come to: the verdict on a symbol, as a case with the digests of the
-//! bytes that it is on.
+//! bytes that it is on; of a symbol that no record has, that it is absent.
 ghost use Rattle.std.specs.Prelude.{◌≡◌, ◌∷◌, [], IfOk, false};
 ghost use Rattle.case_run.specs.Turns.{EndsWithinOrHalts};
+ghost use Rattle.case_run.specs.declared.statuses.CaseStatus.TheVariants as status;
 ghost use Rattle.desk_filing.specs.Judging.{case_that_ended, IsJudgedVerdict, TellsBadPlace};
 ghost use Rattle.desk_filing.specs.Steps.{JudgesLogs, NamesLogs};
 ghost use Rattle.desk_filing.specs.Turns.{offence_in};
@@ -9,17 +10,20 @@ ghost use Rattle.desk_filing.specs.declared.requests.FilingCommand.TheVariants a
 ghost use Rattle.log_verdict.specs.BothLogs.{HaveOneLimit};
 ghost use Rattle.log_verdict.specs.Steps.{reading_by, FaultsNeverFall, KeepsShelfLogs};
 ghost use Rattle.record_verdict.specs.RecordVerdict.{as_verdict};
+ghost use Rattle.symbol_offences.specs.OffenceLines.{absent_line};
 
 use crate::answers::FilingOutcome;
 use crate::digested_verdicts::{DigestedVerdict, digested_verdict_on};
+use crate::lines::absent_text;
 use crate::requests::FilingRequest;
 use audit_base::faults::{BadPlace, NoMemory};
 use audit_base::names::Name;
 use audit_base::terms::{Rule, Which};
-use audit_report::verdicts::Verdict;
+use audit_report::verdicts::{Accepted, Verdict};
 use case_keeper::case::{Case, Offence};
 use case_run::answers::{self, CaseAnswer, offence_of};
 use case_run::halts::Halt;
+use case_run::statuses::CaseStatus;
 use digest_keeper::digested::DigestedCase;
 use log_digests::digest_shelf::DigestShelf;
 use log_digests::digests::LogDigests;
@@ -28,6 +32,7 @@ use log_verdict::sources::Source;
 use record_verdict::questions::Question;
 use record_verdict::verdicts::RecordVerdict;
 use std::alloc::Global;
+use symbol_offences::laws::absent_symbols_have_nothing;
 
 /// How an audit ended with a verdict on records.
 pub(crate) fn offence_in(judged: &RecordVerdict) -> Option<Offence>
@@ -89,7 +94,39 @@ fn case_alone(
     Ok(cases)
 }
 
-/// What a verdict comes to: its case, or the answer that a log is not in its grammar.
+/// The answer that a symbol is absent.
+fn absent_answer(alloc: Global, symbol: &Name) -> Result<CaseAnswer, NoMemory>
+    ensures { IfOk result (λ answer. (answer.status ≡ status.Refused)
+        × (answer.text.items ≡ absent_line symbol.now)) }
+{
+    Ok(CaseAnswer {
+        status: CaseStatus::Refused,
+        text: absent_text(alloc, symbol)?,
+        stop: None,
+    })
+}
+
+/// What the verdict comes to that accepts a symbol: its case, or where the symbol has no order and
+/// no trade the answer that it is absent.
+fn judged_acceptance(
+    alloc: Global,
+    label: &Name,
+    question: &Question,
+    digests: &LogDigests,
+    accepted: &Accepted,
+) -> Result<FilingOutcome, NoMemory>
+    ensures { IfOk result (IsJudgedVerdict digests.now label.now question.now
+        (Verdict.Accepted accepted.now)) }
+{
+    if accepted.orders == 0 && accepted.trades == 0 {
+        return Ok(FilingOutcome::Refused(absent_answer(alloc, &question.symbol)?));
+    }
+    let cases = case_alone(alloc, label, question, digests, None)?;
+    Ok(FilingOutcome::Cases(cases))
+}
+
+/// What a verdict comes to: its case, or the answer that a log is not in its grammar, or that the
+/// symbol is absent.
 fn judged_verdict(
     alloc: Global,
     label: &Name,
@@ -100,9 +137,8 @@ fn judged_verdict(
         (IsJudgedVerdict made.now.digests label.now question.now made.now.verdict) }
 {
     match &made.verdict {
-        Verdict::Accepted(_) => {
-            let cases = case_alone(alloc, label, question, &made.digests, None)?;
-            Ok(FilingOutcome::Cases(cases))
+        Verdict::Accepted(accepted) => {
+            judged_acceptance(alloc, label, question, &made.digests, accepted)
         }
         Verdict::Rejected(finding) => {
             let offence = Some(offence_of(finding));
@@ -136,6 +172,8 @@ pub(crate) fn judge_symbol<'a, F: Shelf>(
     ensures within { let shelves = ⟦<DigestShelf<'a, F> as Shelf>⟧ in
         EndsWithinOrHalts (reading_by orders.now shelves shelf.old shelf.new) result }
 {
+    // A law that the answer rests on. It computes nothing.
+    absent_symbols_have_nothing();
     match digested_verdict_on(alloc, shelf, question, orders, trades) {
         Ok(made) => Ok(judged_verdict(alloc, &request.label, question, &made)?),
         Err(stop) => Err(Halt::from(stop)),

@@ -5,6 +5,7 @@ ghost use Rattle.audit_report.specs.declared.verdicts.Verdict.TheVariants as ver
 ghost use Rattle.case_run.specs.Lines.{no_case_line};
 ghost use Rattle.desk_filing.specs.Lines as text;
 ghost use Rattle.desk_filing.specs.Steps.{case_lines};
+ghost use Rattle.symbol_offences.specs.OffenceLines.{absent_line};
 
 use crate::differences::CaseDifference;
 use audit_base::faults::NoMemory;
@@ -25,6 +26,20 @@ pub(crate) fn case_text(alloc: Global, cases: &[DigestedCase]) -> Result<Vec<u8>
     for one in cases {
         append_case_line(alloc, &one.case, &mut made)?;
     }
+    Ok(made)
+}
+
+/// `absent,SYMBOL`.
+pub(crate) fn absent_text(alloc: Global, symbol: &Name) -> Result<Vec<u8>, NoMemory>
+    ensures { IfOk result (λ made. made.items ≡ absent_line symbol.now) }
+{
+    let mut made = Vec::new(alloc);
+    append_line(
+        alloc,
+        b"absent",
+        &[LinePart::Word(symbol.bytes())],
+        &mut made,
+    )?;
     Ok(made)
 }
 

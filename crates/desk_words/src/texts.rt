@@ -154,7 +154,8 @@ fn file_help() -> &'static [u8]
     b"file DATABASE LABEL RULE SYMBOL ORDERS TRADES
     Files the verdict of a rule on a symbol under a label, with the SHA-256 digests of
     both logs, and writes its line. Where the label has a case, known and that case's
-    line are written, and nothing is filed.
+    line are written, and nothing is filed; of a symbol that is in neither log, absent
+    and the symbol are.
     DATABASE            the path of the database; it is made if it is not there
     LABEL               the label: 1 to 64 bytes, not begun by -, and not the word then
     RULE                matching, fair, uniform, maximum or continuous

@@ -8,7 +8,8 @@ use Rattle.desk_filing.proofs.judging.judge_symbol.Goals as goal
 
 pub returns-in_ok-judged_verdict-in-Ok-clause-judges : goal.returns-in_ok-judged_verdict-in-Ok-clause-judges
 returns-in_ok-judged_verdict-in-Ok-clause-judges g c =
-    judges_symbol _ c.args.request.now c.args.orders.now c.args.trades.now c.requires.names c.args.question.now c.requires.table c.requires.asked c.in-Ok.made _ c.in-Ok.ensures.decides c.in-Ok.ensures.digests c.in_ok-judged_verdict-in-Ok.ensures
+    judges_symbol _ c.args.request.now c.args.orders.now c.args.trades.now c.requires.names c.args.question.now c.requires.table c.absent_symbols_have_nothing.ensures.found c.absent_symbols_have_nothing.ensures.sound c.requires.asked
+    c.in-Ok.made c.in-Ok.ensures.decides c.in-Ok.ensures.digests _ c.in_ok-judged_verdict-in-Ok.ensures
 
 pub returns-in-Err-clause-judges : goal.returns-in-Err-clause-judges
 returns-in-Err-clause-judges g c =
