@@ -1,5 +1,6 @@
 pub mod SymbolDuringTradesLemmas
 pub mod ReplayLemmas
+pub mod SymbolRecordsLemmas
 pub mod DayTradesLemmas
 pub mod DayOrderLemmas
 -- Lemmas about what is kept.

@@ -7,4 +7,5 @@ pub mod KeptTrades
 pub mod DayOrders
 pub mod SymbolDuringTrades
 pub mod KeptRecords
+pub mod SymbolRecords
 pub mod DayTrades

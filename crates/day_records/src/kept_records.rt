@@ -21,10 +21,10 @@ pub struct KeptRecords {
     trades: KeptTrades,
 }
 
-/// What is known of the history of a symbol after these records of it, whose memory is freed.
-fn history_of(alloc: Global, seed: HashSeed, orders: KeptOrders) -> Result<HistoryOrFlaw, NoMemory>
-    requires { HasFewOrders orders }
-    ensures { IfOk result (KnowsHistory orders.entries) }
+/// What is known of the history of a symbol after these records of it.
+fn history_of(alloc: Global, seed: HashSeed, orders: &KeptOrders) -> Result<HistoryOrFlaw, NoMemory>
+    requires { HasFewOrders orders.now }
+    ensures { IfOk result (KnowsHistory orders.now.entries) }
 {
     let mut history = HistoryOrFlaw::new(alloc, seed);
     for index in 0..orders.len() {
@@ -34,9 +34,9 @@ fn history_of(alloc: Global, seed: HashSeed, orders: KeptOrders) -> Result<Histo
     Ok(history)
 }
 
-/// Takes the trades of a symbol, before which there were none. Their memory is freed.
-fn take_trades(known: &mut SymbolDuringTrades, trades: KeptTrades) -> Result<(), NoMemory>
-    ensures { OnOk result (KnowsTrades trades.trades known.old known.new) }
+/// Takes the trades of a symbol, before which there were none.
+fn take_trades(known: &mut SymbolDuringTrades, trades: &KeptTrades) -> Result<(), NoMemory>
+    ensures { OnOk result (KnowsTrades trades.now.trades known.old known.new) }
 {
     for index in 0..trades.len() {
         let (place, trade) = trades.at(index);
@@ -85,6 +85,13 @@ impl KeptRecords {
         self.trades.push(trade, place)
     }
 
+    /// The order records of the symbol.
+    pub fn orders(&self) -> &KeptOrders
+        ensures { result.now ≡ self.now.orders }
+    {
+        &self.orders
+    }
+
     /// The times of the trades, in their order, where they are asked for. Where they are not, there
     /// are none, and this takes no memory.
     pub fn trade_times(&self, alloc: Global, asked: bool) -> Result<Vec<Stamp>, NoMemory>
@@ -109,9 +116,26 @@ impl KeptRecords {
         ensures { IfOk result (GivesSymbolDuringTrades admission self) }
     {
         let KeptRecords { orders, trades } = self;
-        let history = history_of(alloc, seed, orders)?;
+        let history = history_of(alloc, seed, &orders)?;
+        drop(orders);
         let mut known = SymbolDuringTrades::of(alloc, seed, admission, history);
-        take_trades(&mut known, trades)?;
+        take_trades(&mut known, &trades)?;
+        Ok(known)
+    }
+
+    /// What the records give, as `resolve` says it. The records are kept.
+    pub fn resolve_keeping(
+        &self,
+        alloc: Global,
+        seed: HashSeed,
+        admission: Admission,
+    ) -> Result<SymbolDuringTrades, NoMemory>
+        requires { HasFewKeptRecords self.now }
+        ensures { IfOk result (GivesSymbolDuringTrades admission self.now) }
+    {
+        let history = history_of(alloc, seed, &self.orders)?;
+        let mut known = SymbolDuringTrades::of(alloc, seed, admission, history);
+        take_trades(&mut known, &self.trades)?;
         Ok(known)
     }
 }

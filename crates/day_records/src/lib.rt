@@ -3,7 +3,8 @@
 //!
 //! Here: `kept_orders` and `kept_trades` keep the records of one symbol small; `day_orders` and
 //! `day_trades` keep those of every symbol of a share, found by one look-up of its hash; when a
-//! symbol is judged, `kept_records` and `symbol_during_trades` make its orders and deals of them.
+//! symbol is judged, its judge gets them as `symbol_records`, of which `kept_records` and
+//! `symbol_during_trades` make its orders and deals.
 //!
 //! Proved: what is kept is the records, in their order and with their places; what is made of them
 //! is what the logs give of this symbol alone. Not proved: how much memory that takes.
@@ -19,3 +20,4 @@ pub mod kept_records;
 pub mod kept_trades;
 mod name_rows;
 pub mod symbol_during_trades;
+pub mod symbol_records;

@@ -14,9 +14,9 @@ use Rattle.day_sessions.specs.JudgedSessions.{AreJudgedSessions}
 use Rattle.day_sessions.specs.SymbolSessions.{IsSymbolSession, TellsSession, session_told, told_by_session}
 use Rattle.day_verdicts.specs.declared.judging.JudgedSymbols.{JudgedSymbols}
 use Rattle.day_verdicts.specs.declared.symbol_reports.SymbolReport.{SymbolReport}
-use Rattle.day_verdicts.specs.SymbolWalks.{IsGivenOf}
 use Rattle.day_verdicts.specs.SymbolAnswers.{AddsTold, told_by}
 use Rattle.day_verdicts.proofs.CheckLemmas.{told-after}
+use Rattle.day_verdicts.proofs.GivenRecords.{IsGivenOf}
 use Rattle.day_verdicts.proofs.TellLemmas.{tells-more}
 use Rattle.day_verdicts.proofs.VerdictSteps.{for-each-more}
 use Rattle.further_checks.specs.declared.findings.FurtherChecks.{FurtherChecks}

@@ -13,6 +13,7 @@ use audit_base::faults::NoMemory;
 use audit_base::names::Name;
 use audit_base::stamps::Stamp;
 use day_records::day_trades::DayRecords;
+use day_records::symbol_records::SymbolRecords;
 use day_verdicts::judging::JudgedSymbols;
 use day_verdicts::symbol_reports::{SymbolReport, report_after};
 use day_verdicts::symbol_walk::{SymbolJudge, judge_each};
@@ -45,29 +46,22 @@ fn session_report(
 
 /// The phases of a day judge its symbols, with the checks behind them that are asked for.
 impl SymbolJudge<JudgedSymbols> for SessionQuestion<'_> {
-    ghost use Rattle.further_checks.specs.FurtherRules.{asks_further};
-
     ghost admission = { λ _. AdmitsAll };
-
-    ghost asks_times = { λ q. asks_further q.checks };
 
     ghost has_judged = { λ q _ judged entries trades symbols. ArePhases q.phases.now
         × AreJudgedSessions q.phases.now q.table q.checks entries trades symbols judged };
-
-    fn asks_times(&self) -> bool {
-        self.checks.any()
-    }
 
     fn judge(
         &self,
         alloc: Global,
         symbol: &Name,
-        given: &BeforeRule,
-        times: &[Stamp],
+        records: SymbolRecords,
         judged: &mut JudgedSymbols,
     ) -> Result<(), NoMemory> {
         nothing_is_found_unasked();
-        let report = session_report(alloc, symbol, self, given, times)?;
+        let times = records.trade_times(alloc, self.checks.any())?;
+        let given = records.before_rule(alloc)?;
+        let report = session_report(alloc, symbol, self, &given, &times)?;
         judged.add(symbol, &report)
     }
 }

@@ -1,5 +1,6 @@
 pub mod TellLemmas
 pub mod CheckLemmas
+pub mod GivenRecords
 mod WalkSteps
 pub mod VerdictSteps
 pub mod OneDayLemmas

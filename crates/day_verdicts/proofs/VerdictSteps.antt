@@ -14,16 +14,17 @@ use Rattle.day_records.specs.SymbolDuringTrades.{scope_by}
 use Rattle.day_verdicts.specs.declared.judging.JudgedSymbols.{JudgedSymbols}
 use Rattle.day_verdicts.specs.declared.symbol_reports.SymbolReport.{SymbolReport}
 use Rattle.day_verdicts.specs.DayVerdicts.{IsJudgedDay, TellsVerdict, told_by_verdict, told_of_symbol}
-use Rattle.day_verdicts.specs.SymbolWalks.{IsGivenOf}
 use Rattle.day_verdicts.specs.SymbolAnswers.{AddsTold, told_by}
 use Rattle.day_verdicts.specs.VerdictLists.{HasTakenVerdicts, TakesVerdict}
 use Rattle.day_verdicts.proofs.CheckLemmas.{told-after, verdict-rejects}
+use Rattle.day_verdicts.proofs.GivenRecords.{IsGivenOf}
 use Rattle.day_verdicts.proofs.TellLemmas.{tells-more}
 use Rattle.further_checks.specs.declared.findings.FurtherChecks.{FurtherChecks}
 use Rattle.further_checks.specs.FurtherRules.{asks_further}
 use Rattle.further_checks.specs.Laws.{NothingIsFoundUnasked}
 use Rattle.record_verdict.specs.declared.before_rule.BeforeRule.{BeforeRule}
 use Rattle.record_verdict.specs.declared.verdicts.RecordVerdict.{RecordVerdict}
+use Rattle.record_verdict.specs.BeforeRule.{IsBeforeRule}
 use Rattle.record_verdict.specs.RecordVerdict.{as_verdict}
 use Rattle.record_verdict.specs.RecordVerdicts.{question}
 use Rattle.record_verdict.specs.Scopes.{admission_of}
@@ -50,11 +51,11 @@ for-each-more {X} P symbols kept symbol one are is = record {
           subst (λ (z : List ℕ). P z x) s-is (subst (λ (z : X). P symbol z) x-is is)
     ]
 
-module _ (rule : Rule) (entries : List OrderRecord) (trades : List TradeRecord) (symbols : List (List ℕ)) (symbol : List ℕ) (given : BeforeRule) (times : List Moment) where
+module _ (rule : Rule) (entries : List OrderRecord) (trades : List TradeRecord) (symbols : List (List ℕ)) (symbol : List ℕ) (given : BeforeRule) where
   -- the counts and lines of one symbol more
-  pub judged-more : NothingIsFoundUnasked → (table : Bool) (checks : FurtherChecks) (report : SymbolReport) (old new : JudgedSymbols) → IsGivenOf (admission_of rule) (asks_further checks) symbol given times entries trades
+  pub judged-more : NothingIsFoundUnasked → (times : List Moment) (table : Bool) (checks : FurtherChecks) (report : SymbolReport) (old new : JudgedSymbols) → IsGivenOf (admission_of rule) (asks_further checks) symbol given times entries trades
       → TellsVerdict (question rule symbol table) checks given times report → AddsTold old new symbol (told_by report) → IsJudgedDay rule table checks entries trades symbols old → IsJudgedDay rule table checks entries trades (symbols ++ symbol ∷ []) new
-  judged-more none table checks report old new is tells adds before =
+  judged-more none times table checks report old new is tells adds before =
       let told = told-after none checks (scope_by (admission_of rule) symbol) entries trades given times (told_by_verdict (as_verdict tells.one)) is.before is.times_are (verdict-rejects (question rule symbol table) given tells.one tells.is) in
       record {
         verdicts = before.verdicts ++ as_verdict tells.one ∷ [];
@@ -63,10 +64,10 @@ module _ (rule : Rule) (entries : List OrderRecord) (trades : List TradeRecord) 
       }
 
   -- a list with one verdict more
-  pub handed-more : {L : Type 0} (has_taken : L → List (List ℕ) → List Verdict → Type 0) (asked : Bool) (one : RecordVerdict) (old new : L) → IsGivenOf (admission_of rule) asked symbol given times entries trades → IsVerdictAfterStages (question rule symbol false) given one
+  pub handed-more : {L : Type 0} (has_taken : L → List (List ℕ) → List Verdict → Type 0) (one : RecordVerdict) (old new : L) → IsBeforeRule (scope_by (admission_of rule) symbol) entries (Ok trades) given → IsVerdictAfterStages (question rule symbol false) given one
       → TakesVerdict (has_taken old) (has_taken new) symbol (as_verdict one) → HasTakenVerdicts has_taken rule entries trades symbols old → HasTakenVerdicts has_taken rule entries trades (symbols ++ symbol ∷ []) new
-  handed-more has_taken asked one old new is stages takes before = record {
+  handed-more has_taken one old new is stages takes before = record {
     verdicts = before.verdicts ++ as_verdict one ∷ [];
-    verdicts_are = for-each-more _ symbols before.verdicts symbol (as_verdict one) before.verdicts_are (stages.of_records entries (Ok trades) is.before);
+    verdicts_are = for-each-more _ symbols before.verdicts symbol (as_verdict one) before.verdicts_are (stages.of_records entries (Ok trades) is);
     has = takes symbols before.verdicts before.has;
   }

@@ -1,23 +1,24 @@
 -- The symbols of a share, judged one after another, with one more.
-use Rattle.std.proofs.Common.{◌≡◌, ◌<◌, ◌+◌, ◌^◌, ℕ, Bool, Some, List, [], ◌∷◌, ◌++◌, Option, length, length-append, take, refl, sym, ap, subst, ◌∙◌, arith}
+use Rattle.std.proofs.Common.{◌≡◌, ◌<◌, ◌+◌, ◌^◌, ℕ, Some, List, [], ◌∷◌, ◌++◌, Option, length, length-append, take, refl, sym, ap, subst, ◌∙◌, arith}
 use Rattle.std.specs.Prelude.{option_map, slice_get}
 use Rattle.std.proofs.lemmas.List.{append_assoc, length-take-le, take_all, take_more}
 use Rattle.std.proofs.lemmas.Option.{slice_get_within, get_or_from_slice_get}
-use Rattle.audit_base.specs.Moments.{Moment}
 use Rattle.audit_base.specs.declared.records.OrderRecord.{OrderRecord}
 use Rattle.audit_base.specs.declared.records.TradeRecord.{TradeRecord}
 use Rattle.day_symbols.specs.Shares.{DayShare, symbols_in}
 use Rattle.day_symbols.specs.Symbols.{symbols_of_day}
 use Rattle.day_records.specs.declared.day_trades.DayRecords.{DayRecords}
 use Rattle.day_records.specs.declared.kept_records.KeptRecords.{KeptRecords}
-use Rattle.day_records.specs.declared.symbol_during_trades.SymbolDuringTrades.{SymbolDuringTrades}
+use Rattle.day_records.specs.declared.symbol_records.SymbolRecords.{SymbolRecords}
 use Rattle.day_records.specs.DayTrades.{HasTradesOf}
-use Rattle.day_records.specs.KeptTrades.{KeptTradeList}
-use Rattle.day_records.specs.KeptRecords.{GivesSymbolDuringTrades, HasFewKeptRecords, HasKeptRecords, times_if}
-use Rattle.day_records.specs.SymbolDuringTrades.{GivesBeforeRule, HasFewOfSymbol, IsSymbolDuringTrades}
-use Rattle.day_verdicts.specs.SymbolWalks.{HasJudgedShare, HasJudgedUpTo, IsGivenOf, IsNext, JudgesNext, TradesFitPlaces}
-use Rattle.record_verdict.specs.declared.before_rule.BeforeRule.{BeforeRule}
+use Rattle.day_records.specs.KeptRecords.{HasKeptRecords}
+use Rattle.day_records.specs.SymbolRecords.{HasSymbolRecords}
+use Rattle.day_verdicts.specs.SymbolWalks.{HasJudgedShare, HasJudgedUpTo, IsNext, JudgesNext, TradesFitPlaces}
 use Rattle.record_verdict.specs.declared.scopes.Admission.{Admission}
+
+-- what the judge of a symbol with these records is handed
+abbrev handed : DayRecords → KeptRecords → SymbolRecords
+handed ended own = record { records = own; count = ended.count; seed = ended.seed; admission = ended.admission }
 
 -- what comes after others
 behind-at : {X : Type 0} (before : List X) (x : X) (rest : List X) → slice_get (before ++ x ∷ rest) (length before) ≡ Some x
@@ -50,71 +51,48 @@ module _ {share : DayShare} {admission : Admission} {ended : DayRecords} {n : �
   own-records : (entries : List OrderRecord) (trades : List TradeRecord) → HasTradesOf share admission entries ended trades → HasKeptRecords entries trades symbol own
   own-records entries trades has = has.records_are.each n symbol own (symbol-there entries trades has) (records-there next)
 
-  pub few-records : TradesFitPlaces share admission ended → HasFewKeptRecords own
-  few-records few = record {
-    symbol = symbol;
-    entries = few.entries;
-    trades = few.trades;
-    has = own-records few.entries few.trades few.has;
-    fits_indices = few.has.fits_indices;
+  has-handed : (entries : List OrderRecord) (trades : List TradeRecord) → HasTradesOf share admission entries ended trades → HasSymbolRecords admission entries trades symbol (handed ended own)
+  has-handed entries trades has = record {
+    records_are = own-records entries trades has;
+    counted = has.count;
+    admits = has.admits;
   }
 
-  -- what they give
-  own-trades : (symbol_trades : SymbolDuringTrades) → GivesSymbolDuringTrades ended.admission own symbol_trades → (entries : List OrderRecord) (trades : List TradeRecord) → HasTradesOf share admission entries ended trades → IsSymbolDuringTrades admission entries trades symbol symbol_trades
-  own-trades symbol_trades gives entries trades has =
-      subst (λ (a : Admission). IsSymbolDuringTrades a entries trades symbol symbol_trades) has.admits (gives entries trades symbol (own-records entries trades has))
+  module _ {K : Type 0} (has_judged : K → K → List OrderRecord → List TradeRecord → List (List ℕ) → Type 0) (first old : K) (is : HasJudgedUpTo admission (has_judged first) share ended n old) where
+    -- the judge may go on
+    pub goes-on : TradesFitPlaces share admission ended → length ended.kept.items < 2 ^ 64 → IsNext admission has_judged symbol (handed ended own) old
+    goes-on few small =
+        let symbols : List (List ℕ) = symbols_in share (symbols_of_day few.entries few.trades) in
+        let within : n < length ended.kept.items = slice_get_within ended.kept.items n own (records-there next) in
+        let count : length (take n symbols) ≡ n = length-take-le n symbols (omega (arith, within, few.has.records_are.same_length)) in
+        record {
+          first = first;
+          entries = few.entries;
+          trades = few.trades;
+          symbols = take n symbols;
+          is = has-handed few.entries few.trades few.has;
+          has = is few.entries few.trades few.has;
+          few = omega (arith, count, within, small);
+          fits_indices = few.has.fits_indices;
+          fits_places = few.fits_places;
+        }
 
-  pub few-of-symbol : (symbol_trades : SymbolDuringTrades) → GivesSymbolDuringTrades ended.admission own symbol_trades → TradesFitPlaces share admission ended → HasFewOfSymbol ended.count symbol_trades
-  few-of-symbol symbol_trades gives few = record {
-    admission = admission;
-    entries = few.entries;
-    trades = few.trades;
-    symbol = symbol;
-    is = own-trades symbol_trades gives few.entries few.trades few.has;
-    counted = few.has.count;
-    fits_places = few.fits_places;
-  }
+    -- and has judged one symbol more
+    one-more : (new : K) → JudgesNext admission has_judged symbol (handed ended own) old new → HasJudgedUpTo admission (has_judged first) share ended (n + 1) new
+    one-more new judges = λ entries trades has.
+        let symbols : List (List ℕ) = symbols_in share (symbols_of_day entries trades) in
+        let got : slice_get symbols n ≡ Some symbol = symbol-there entries trades has in
+        let more : take (n + 1) symbols ≡ take n symbols ++ symbol ∷ [] = take_more symbols n [] (slice_get_within symbols n symbol got) ∙ ap (λ (s : List ℕ). take n symbols ++ s ∷ []) (get_or_from_slice_get symbols n symbol [] got) in
+        subst (λ (ss : List (List ℕ)). has_judged first new entries trades ss) (sym more) (judges first entries trades (take n symbols) (has-handed entries trades has) (is entries trades has))
 
-  module _ (asked : Bool) (symbol_trades : SymbolDuringTrades) (given : BeforeRule) (times : List Moment) (gives : GivesSymbolDuringTrades ended.admission own symbol_trades) (ends : GivesBeforeRule ended.count symbol_trades given) (times_are : times ≡ times_if asked own.trades.trades) where
-    given-of : (entries : List OrderRecord) (trades : List TradeRecord) → HasTradesOf share admission entries ended trades → IsGivenOf admission asked symbol given times entries trades
-    given-of entries trades has = record {
-      before = ends admission entries trades symbol (own-trades symbol_trades gives entries trades has) has.count;
-      times_are = times_are ∙ ap (λ (kept : KeptTradeList). times_if asked kept.trades) (own-records entries trades has).trades_are;
-    }
-
-    module _ {K : Type 0} (has_judged : K → K → List OrderRecord → List TradeRecord → List (List ℕ) → Type 0) (first old : K) (is : HasJudgedUpTo admission (has_judged first) share ended n old) where
-      -- the judge may go on
-      pub goes-on : TradesFitPlaces share admission ended → length ended.kept.items < 2 ^ 64 → IsNext admission asked has_judged symbol given times old
-      goes-on few small =
-          let symbols : List (List ℕ) = symbols_in share (symbols_of_day few.entries few.trades) in
-          let within : n < length ended.kept.items = slice_get_within ended.kept.items n own (records-there next) in
-          let count : length (take n symbols) ≡ n = length-take-le n symbols (omega (arith, within, few.has.records_are.same_length)) in
-          record {
-            first = first;
-            entries = few.entries;
-            trades = few.trades;
-            symbols = take n symbols;
-            is = given-of few.entries few.trades few.has;
-            has = is few.entries few.trades few.has;
-            few = omega (arith, count, within, small);
-          }
-
-      -- and has judged one symbol more
-      one-more : (new : K) → JudgesNext admission asked has_judged symbol given times old new → HasJudgedUpTo admission (has_judged first) share ended (n + 1) new
-      one-more new judges = λ entries trades has.
-          let symbols : List (List ℕ) = symbols_in share (symbols_of_day entries trades) in
-          let got : slice_get symbols n ≡ Some symbol = symbol-there entries trades has in
-          let more : take (n + 1) symbols ≡ take n symbols ++ symbol ∷ [] = take_more symbols n [] (slice_get_within symbols n symbol got) ∙ ap (λ (s : List ℕ). take n symbols ++ s ∷ []) (get_or_from_slice_get symbols n symbol [] got) in
-          subst (λ (ss : List (List ℕ)). has_judged first new entries trades ss) (sym more) (judges first entries trades (take n symbols) (given-of entries trades has) (is entries trades has))
-
-      -- the loop goes on with the symbols that are left
-      pub walked-on : (new : K) → JudgesNext admission asked has_judged symbol given times old new
-          → ((before ++ own ∷ []) ++ rest ≡ ended.kept.items) × (n + 1 ≡ length (before ++ own ∷ [])) × HasJudgedUpTo admission (has_judged first) share ended (n + 1) new
-      walked-on new judges = (
-        append_assoc before (own ∷ []) rest ∙ next.parts,
-        ap (λ (m : ℕ). m + 1) next.at ∙ sym (length-append before (own ∷ [])),
-        one-more new judges,
-      )
+    -- the loop goes on with the symbols that are left
+    pub walked-on : (new : K) → JudgesNext admission has_judged symbol (handed ended own) old new
+        → ((before ++ own ∷ []) ++ rest ≡ ended.kept.items) × (n + 1 ≡ length (before ++ own ∷ [])) × HasJudgedUpTo admission (has_judged first) share ended (n + 1) new
+    walked-on new judges = (
+      append_assoc before (own ∷ []) rest ∙ next.parts,
+      ap (λ (m : ℕ). m + 1) next.at ∙ sym (length-append before (own ∷ [])),
+      one-more new judges,
+    )
 
 -- all symbols were judged
 pub walked-all : {K : Type 0} (admission : Admission) (has_judged : K → List OrderRecord → List TradeRecord → List (List ℕ) → Type 0) (share : DayShare) (ended : DayRecords) (n : ℕ) (before rest : List KeptRecords) (kept : K)

@@ -17,6 +17,7 @@ use audit_report::day_line::{DayCounts, append_day_line};
 use audit_report::reports::report_text;
 use audit_report::symbol_lines::append_symbol_lines;
 use day_records::day_trades::DayRecords;
+use day_records::symbol_records::SymbolRecords;
 use day_symbols::shares::DayShare;
 use further_checks::findings::FurtherChecks;
 use further_checks::laws::nothing_is_found_unasked;
@@ -120,26 +121,18 @@ struct RuleWithChecks {
 }
 
 impl SymbolJudge<JudgedSymbols> for RuleWithChecks {
-    ghost use Rattle.further_checks.specs.FurtherRules.{asks_further};
     ghost use Rattle.record_verdict.specs.Scopes.{admission_of};
 
     ghost admission = { λ judge. admission_of judge.rule };
 
-    ghost asks_times = { λ judge. asks_further judge.checks };
-
     ghost has_judged = { λ judge _ judged entries trades symbols.
         day.IsJudgedDay judge.rule judge.table judge.checks entries trades symbols judged };
-
-    fn asks_times(&self) -> bool {
-        self.checks.any()
-    }
 
     fn judge(
         &self,
         alloc: Global,
         symbol: &Name,
-        given: &BeforeRule,
-        times: &[Stamp],
+        records: SymbolRecords,
         judged: &mut JudgedSymbols,
     ) -> Result<(), NoMemory> {
         nothing_is_found_unasked();
@@ -148,7 +141,9 @@ impl SymbolJudge<JudgedSymbols> for RuleWithChecks {
             symbol: *symbol,
             table: self.table,
         };
-        let report = report_of(alloc, &question, self.checks, given, times)?;
+        let times = records.trade_times(alloc, self.checks.any())?;
+        let given = records.before_rule(alloc)?;
+        let report = report_of(alloc, &question, self.checks, &given, &times)?;
         judged.add(symbol, &report)
     }
 }

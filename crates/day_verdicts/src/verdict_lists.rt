@@ -1,5 +1,5 @@
 //! The verdict on each symbol of a share, handed on one after another.
-ghost use Rattle.std.specs.Prelude.{[], ℕ, false, List, IfOk, OnOk};
+ghost use Rattle.std.specs.Prelude.{[], ℕ, List, IfOk, OnOk};
 ghost use Rattle.audit_report.specs.declared.verdicts.Verdict.{Verdict as VerdictSpec};
 ghost use Rattle.day_verdicts.specs.DayVerdicts.{RuleTradesFitPlaces};
 ghost use Rattle.day_verdicts.specs.VerdictLists.{HasTakenShare, HasTakenVerdicts, TakesVerdict};
@@ -9,11 +9,10 @@ ghost use Rattle.record_verdict.specs.Scopes.{admission_of};
 use crate::symbol_walk::{SymbolJudge, judge_each};
 use audit_base::faults::NoMemory;
 use audit_base::names::Name;
-use audit_base::stamps::Stamp;
 use audit_base::terms::Rule;
 use day_records::day_trades::DayRecords;
+use day_records::symbol_records::SymbolRecords;
 use day_symbols::shares::DayShare;
-use record_verdict::before_rule::BeforeRule;
 use record_verdict::questions::Question;
 use record_verdict::verdicts::{RecordVerdict, verdict_after};
 use std::alloc::Global;
@@ -36,21 +35,14 @@ pub trait VerdictList: Drop {
 impl<L: VerdictList> SymbolJudge<L> for Rule {
     ghost admission = { admission_of };
 
-    ghost asks_times = { λ _. false };
-
     ghost has_judged = { λ rule first list entries trades symbols.
         HasTakenVerdicts (L.has_taken first) rule entries trades symbols list };
-
-    fn asks_times(&self) -> bool {
-        false
-    }
 
     fn judge(
         &self,
         alloc: Global,
         symbol: &Name,
-        given: &BeforeRule,
-        _times: &[Stamp],
+        records: SymbolRecords,
         list: &mut L,
     ) -> Result<(), NoMemory> {
         let question = Question {
@@ -58,7 +50,8 @@ impl<L: VerdictList> SymbolJudge<L> for Rule {
             symbol: *symbol,
             table: false,
         };
-        let judged = verdict_after(alloc, &question, given)?;
+        let given = records.before_rule(alloc)?;
+        let judged = verdict_after(alloc, &question, &given)?;
         list.take(symbol, &judged)
     }
 }

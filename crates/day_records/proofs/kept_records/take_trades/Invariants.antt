@@ -4,4 +4,4 @@ use Rattle.day_records.proofs.kept_records.take_trades.Given as goal
 
 -- the symbol is known after the trades so far
 abbrev pub invariant-loop-index : goal.invariant-loop-index
-invariant-loop-index l = KnowsTrades (take l.index l.fn.trades.trades) l.initial.known l.known
+invariant-loop-index l = KnowsTrades (take l.index l.trades.trades) l.initial.known l.known
