@@ -5,7 +5,8 @@ use Rattle.digest_database_files.proofs.closing.file_and_close.Goals.{in-Some, i
 
 -- what words ask for is left as it is said: only the close is looked at
 pub returns : goal.returns
-returns g c = elim c.match-keeper.branch [ in-Some w ↦ record {
+returns g c = elim c.match-keeper.branch [
+  | in-Some w ↦ record {
     left = c.run_filing_seeded-status.new.opener;
     keeper = option_map g.O.Book.DigestKeeper.state c.run_filing_seeded-status.result.back.keeper;
     files = c.run_filing_seeded-status.ensures.files;
@@ -13,7 +14,8 @@ returns g c = elim c.match-keeper.branch [ in-Some w ↦ record {
     stays = search rules;
     opener = search rules;
     sink = c.run_filing_seeded-status.ensures.sink;
-  } | in_default w ↦ record {
+  }
+  | in_default w ↦ record {
     left = c.run_filing_seeded-status.new.opener;
     keeper = option_map g.O.Book.DigestKeeper.state c.run_filing_seeded-status.result.back.keeper;
     files = c.run_filing_seeded-status.ensures.files;
@@ -21,4 +23,5 @@ returns g c = elim c.match-keeper.branch [ in-Some w ↦ record {
     stays = search rules;
     opener = search rules;
     sink = c.run_filing_seeded-status.ensures.sink;
-  } ]
+  }
+]
